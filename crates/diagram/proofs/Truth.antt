@@ -1,0 +1,44 @@
+-- Tests that come out true: laws of the Booleans that the kit's libraries lack. Every crate above uses them.
+use mathlib.Core.Path.{_≡_, refl, sym, _∙_}
+use mathlib.Core.Logic.{_⊎_, inl, inr}
+use mathlib.Core.Bool.{Bool, true, false, not, _&&_, _||_, true≢false, false≢true}
+
+pub clash : {b : Bool} → b ≡ true → b ≡ false → ⊥
+clash p q = true≢false (sym p ∙ q)
+
+pub cases : (b : Bool) → (b ≡ true) ⊎ (b ≡ false)
+cases true = inl refl
+cases false = inr refl
+
+pub is-false : (b : Bool) → (b ≡ true → ⊥) → b ≡ false
+is-false true h = absurd (h refl)
+is-false false h = refl
+
+pub and-l : (a b : Bool) → (a && b) ≡ true → a ≡ true
+and-l true b e = refl
+and-l false b e = absurd (false≢true e)
+
+pub and-r : (a b : Bool) → (a && b) ≡ true → b ≡ true
+and-r true b e = e
+and-r false b e = absurd (false≢true e)
+
+pub and-i : {a b : Bool} → a ≡ true → b ≡ true → (a && b) ≡ true
+and-i p q = rw (p, q)
+
+pub or-l : {a : Bool} (b : Bool) → a ≡ true → (a || b) ≡ true
+or-l b p = rw p
+
+pub or-r : (a : Bool) {b : Bool} → b ≡ true → (a || b) ≡ true
+or-r true p = refl
+or-r false p = p
+
+pub or-e : (a b : Bool) → (a || b) ≡ true → (a ≡ true) ⊎ (b ≡ true)
+or-e true b e = inl refl
+or-e false b e = inr e
+
+pub not-i : {a : Bool} → a ≡ false → not a ≡ true
+not-i p = rw p
+
+pub not-e : (a : Bool) → not a ≡ true → a ≡ false
+not-e true e = absurd (false≢true e)
+not-e false e = refl

@@ -1,0 +1,191 @@
+-- Lists of event numbers: their ends, what of them passes a test, and interleavings.
+use mathlib.Core.Path.{_≡_, refl, sym, _∙_, ap, ap₂}
+use mathlib.Core.Logic.{_⊎_, inl, inr}
+use mathlib.Core.Bool.{Bool, true, false, _||_, true≢false}
+use mathlib.Core.List.{List, [], _∷_, _++_, append-nil, cons≢nil, nil≢cons, head-eq-of-cons-eq, tail-eq-of-cons-eq}
+use Prim.Native.Nat.{ℕ}
+use Rattle.diagram.proofs.Truth.{cases, is-false, or-l, or-r, or-e}
+use Rattle.process.specs.Runs.{All, Mix, done, left, right}
+
+abbrev cons-eq : {x y : ℕ} {u v : List ℕ} → x ≡ y → u ≡ v → x ∷ u ≡ y ∷ v
+cons-eq p q = ap₂ (λ (a : ℕ) (l : List ℕ). a ∷ l) p q
+
+-- Has it an element?
+abbrev pub filled : List ℕ → Bool
+filled [] = false
+filled (x ∷ w) = true
+
+pub filled-nil : (w : List ℕ) → filled w ≡ false → w ≡ []
+filled-nil [] e = refl
+filled-nil (x ∷ w) e = absurd (true≢false e)
+
+pub filled-append : (u v : List ℕ) → filled (u ++ v) ≡ (filled u || filled v)
+filled-append [] v = refl
+filled-append (x ∷ u) v = refl
+
+pub filled-snoc : (u : List ℕ) (e : ℕ) → filled (u ++ (e ∷ [])) ≡ true
+filled-snoc [] e = refl
+filled-snoc (x ∷ u) e = refl
+
+pub snoc≢nil : (u : List ℕ) (e : ℕ) → u ++ (e ∷ []) ≡ [] → ⊥
+snoc≢nil [] e h = cons≢nil h
+snoc≢nil (x ∷ u) e h = cons≢nil h
+
+-- Two ways to cut one list: one first part continues the other.
+abbrev pub Cut : List ℕ → List ℕ → List ℕ → List ℕ → Type 0
+Cut w x a c = ((d : List ℕ) × (a ≡ w ++ d) × (x ≡ d ++ c)) ⊎ ((d : List ℕ) × (w ≡ a ++ d) × (c ≡ d ++ x))
+
+pub cut : (w x a c : List ℕ) → w ++ x ≡ a ++ c → Cut w x a c
+cut [] x a c e = inl (a, refl, e)
+cut (y ∷ w) x [] c e = inr (y ∷ w, refl, sym e)
+cut (y ∷ w) x (z ∷ a) c e = up (cut w x a c (tail-eq-of-cons-eq e))
+  where
+    h : y ≡ z
+    h = head-eq-of-cons-eq e
+
+    up : Cut w x a c → Cut (y ∷ w) x (z ∷ a) c
+    up (inl d) = inl (d .0, cons-eq (sym h) (d .1), d .2)
+    up (inr d) = inr (d .0, cons-eq h (d .1), d .2)
+
+-- A list is empty or ends in an element.
+pub last : (w : List ℕ) → (w ≡ []) ⊎ ((u : List ℕ) × (e : ℕ) × (w ≡ u ++ (e ∷ [])))
+last [] = inl refl
+last (x ∷ w) = go (last w)
+  where
+    go : (w ≡ []) ⊎ ((u : List ℕ) × (e : ℕ) × (w ≡ u ++ (e ∷ []))) → (x ∷ w ≡ []) ⊎ ((u : List ℕ) × (e : ℕ) × (x ∷ w ≡ u ++ (e ∷ [])))
+    go (inl h) = inr ([], x, ap (λ (l : List ℕ). x ∷ l) h)
+    go (inr h) = inr (x ∷ h .0, h .1, ap (λ (l : List ℕ). x ∷ l) (h .2))
+
+pub snoc-eq : (u v : List ℕ) (a b : ℕ) → u ++ (a ∷ []) ≡ v ++ (b ∷ []) → (u ≡ v) × (a ≡ b)
+snoc-eq [] [] a b e = (refl, head-eq-of-cons-eq e)
+snoc-eq [] (y ∷ v) a b e = absurd (snoc≢nil v b (sym (tail-eq-of-cons-eq e)))
+snoc-eq (x ∷ u) [] a b e = absurd (snoc≢nil u a (tail-eq-of-cons-eq e))
+snoc-eq (x ∷ u) (y ∷ v) a b e = let r = snoc-eq u v a b (tail-eq-of-cons-eq e) in (cons-eq (head-eq-of-cons-eq e) (r .0), r .1)
+
+-- Tests of all elements.
+pub all-append : (I : ℕ → Bool) (u v : List ℕ) → All I u → All I v → All I (u ++ v)
+all-append I [] v h k = k
+all-append I (x ∷ u) v h k = (h .0, all-append I u v (h .1) k)
+
+pub all-left : (I : ℕ → Bool) (u v : List ℕ) → All I (u ++ v) → All I u
+all-left I [] v h = tt
+all-left I (x ∷ u) v h = (h .0, all-left I u v (h .1))
+
+pub all-right : (I : ℕ → Bool) (u v : List ℕ) → All I (u ++ v) → All I v
+all-right I [] v h = h
+all-right I (x ∷ u) v h = all-right I u v (h .1)
+
+pub all-map : {I J : ℕ → Bool} → ((e : ℕ) → I e ≡ true → J e ≡ true) → (w : List ℕ) → All I w → All J w
+all-map f [] h = tt
+all-map f (x ∷ w) h = (f x (h .0), all-map f w (h .1))
+
+-- No number passes both tests.
+abbrev pub Apart : (ℕ → Bool) → (ℕ → Bool) → Type 0
+Apart I J = (e : ℕ) → I e ≡ true → J e ≡ true → ⊥
+
+pub apart-sym : {I J : ℕ → Bool} → Apart I J → Apart J I
+apart-sym d e h k = d e k h
+
+-- What of a list passes a test.
+abbrev pub keep : Bool → ℕ → List ℕ → List ℕ
+keep true x w = x ∷ w
+keep false x w = w
+
+abbrev pub only : (ℕ → Bool) → List ℕ → List ℕ
+only I [] = []
+only I (x ∷ w) = keep (I x) x (only I w)
+
+pub only-append : (I : ℕ → Bool) (u v : List ℕ) → only I (u ++ v) ≡ only I u ++ only I v
+only-append I [] v = refl
+only-append I (x ∷ u) v = go (only-append I u v) (I x)
+  where
+    go : only I (u ++ v) ≡ only I u ++ only I v → (b : Bool) → keep b x (only I (u ++ v)) ≡ keep b x (only I u) ++ only I v
+    go ih true = ap (λ (l : List ℕ). x ∷ l) ih
+    go ih false = ih
+
+pub only-all : (I : ℕ → Bool) (w : List ℕ) → All I w → only I w ≡ w
+only-all I [] h = refl
+only-all I (x ∷ w) h = rw (h .0, only-all I w (h .1))
+
+pub only-none : (I J : ℕ → Bool) → Apart I J → (w : List ℕ) → All J w → only I w ≡ []
+only-none I J d [] h = refl
+only-none I J d (x ∷ w) h = rw (is-false (I x) (λ p. d x p (h .0)), only-none I J d w (h .1))
+
+pub only-snoc-in : (I : ℕ → Bool) (w : List ℕ) (e : ℕ) → I e ≡ true → only I (w ++ (e ∷ [])) ≡ only I w ++ (e ∷ [])
+only-snoc-in I w e h = rw (only-append I w (e ∷ []), h)
+
+pub only-snoc-out : (I : ℕ → Bool) (w : List ℕ) (e : ℕ) → I e ≡ false → only I (w ++ (e ∷ [])) ≡ only I w
+only-snoc-out I w e h = rw (only-append I w (e ∷ []), h) (append-nil (only I w))
+
+-- The tests of two parts.
+abbrev pub _or_ : (ℕ → Bool) → (ℕ → Bool) → ℕ → Bool
+_or_ I J x = I x || J x
+
+pub all-in-l : (I J : ℕ → Bool) (w : List ℕ) → All I w → All (_or_ I J) w
+all-in-l I J w h = all-map (λ x k. or-l (J x) k) w h
+
+pub all-in-r : (I J : ℕ → Bool) (w : List ℕ) → All J w → All (_or_ I J) w
+all-in-r I J w h = all-map (λ x k. or-r (I x) k) w h
+
+-- Interleavings.
+pub mix-append : (u v : List ℕ) → Mix u v (u ++ v)
+mix-append [] [] = done
+mix-append [] (x ∷ v) = right (mix-append [] v)
+mix-append (x ∷ u) v = left (mix-append u v)
+
+pub mix-all : (I J : ℕ → Bool) {u v w : List ℕ} → Mix u v w → All I u → All J v → All (_or_ I J) w
+mix-all I J done h k = tt
+mix-all I J (left {x} r) h k = (or-l (J x) (h .0), mix-all I J r (h .1) k)
+mix-all I J (right {x} r) h k = (or-r (I x) (k .0), mix-all I J r h (k .1))
+
+pub mix-nil : {u v w : List ℕ} → Mix u v w → w ≡ [] → (u ≡ []) × (v ≡ [])
+mix-nil done e = (refl, refl)
+mix-nil (left r) e = absurd (cons≢nil e)
+mix-nil (right r) e = absurd (cons≢nil e)
+
+pub mix-all-l : {u v w : List ℕ} → Mix u v w → v ≡ [] → u ≡ w
+mix-all-l done e = refl
+mix-all-l (left {x} r) e = ap (λ (l : List ℕ). x ∷ l) (mix-all-l r e)
+mix-all-l (right r) e = absurd (cons≢nil e)
+
+pub mix-all-r : {u v w : List ℕ} → Mix u v w → u ≡ [] → v ≡ w
+mix-all-r done e = refl
+mix-all-r (left r) e = absurd (cons≢nil e)
+mix-all-r (right {x} r) e = ap (λ (l : List ℕ). x ∷ l) (mix-all-r r e)
+
+module _ (I J : ℕ → Bool) (d : Apart I J) where
+  pub mix-l : {u v w : List ℕ} → Mix u v w → All I u → All J v → only I w ≡ u
+  mix-l done h k = refl
+  mix-l (left {x} r) h k = rw (h .0, mix-l r (h .1) k)
+  mix-l (right {x} r) h k = rw (is-false (I x) (λ p. d x p (k .0)), mix-l r h (k .1))
+
+  pub mix-r : {u v w : List ℕ} → Mix u v w → All I u → All J v → only J w ≡ v
+  mix-r done h k = refl
+  mix-r (left {x} r) h k = rw (is-false (J x) (λ p. d x (h .0) p), mix-r r (h .1) k)
+  mix-r (right {x} r) h k = rw (k .0, mix-r r h (k .1))
+
+  -- A list whose elements are of the two parts is an interleaving of them.
+  pub mix-make : (w : List ℕ) → All (_or_ I J) w → Mix (only I w) (only J w) w
+  mix-make [] h = done
+  mix-make (x ∷ w) h = go (mix-make w (h .1)) (cases (I x))
+    where
+      go : Mix (only I w) (only J w) w → (I x ≡ true) ⊎ (I x ≡ false) → Mix (keep (I x) x (only I w)) (keep (J x) x (only J w)) (x ∷ w)
+      go r (inl p) = rw (p, is-false (J x) (λ q. d x p q)) (left r)
+      go r (inr p) =
+          let q : J x ≡ true = rw p at (h .0) in
+          rw (p, q) (right r)
+
+  -- Of two lists, one of each part, what is each part's.
+  pub split-l : (u v : List ℕ) → All I u → All J v → only I (u ++ v) ≡ u
+  split-l u v hu hv = mix-l (mix-append u v) hu hv
+
+  pub split-r : (u v : List ℕ) → All I u → All J v → only J (u ++ v) ≡ v
+  split-r u v hu hv = mix-r (mix-append u v) hu hv
+
+pub filled-only : (I J : ℕ → Bool) (w : List ℕ) → All (_or_ I J) w → (filled (only I w) || filled (only J w)) ≡ filled w
+filled-only I J [] h = refl
+filled-only I J (x ∷ w) h = go (or-e (I x) (J x) (h .0))
+  where
+    go : (I x ≡ true) ⊎ (J x ≡ true) → (filled (keep (I x) x (only I w)) || filled (keep (J x) x (only J w))) ≡ true
+    go (inl p) = rw p
+    go (inr p) = rw p (or-r (filled (keep (I x) x (only I w))) refl)

@@ -1,0 +1,147 @@
+-- A process keeps to its own events: its runs, its bits and what they say of it.
+use mathlib.Core.Path.{_≡_, refl, sym, _∙_, ap, ap₂}
+use mathlib.Core.Logic.{_⊎_, inl, inr}
+use mathlib.Core.Bool.{Bool, true, false, not, _&&_, _||_, cond, false≢true, or-false}
+use mathlib.Core.List.{List, [], _∷_, _++_}
+use Prim.Native.Nat.{ℕ}
+use lib.Dec.{eqb}
+use borrow.Author.Tests.{eqb-true, eq-eqb}
+use Rattle.diagram.specs.Tree.{Way, all, some, one}
+use Rattle.diagram.proofs.Truth.{clash, is-false, and-l, and-r, or-l, or-r, or-e}
+use Rattle.process.specs.Process.{Process, event, seq, join, again, rounds, owns}
+use Rattle.process.specs.Runs.{All, Rounds, stop, more, Whole, Begins}
+use Rattle.process.specs.Bits.{Bits, blank, clears, take, run, after, begun, complete, enabled}
+use Rattle.process.proofs.Lists.{all-append, all-left, all-map, all-in-l, all-in-r, Apart, keep, only, _or_, mix-all, mix-append}
+
+-- Runs
+pub run-of : (p : Process) → (w : List ℕ) × Whole p w
+unfolding Whole
+run-of (event n l) = (n ∷ [], refl)
+run-of (seq p q) = let a = run-of p in let b = run-of q in (a .0 ++ b .0, (a .0, b .0, a .1, b .1, refl))
+run-of (join all p q) = let a = run-of p in let b = run-of q in (a .0 ++ b .0, (a .0, b .0, a .1, b .1, mix-append (a .0) (b .0)))
+run-of (join some p q) = let a = run-of p in (a .0, inl (inl (a .1)))
+run-of (join one p q) = let a = run-of p in (a .0, inl (a .1))
+run-of (again n l) = ([], tt)
+run-of (rounds p r l) = ([], stop)
+
+rounds-inside : (A : List ℕ → Type 0) (I : ℕ → Bool) (r : ℕ) → ((u : List ℕ) → A u → All I u) → {w : List ℕ} → Rounds A r w → All (_or_ I (eqb r)) w
+rounds-inside A I r f stop = tt
+rounds-inside A I r f (more u v hu hv e) =
+    rw e (all-append (_or_ I (eqb r)) u (r ∷ v) (all-in-l I (eqb r) u (f u hu)) (or-r (I r) (eq-eqb r r refl), rounds-inside A I r f hv))
+
+pub inside : (p : Process) (w : List ℕ) → Whole p w → All (owns p) w
+unfolding Whole owns
+inside (event n l) w h = rw h (eq-eqb n n refl, tt)
+inside (seq p q) w h =
+    rw (h .4) (all-append (_or_ (owns p) (owns q)) (h .0) (h .1) (all-in-l (owns p) (owns q) (h .0) (inside p (h .0) (h .2))) (all-in-r (owns p) (owns q) (h .1) (inside q (h .1) (h .3))))
+inside (join all p q) w h = mix-all (owns p) (owns q) (h .4) (inside p (h .0) (h .2)) (inside q (h .1) (h .3))
+inside (join some p q) w (inl (inl h)) = all-in-l (owns p) (owns q) w (inside p w h)
+inside (join some p q) w (inl (inr h)) = all-in-r (owns p) (owns q) w (inside q w h)
+inside (join some p q) w (inr h) = mix-all (owns p) (owns q) (h .4) (inside p (h .0) (h .2)) (inside q (h .1) (h .3))
+inside (join one p q) w (inl h) = all-in-l (owns p) (owns q) w (inside p w h)
+inside (join one p q) w (inr h) = all-in-r (owns p) (owns q) w (inside q w h)
+inside (again n l) w h = h
+inside (rounds p r l) w h = rounds-inside (Whole p) (owns p) r (λ u k. inside p u k) h
+
+pub begins-inside : (p : Process) (w : List ℕ) → Begins p w → All (owns p) w
+begins-inside p w h = all-left (owns p) w (h .0) (inside p (w ++ h .0) (h .1))
+
+-- Taking an event clears only where it is the process's own, and only the process's own bits.
+abbrev Own : (I : ℕ → Bool) (x i : ℕ) → Type 0
+Own I x i = (I x ≡ true) × (I i ≡ true)
+
+own-either : (I J : ℕ → Bool) (x i : ℕ) {a b : Bool} → (a ≡ true → Own I x i) → (b ≡ true → Own J x i) → (a ≡ true) ⊎ (b ≡ true) → Own (_or_ I J) x i
+own-either I J x i f g (inl k) = (or-l (J x) (f k .0), or-l (J i) (f k .1))
+own-either I J x i f g (inr k) = (or-r (I x) (g k .0), or-r (I i) (g k .1))
+
+pub closed : (p : Process) (x i : ℕ) → clears p x i ≡ true → (owns p x ≡ true) × (owns p i ≡ true)
+unfolding owns clears
+closed (event n l) x i h = absurd (false≢true h)
+closed (seq p q) x i h = own-either (owns p) (owns q) x i (λ k. closed p x i k) (λ k. closed q x i k) (or-e (clears p x i) (clears q x i) h)
+closed (join y p q) x i h = own-either (owns p) (owns q) x i (λ k. closed p x i k) (λ k. closed q x i k) (or-e (clears p x i) (clears q x i) h)
+closed (again n l) x i h = absurd (false≢true h)
+closed (rounds p r l) x i h = go (λ k. closed p x i k) (or-e (eqb r x && owns p i) (clears p x i) h)
+  where
+    go : (clears p x i ≡ true → (owns p x ≡ true) × (owns p i ≡ true)) → ((eqb r x && owns p i) ≡ true) ⊎ (clears p x i ≡ true)
+        → (_or_ (owns p) (eqb r) x ≡ true) × (_or_ (owns p) (eqb r) i ≡ true)
+    go f (inl k) = (or-r (owns p x) (and-l (eqb r x) (owns p i) k), or-l (eqb r i) (and-r (eqb r x) (owns p i) k))
+    go f (inr k) = (or-l (eqb r x) (f k .0), or-l (eqb r i) (f k .1))
+
+-- Two records agree on the bits that pass a test.
+abbrev pub Agree : (ℕ → Bool) → Bits → Bits → Type 0
+Agree I s t = (i : ℕ) → I i ≡ true → s i ≡ t i
+
+agree-l : (I J : ℕ → Bool) {s t : Bits} → Agree (_or_ I J) s t → Agree I s t
+agree-l I J a i h = a i (or-l (J i) h)
+
+agree-r : (I J : ℕ → Bool) {s t : Bits} → Agree (_or_ I J) s t → Agree J s t
+agree-r I J a i h = a i (or-r (I i) h)
+
+-- What the bits say of a process depends on its own bits only.
+pub begun-local : (p : Process) {s t : Bits} → Agree (owns p) s t → begun p s ≡ begun p t
+unfolding owns begun
+begun-local (event n l) a = a n (eq-eqb n n refl)
+begun-local (seq p q) a = ap₂ _||_ (begun-local p (agree-l (owns p) (owns q) a)) (begun-local q (agree-r (owns p) (owns q) a))
+begun-local (join y p q) a = ap₂ _||_ (begun-local p (agree-l (owns p) (owns q) a)) (begun-local q (agree-r (owns p) (owns q) a))
+begun-local (again n l) a = a n (eq-eqb n n refl)
+begun-local (rounds p r l) a = ap₂ _||_ (begun-local p (agree-l (owns p) (eqb r) a)) (a r (or-r (owns p r) (eq-eqb r r refl)))
+
+pub complete-local : (p : Process) {s t : Bits} → Agree (owns p) s t → complete p s ≡ complete p t
+unfolding owns complete
+complete-local (event n l) a = a n (eq-eqb n n refl)
+complete-local (seq p q) a = ap₂ _&&_ (complete-local p (agree-l (owns p) (owns q) a)) (complete-local q (agree-r (owns p) (owns q) a))
+complete-local (join all p q) a = ap₂ _&&_ (complete-local p (agree-l (owns p) (owns q) a)) (complete-local q (agree-r (owns p) (owns q) a))
+complete-local (join some p q) a =
+    let l = agree-l (owns p) (owns q) a in
+    let r = agree-r (owns p) (owns q) a in
+    rw (begun-local p l, begun-local q r, complete-local p l, complete-local q r)
+complete-local (join one p q) a = ap₂ _||_ (complete-local p (agree-l (owns p) (owns q) a)) (complete-local q (agree-r (owns p) (owns q) a))
+complete-local (again n l) a = refl
+complete-local (rounds p r l) a = ap not (begun-local p (agree-l (owns p) (eqb r) a))
+
+pub enabled-local : (p : Process) {s t : Bits} (x : ℕ) → Agree (owns p) s t → enabled p s x ≡ enabled p t x
+unfolding owns enabled
+enabled-local (event n l) x a = ap not (a n (eq-eqb n n refl))
+enabled-local (seq p q) x a =
+    let l = agree-l (owns p) (owns q) a in
+    let r = agree-r (owns p) (owns q) a in
+    rw (enabled-local p x l, begun-local q r, complete-local p l, enabled-local q x r)
+enabled-local (join all p q) x a = rw (enabled-local p x (agree-l (owns p) (owns q) a), enabled-local q x (agree-r (owns p) (owns q) a))
+enabled-local (join some p q) x a = rw (enabled-local p x (agree-l (owns p) (owns q) a), enabled-local q x (agree-r (owns p) (owns q) a))
+enabled-local (join one p q) x a =
+    let l = agree-l (owns p) (owns q) a in
+    let r = agree-r (owns p) (owns q) a in
+    rw (enabled-local p x l, begun-local q r, begun-local p l, enabled-local q x r)
+enabled-local (again n l) x a = refl
+enabled-local (rounds p r l) x a = let b = agree-l (owns p) (eqb r) a in rw (enabled-local p x b, complete-local p b)
+
+-- A process inside a larger one: taking an event of the larger one clears the process's bits as the process itself would.
+abbrev pub Within : Process → (ℕ → ℕ → Bool) → Type 0
+Within p big = (x i : ℕ) → owns p i ≡ true → big x i ≡ clears p x i
+
+module _ (p : Process) (big : ℕ → ℕ → Bool) (same : Within p big) where
+  take-own : {s t : Bits} (x : ℕ) → Agree (owns p) s t → Agree (owns p) (take big s x) (take (clears p) t x)
+  take-own x a i h = rw (same x i h, a i h)
+
+  take-other : {s t : Bits} (x : ℕ) → owns p x ≡ false → Agree (owns p) s t → Agree (owns p) (take big s x) t
+  take-other x q a i h =
+      let m : eqb x i ≡ false = is-false (eqb x i) (λ k. clash h (sym (ap (owns p) (eqb-true x i k)) ∙ q)) in
+      let r : clears p x i ≡ false = is-false (clears p x i) (λ k. clash (closed p x i k .0) q) in
+      rw (m, same x i h, r, a i h)
+
+  run-only : (w : List ℕ) (s t : Bits) → Agree (owns p) s t → Agree (owns p) (run big s w) (run (clears p) t (only (owns p) w))
+  run-only [] s t a = a
+  run-only (x ∷ w) s t a = go (run-only w) (owns p x) refl
+    where
+      go : ((s t : Bits) → Agree (owns p) s t → Agree (owns p) (run big s w) (run (clears p) t (only (owns p) w)))
+          → (b : Bool) → owns p x ≡ b → Agree (owns p) (run big (take big s x) w) (run (clears p) t (keep b x (only (owns p) w)))
+      go ih true q = ih (take big s x) (take (clears p) t x) (take-own x a)
+      go ih false q = ih (take big s x) t (take-other x q a)
+
+  -- After a list of events of the larger process, the process's bits are those after its own events of the list.
+  pub after-only : (w : List ℕ) → Agree (owns p) (run big blank w) (after p (only (owns p) w))
+  after-only w = run-only w blank blank (λ i h. refl)
+
+pub run-append : (cl : ℕ → ℕ → Bool) (u v : List ℕ) (s : Bits) → run cl s (u ++ v) ≡ run cl (run cl s u) v
+run-append cl [] v s = refl
+run-append cl (x ∷ u) v s = run-append cl u v (take cl s x)

@@ -1,0 +1,101 @@
+-- A nonempty choice of two processes, neither of which has an empty run.
+use mathlib.Core.Path.{_≡_, refl, sym, _∙_, ap}
+use mathlib.Core.Logic.{_⊎_, inl, inr, _↔_, Iff·trans, Iff·rfl}
+use mathlib.Core.Bool.{Bool, true, false, not, _&&_, _||_}
+use mathlib.Core.List.{List, [], _∷_, _++_}
+use Prim.Native.Nat.{ℕ}
+use Rattle.diagram.specs.Tree.{some}
+use Rattle.diagram.proofs.Truth.{clash, or-l, or-r, or-e, not-i, not-e}
+use Rattle.process.specs.Process.{Process, join, owns}
+use Rattle.process.specs.Runs.{Either, Both, Whole, Begins}
+use Rattle.process.specs.Bits.{Bits, clears, begun, complete, enabled}
+use Rattle.process.proofs.Lists.{filled, filled-nil, all-in-l, all-in-r, Apart, only, _or_}
+use Rattle.process.proofs.Local.{begins-inside}
+use Rattle.process.proofs.Seen.{Seen, Good, both-tests, Nonempty, begins-nil, begins-whole}
+use Rattle.process.proofs.Parts.{after₂, In, alone-l, alone-r, rest-l, rest-r, begins₂}
+use Rattle.process.proofs.AllLaw.{Shared, both→, both←, shared→, shared←, own-part-l, own-part-r, shared-goes-on}
+
+nonempty-filled : (p : Process) → Nonempty p → (w : List ℕ) → Whole p w → filled w ≡ true
+nonempty-filled p n [] h = absurd (n h)
+nonempty-filled p n (x ∷ w) h = refl
+
+-- A process of the choice: its part of the list is a run, or nothing was taken of it.
+abbrev Part : Process → List ℕ → Type 0
+Part p u = Whole p u ⊎ (u ≡ [])
+
+part-ends : (p : Process) {s : Bits} {u : List ℕ} → Seen p s u → Part p u ↔ ((complete p s || not (begun p s)) ≡ true)
+part-ends p {s} {u} S = (to, λ k. from (or-e (complete p s) (not (begun p s)) k))
+  where
+    to : Part p u → (complete p s || not (begun p s)) ≡ true
+    to (inl h) = or-l (not (begun p s)) (S .ends .0 h)
+    to (inr h) = or-r (complete p s) (not-i (rw h at (S .begins)))
+
+    from : (complete p s ≡ true) ⊎ (not (begun p s) ≡ true) → Part p u
+    from (inl h) = inl (S .ends .1 h)
+    from (inr h) = inr (filled-nil u (sym (S .begins) ∙ not-e (begun p s) h))
+
+module _ (p q : Process) (d : Apart (owns p) (owns q)) where
+  -- a run of one of them alone
+  pub shared-alone-l : (w : List ℕ) → Begins p w → Shared p q w
+  shared-alone-l w h =
+      let a = alone-l p q d w h in
+      (all-in-l (owns p) (owns q) w (begins-inside p w h), rw (a .0) h, rw (a .1) (begins-nil q))
+
+  pub shared-alone-r : (w : List ℕ) → Begins q w → Shared p q w
+  shared-alone-r w h =
+      let a = alone-r p q d w h in
+      (all-in-r (owns p) (owns q) w (begins-inside q w h), rw (a .0) (begins-nil p), rw (a .1) h)
+
+  pub some-shared : (w : List ℕ) → Begins (join some p q) w ↔ Shared p q w
+  unfolding Whole
+  some-shared w = (to, λ k. let r = shared← p q d w k in (r .0, inr (r .1)))
+    where
+      to : (x : List ℕ) × Either (Either (Whole p) (Whole q)) (Both (Whole p) (Whole q)) (w ++ x) → Shared p q w
+      to (x, inl (inl h)) = shared-alone-l w (x, h)
+      to (x, inl (inr h)) = shared-alone-r w (x, h)
+      to (x, inr h) = shared→ p q d w x h
+
+  module _ (np : Nonempty p) (nq : Nonempty q) (G : Good p) (H : Good q) (w : List ℕ) (h : Shared p q w) where
+    abbrev s : Bits
+    s = after₂ p q w
+
+    S : Seen p s (only (owns p) w)
+    S = own-part-l p q d G H w h
+
+    R : Seen q s (only (owns q) w)
+    R = own-part-r p q d G H w h
+
+    -- a run of the choice, by its parts
+    parts→ : Whole (join some p q) w → (filled w ≡ true) × Part p (only (owns p) w) × Part q (only (owns q) w)
+    unfolding Whole
+    parts→ (inl (inl k)) =
+        let a = alone-l p q d w (begins-whole p w k) in
+        (nonempty-filled p np w k, inl (rw (a .0) k), inr (a .1))
+    parts→ (inl (inr k)) =
+        let a = alone-r p q d w (begins-whole q w k) in
+        (nonempty-filled q nq w k, inr (a .0), inl (rw (a .1) k))
+    parts→ (inr k) =
+        let m = both→ p q d w k in
+        (sym (begins₂ p q d w (m .0) S R) ∙ or-l (begun q s) (S .begins ∙ nonempty-filled p np (only (owns p) w) (m .1)), inl (m .1), inl (m .2))
+
+    parts← : filled w ≡ true → Part p (only (owns p) w) → Part q (only (owns q) w) → Whole (join some p q) w
+    unfolding Whole
+    parts← f (inl a) (inl b) = inr (both← p q d w (h .0, a, b))
+    parts← f (inl a) (inr b) = inl (inl (rw (rest-l p q d w (h .0) b) at a))
+    parts← f (inr a) (inl b) = inl (inr (rw (rest-r p q d w (h .0) a) at b))
+    parts← f (inr a) (inr b) = absurd (clash f (ap filled (sym (rest-l p q d w (h .0) b) ∙ a)))
+
+    some-ends : Whole (join some p q) w ↔ (((begun p s || begun q s) && ((complete p s || not (begun p s)) && (complete q s || not (begun q s)))) ≡ true)
+    some-ends = Iff·trans (λ k. let m = parts→ k in (m .0, (m .1, m .2)), λ k. parts← (k .0) (k .1 .0) (k .1 .1))
+        (both-tests (begun p s || begun q s) ((complete p s || not (begun p s)) && (complete q s || not (begun q s))) (rw (← begins₂ p q d w (h .0) S R) Iff·rfl)
+        (both-tests (complete p s || not (begun p s)) (complete q s || not (begun q s)) (part-ends p S) (part-ends q R)))
+
+  pub some-good : Nonempty p → Nonempty q → Good p → Good q → Good (join some p q)
+  unfolding owns clears begun complete enabled S R
+  some-good np nq G H w h =
+      let k = some-shared w .0 h in
+      record {
+        begins = begins₂ p q d w (k .0) (own-part-l p q d G H w k) (own-part-r p q d G H w k);
+        ends = some-ends np nq G H w k;
+        goes-on = λ x i. Iff·trans (some-shared (w ++ (x ∷ []))) (shared-goes-on p q d G H w k x i);
+      }

@@ -1,0 +1,55 @@
+-- The starred lines of document 01, "Drawings worked through", on the trees of T and U.
+use mathlib.Core.Path.{_≡_}
+use mathlib.Core.Bool.{Bool, true, false, cond}
+use mathlib.Core.List.{List, [], _∷_, _++_}
+use Prim.Native.Nat.{ℕ, _+_, _*_}
+use Rattle.diagram.specs.Tree.{Name, all, some, one, Flow, flow, Children, none, next, Child, plain, loop, group, replicator, Member, leaf, inner, Members, end, also}
+use Rattle.process.specs.Expand.{expand}
+use Rattle.process.specs.Runs.{Whole, Begins}
+use Rattle.process.specs.Bits.{Bits, after}
+
+-- T: `flow(trip,1)(leaf(take)(0)loop(leaf(fill))(0)xor(leaf(send)leaf(drop))(0)leaf(free)(1))`.
+abbrev pub T : Flow
+T =
+    flow (116 ∷ 114 ∷ 105 ∷ 112 ∷ []) [] true (plain (leaf (116 ∷ 97 ∷ 107 ∷ 101 ∷ []))) false
+    (next (loop (leaf (102 ∷ 105 ∷ 108 ∷ 108 ∷ []))) false
+    (next (group one (leaf (115 ∷ 101 ∷ 110 ∷ 100 ∷ [])) (leaf (100 ∷ 114 ∷ 111 ∷ 112 ∷ [])) end) false
+    (next (plain (leaf (102 ∷ 114 ∷ 101 ∷ 101 ∷ []))) true none)))
+
+-- U: `flow(t,1)(loop(flow(r,1)(leaf(a)(0)leaf(b)(1)))(0)leaf(c)(1))`.
+abbrev pub U : Flow
+U =
+    flow (116 ∷ []) [] true
+    (loop (inner (flow (114 ∷ []) [] true (plain (leaf (97 ∷ []))) false (next (plain (leaf (98 ∷ []))) true none)))) false
+    (next (plain (leaf (99 ∷ []))) true none)
+
+-- A line: these events of a drawing are a whole run; of these events the one after them is turned away; after these events the first
+-- byte of the record is this.
+pub data Line : Type 0 where
+  whole : Flow → List ℕ → Line
+  away : Flow → List ℕ → ℕ → Line
+  byte : Flow → List ℕ → ℕ → Line
+
+abbrev pub table : List Line
+table =
+    whole T (0 ∷ 2 ∷ 4 ∷ []) ∷ whole T (0 ∷ 1 ∷ 1 ∷ 3 ∷ 4 ∷ []) ∷ away T (0 ∷ 2 ∷ []) 3 ∷ away T (0 ∷ 2 ∷ 4 ∷ []) 4 ∷ away T (0 ∷ 2 ∷ []) 1
+    ∷ whole U (3 ∷ []) ∷ whole U (0 ∷ 1 ∷ 2 ∷ 3 ∷ []) ∷ away U (0 ∷ 1 ∷ []) 3 ∷ away U (0 ∷ []) 3
+    ∷ byte U (0 ∷ 1 ∷ []) 192 ∷ byte U (0 ∷ 1 ∷ 2 ∷ []) 32 ∷ byte U (0 ∷ 1 ∷ 2 ∷ 3 ∷ []) 48 ∷ []
+
+abbrev bit : Bool → ℕ
+bit b = cond b 1 0
+
+-- The first byte of the record: "bit 0 is the top bit", most significant first.
+abbrev pub first-byte : Bits → ℕ
+first-byte s =
+    128 * bit (s 0) + 64 * bit (s 1) + 32 * bit (s 2) + 16 * bit (s 3) + 8 * bit (s 4) + 4 * bit (s 5) + 2 * bit (s 6) + bit (s 7)
+
+-- What a line says.
+abbrev pub Holds : Line → Type 0
+Holds (whole d w) = Whole (expand d) w
+Holds (away d w e) = Begins (expand d) w × (Begins (expand d) (w ++ (e ∷ [])) → ⊥)
+Holds (byte d w b) = Begins (expand d) w × (first-byte (after (expand d) w) ≡ b)
+
+abbrev pub Each : List Line → Type 0
+Each [] = Unit {0}
+Each (l ∷ ls) = Holds l × Each ls

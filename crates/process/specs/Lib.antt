@@ -1,0 +1,7 @@
+pub mod Process
+pub mod Expand
+pub mod Runs
+pub mod Bits
+pub mod Decide
+pub mod Once
+pub mod Drawings
