@@ -6,3 +6,10 @@ pub mod AllLaw
 pub mod SomeLaw
 pub mod OneLaw
 pub mod SeqLaw
+pub mod LeafLaw
+pub mod RoundsLaw
+pub mod Numbered
+pub mod Choices
+pub mod Expanded
+pub mod Decides
+pub mod Theorem

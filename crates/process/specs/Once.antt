@@ -1,6 +1,9 @@
 -- Where a leaf copy stands among the loops.
-use mathlib.Core.Bool.{Bool, false, _||_}
-use Prim.Native.Nat.{ℕ}
+use mathlib.Core.Path.{_≡_}
+use mathlib.Core.Logic.{_⊎_}
+use mathlib.Core.Bool.{Bool, false, _||_, cond}
+use mathlib.Core.List.{List, [], _∷_}
+use Prim.Native.Nat.{ℕ, _+_}
 use lib.Dec.{eqb}
 use Rattle.process.specs.Process.{Process, event, seq, join, again, rounds}
 
@@ -19,3 +22,13 @@ outside (seq p q) x = outside p x || outside q x
 outside (join y p q) x = outside p x || outside q x
 outside (again n l) x = false
 outside (rounds p r l) x = false
+
+-- It stands in the list.
+abbrev pub Occurs : ℕ → List ℕ → Type 0
+Occurs x [] = ⊥
+Occurs x (y ∷ w) = (x ≡ y) ⊎ Occurs x w
+
+-- How many times it stands in the list.
+abbrev pub times : ℕ → List ℕ → ℕ
+times x [] = 0
+times x (y ∷ w) = cond (eqb x y) (1 + times x w) (times x w)

@@ -1,0 +1,79 @@
+-- The core theorem, for every diagram that keeps the rules: the control bits decide which lists of events begin a whole run, and
+-- which are one.
+use mathlib.Core.Path.{_≡_, refl, sym, _∙_, ap, subst}
+use mathlib.Core.Logic.{_↔_}
+use mathlib.Core.Bool.{Bool, true, false, _&&_, false≢true}
+use mathlib.Core.List.{List, [], _∷_, _++_, cons≢nil}
+use Prim.Native.Nat.{ℕ, _+_, _≤_, _<_}
+use native.Mathlib.Nat.{zero-add}
+use native.Mathlib.Omega.{arith}
+use Rattle.diagram.specs.Tree.{Flow}
+use Rattle.diagram.specs.Count.{flow-events}
+use Rattle.diagram.specs.Rules.{flow-sized, Keeps}
+use Rattle.diagram.proofs.Truth.{clash, and-l, and-r, and-i, is-false}
+use Rattle.process.specs.Process.{Process, owns}
+use Rattle.process.specs.Expand.{expand}
+use Rattle.process.specs.Runs.{Whole, Begins}
+use Rattle.process.specs.Bits.{after, begun, complete, enabled}
+use Rattle.process.specs.Decide.{begins?, whole?}
+use Rattle.process.proofs.Lists.{filled, filled-nil}
+use Rattle.process.proofs.Local.{run-of}
+use Rattle.process.proofs.Seen.{Good, not-begun}
+use Rattle.process.proofs.Numbered.{size, Numbered, interval}
+use Rattle.process.proofs.Choices.{good}
+use Rattle.process.proofs.Expanded.{Laid, flow-laid, flow-fit}
+use Rattle.process.proofs.Decides.{next-iff, begins?-iff, whole?-iff}
+
+-- The events of a diagram are the numbers below their count.
+pub expand-laid : (d : Flow) → flow-sized d ≡ true → Laid (expand d) 0 (flow-events d)
+expand-laid d h = subst (Laid (expand d) 0) (zero-add (flow-events d)) (flow-laid d h [] 0)
+
+pub expand-events : (d : Flow) → flow-sized d ≡ true → (x : ℕ) → (owns (expand d) x ≡ true) ↔ (x < flow-events d)
+expand-events d h x =
+    let L = expand-laid d h in
+    let e = L .end in
+    let i = interval (expand d) 0 x (L .numbered) in
+    (λ k. let a = i .0 k in omega arith, λ k. i .1 (omega arith))
+
+pub expand-good : (d : Flow) → Keeps d → Good (expand d)
+expand-good d k = good (expand d) 0 (expand-laid d (k .sizes) .numbered) (flow-fit d (k .solids) [] 0 .choices)
+
+filled-of : (w : List ℕ) → (w ≡ [] → ⊥) → filled w ≡ true
+filled-of [] n = absurd (n refl)
+filled-of (x ∷ w) n = refl
+
+-- A whole run exists.
+pub run-exists : (d : Flow) → (w : List ℕ) × Whole (expand d) w
+run-exists d = run-of (expand d)
+
+module _ (d : Flow) (k : Keeps d) where
+  -- If w begins a whole run, then w is one exactly if `complete` says so on the bits after w;
+  pub whole-iff-complete : (w : List ℕ) → Begins (expand d) w → Whole (expand d) w ↔ (complete (expand d) (after (expand d) w) ≡ true)
+  whole-iff-complete w h = expand-good d k w h .ends
+
+  -- and w followed by e begins one exactly if e is an event and `enabled` says so;
+  pub next-iff-enabled : (w : List ℕ) (e : ℕ) → Begins (expand d) w
+      → Begins (expand d) (w ++ (e ∷ [])) ↔ ((e < flow-events d) × (enabled (expand d) (after (expand d) w) e ≡ true))
+  next-iff-enabled w e h =
+      let n = next-iff (expand d) (expand-good d k) w e h in
+      let i = expand-events d (k .sizes) e in (
+        λ b.
+            let t = n .0 b in
+            (i .0 (and-l (owns (expand d) e) (enabled (expand d) (after (expand d) w) e) t), and-r (owns (expand d) e) (enabled (expand d) (after (expand d) w) e) t),
+        λ b. n .1 (and-i (i .1 (b .0)) (b .1)),
+      )
+
+  -- and w has an event exactly if `begun` says so.
+  pub begun-iff-nonempty : (w : List ℕ) → Begins (expand d) w → (begun (expand d) (after (expand d) w) ≡ true) ↔ (w ≡ [] → ⊥)
+  begun-iff-nonempty w h =
+      let b = expand-good d k w h .begins in (
+        λ t e. clash t (b ∙ ap filled e),
+        λ n. b ∙ filled-of w n,
+      )
+
+  -- By computation.
+  pub begins-decided : (w : List ℕ) → (begins? (expand d) w ≡ true) ↔ Begins (expand d) w
+  begins-decided w = begins?-iff (expand d) (expand-good d k) w
+
+  pub whole-decided : (w : List ℕ) → (whole? (expand d) w ≡ true) ↔ Whole (expand d) w
+  whole-decided w = whole?-iff (expand d) (expand-good d k) w
