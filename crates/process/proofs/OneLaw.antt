@@ -17,10 +17,10 @@ use Rattle.process.proofs.SomeLaw.{shared-alone-l, shared-alone-r}
 
 module _ (p q : Process) (d : Apart (owns p) (owns q)) where
   -- the list begins a run of one of them, and nothing is taken of the other
-  abbrev Lone : List ℕ → Type 0
+  abbrev pub Lone : List ℕ → Type 0
   Lone w = Shared p q w × ((only (owns q) w ≡ []) ⊎ (only (owns p) w ≡ []))
 
-  one-lone : (w : List ℕ) → Begins (join one p q) w ↔ Lone w
+  pub one-lone : (w : List ℕ) → Begins (join one p q) w ↔ Lone w
   unfolding Whole
   one-lone w = (to, from)
     where

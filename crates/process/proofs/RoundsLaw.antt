@@ -44,6 +44,11 @@ module _ (p : Process) (r : ℕ) where
     pub rest : Begins p v
     pub cut-at : w ≡ u ++ v
 
+  -- the event after the list: the reset after whole rounds and a run of the body, or an event inside a round
+  abbrev pub Ahead : List ℕ → ℕ → Type 0
+  Ahead w x = ((a : List ℕ) × (c : List ℕ) × Rounds (Whole p) r a × Whole p c × (w ≡ a ++ c) × (x ≡ r))
+      ⊎ ((a : List ℕ) × (c : List ℕ) × Rounds (Whole p) r a × Begins p (c ++ (x ∷ [])) × (w ≡ a ++ c))
+
   turns← : (w : List ℕ) → Turns w → (x : List ℕ) × Rounds (Whole p) r (w ++ x)
   turns← w t =
       let x = t .rest .0 in (
@@ -73,6 +78,21 @@ module _ (p : Process) (r : ℕ) where
       go ih (inl (d, i, j)) = first w (d, rw i at ha)
       go ih (inr ([], i, j)) = first w (begins-whole p w (rw (i, append-nil) ha))
       go ih (inr (z ∷ d, i, j)) = later a w z d ha (head-eq-of-cons-eq j) i (ih d (sym (tail-eq-of-cons-eq j)))
+
+  pub ahead : (w : List ℕ) (x : ℕ) → Turns (w ++ (x ∷ [])) → Ahead w x
+  ahead w x t = go (last (t .v))
+    where
+      turn : (y : List ℕ) → w ++ (x ∷ []) ≡ y → Last (Whole p) r y → Ahead w x
+      turn y q (inl h) = absurd (snoc≢nil w x (q ∙ h))
+      turn y q (inr (a, c, ha, hc, h)) =
+          let k = snoc-eq w (a ++ c) x r (q ∙ (h ∙ sym (append-assoc a c (r ∷ [])))) in
+          inl (a, c, ha, hc, k .0, k .1)
+
+      go : (t .v ≡ []) ⊎ ((z : List ℕ) × (y : ℕ) × (t .v ≡ z ++ (y ∷ []))) → Ahead w x
+      go (inl h) = turn (t .u) (t .cut-at ∙ rw (h, append-nil)) (rounds-last (Whole p) r (t .turns))
+      go (inr (z, y, h)) =
+          let k = snoc-eq w (t .u ++ z) x y (t .cut-at ∙ rw (h, append-assoc)) in
+          inr (t .u, z, t .turns, rw (k .1, ← h) (t .rest), k .0)
 
 module _ (p : Process) (r : ℕ) (l : Event) (out : owns p r ≡ false) where
   abbrev loop : Process
@@ -141,26 +161,6 @@ module _ (p : Process) (r : ℕ) (l : Event) (out : owns p r ≡ false) where
         go true q = kept v (after loop u) (m ∙ q) ∙ sym q
         go false q = unset v own (after loop u) (m ∙ q) ∙ sym q
 
-  -- a whole number of rounds and the event after them, or an event inside a round
-  abbrev Ahead : List ℕ → ℕ → Type 0
-  Ahead w x = ((a : List ℕ) × (c : List ℕ) × Rounds (Whole p) r a × Whole p c × (w ≡ a ++ c) × (x ≡ r))
-      ⊎ ((a : List ℕ) × (c : List ℕ) × Rounds (Whole p) r a × Begins p (c ++ (x ∷ [])) × (w ≡ a ++ c))
-
-  pub ahead : (w : List ℕ) (x : ℕ) → Turns p r (w ++ (x ∷ [])) → Ahead w x
-  ahead w x t = go (last (t .v))
-    where
-      turn : (y : List ℕ) → w ++ (x ∷ []) ≡ y → Last (Whole p) r y → Ahead w x
-      turn y q (inl h) = absurd (snoc≢nil w x (q ∙ h))
-      turn y q (inr (a, c, ha, hc, h)) =
-          let k = snoc-eq w (a ++ c) x r (q ∙ (h ∙ sym (append-assoc a c (r ∷ [])))) in
-          inl (a, c, ha, hc, k .0, k .1)
-
-      go : (t .v ≡ []) ⊎ ((z : List ℕ) × (y : ℕ) × (t .v ≡ z ++ (y ∷ []))) → Ahead w x
-      go (inl h) = turn (t .u) (t .cut-at ∙ rw (h, append-nil)) (rounds-last (Whole p) r (t .turns))
-      go (inr (z, y, h)) =
-          let k = snoc-eq w (t .u ++ z) x y (t .cut-at ∙ rw (h, append-assoc)) in
-          inr (t .u, z, t .turns, rw (k .1, ← h) (t .rest), k .0)
-
   module _ (G : Good p) where
     seen : (u v : List ℕ) → Rounds (Whole p) r u → Begins p v → Seen p (after loop (u ++ v)) v
     seen u v hu hv = seen-local p v (after-turns u v hu hv) (G v hv)
@@ -177,7 +177,7 @@ module _ (p : Process) (r : ℕ) (l : Event) (out : owns p r ≡ false) where
             let z : t .v ≡ [] = filled-nil (t .v) (sym (seen (t .u) (t .v) (t .turns) (t .rest) .begins) ∙ not-e (begun p (after loop (t .u ++ t .v))) k) in
             rw (t .cut-at, z, append-nil) (t .turns)
 
-    goes→ : (w : List ℕ) (x : ℕ) → Ahead w x → enabled loop (after loop w) x ≡ true
+    goes→ : (w : List ℕ) (x : ℕ) → Ahead p r w x → enabled loop (after loop w) x ≡ true
     unfolding enabled
     goes→ w x (inl (a, c, ha, hc, e, q)) = rw (e, q, out) (seen a c ha (begins-whole p c hc) .ends .0 hc)
     goes→ w x (inr (a, c, ha, hc, e)) =
@@ -226,7 +226,7 @@ module _ (p : Process) (r : ℕ) (l : Event) (out : owns p r ≡ false) where
           begins = rounds-begins w t;
           ends = rounds-ends w t;
           goes-on = λ x i. (
-            λ k. goes→ w x (ahead w x (begins-turns (w ++ (x ∷ [])) .0 k)),
+            λ k. goes→ w x (ahead p r w x (begins-turns (w ++ (x ∷ [])) .0 k)),
             λ k. begins-turns (w ++ (x ∷ [])) .1 (goes← w x t i k),
           );
         }

@@ -35,7 +35,7 @@ module _ (p q : Process) (d : Apart (owns p) (owns q)) where
       let b = own-r p q d u v (inside p u hu) (begins-inside q v hv) in
       rw e (record { cut-at = rw (a, b); turn = inr (rw b hv, rw a hu) })
 
-  ordered→ : (w : List ℕ) → Begins (seq p q) w → Ordered w
+  pub ordered→ : (w : List ℕ) → Begins (seq p q) w → Ordered w
   unfolding Whole
   ordered→ w (x, (a, c, ha, hc, e)) = go (cut w x a c e)
     where

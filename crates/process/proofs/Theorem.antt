@@ -1,39 +1,26 @@
 -- The core theorem, for every diagram that keeps the rules: the control bits decide which lists of events begin a whole run, and
 -- which are one.
-use mathlib.Core.Path.{_≡_, refl, sym, _∙_, ap, subst}
+use mathlib.Core.Path.{_≡_, refl, _∙_, ap}
 use mathlib.Core.Logic.{_↔_}
-use mathlib.Core.Bool.{Bool, true, false, _&&_, false≢true}
-use mathlib.Core.List.{List, [], _∷_, _++_, cons≢nil}
-use Prim.Native.Nat.{ℕ, _+_, _≤_, _<_}
-use native.Mathlib.Nat.{zero-add}
-use native.Mathlib.Omega.{arith}
+use mathlib.Core.Bool.{Bool, true}
+use mathlib.Core.List.{List, [], _∷_, _++_}
+use Prim.Native.Nat.{ℕ, _<_}
 use Rattle.diagram.specs.Tree.{Flow}
 use Rattle.diagram.specs.Count.{flow-events}
-use Rattle.diagram.specs.Rules.{flow-sized, Keeps}
-use Rattle.diagram.proofs.Truth.{clash, and-l, and-r, and-i, is-false}
-use Rattle.process.specs.Process.{Process, owns}
+use Rattle.diagram.specs.Rules.{Keeps}
+use Rattle.diagram.proofs.Truth.{clash, and-l, and-r, and-i}
+use Rattle.process.specs.Process.{owns}
 use Rattle.process.specs.Expand.{expand}
 use Rattle.process.specs.Runs.{Whole, Begins}
 use Rattle.process.specs.Bits.{after, begun, complete, enabled}
 use Rattle.process.specs.Decide.{begins?, whole?}
-use Rattle.process.proofs.Lists.{filled, filled-nil}
+use Rattle.process.proofs.Lists.{filled}
 use Rattle.process.proofs.Local.{run-of}
-use Rattle.process.proofs.Seen.{Good, not-begun}
-use Rattle.process.proofs.Numbered.{size, Numbered, interval}
+use Rattle.process.proofs.Seen.{Good}
 use Rattle.process.proofs.Choices.{good}
-use Rattle.process.proofs.Expanded.{Laid, flow-laid, flow-fit}
+use Rattle.process.proofs.Expanded.{flow-fit}
+use Rattle.process.proofs.Events.{expand-laid, expand-events}
 use Rattle.process.proofs.Decides.{next-iff, begins?-iff, whole?-iff}
-
--- The events of a diagram are the numbers below their count.
-pub expand-laid : (d : Flow) → flow-sized d ≡ true → Laid (expand d) 0 (flow-events d)
-expand-laid d h = subst (Laid (expand d) 0) (zero-add (flow-events d)) (flow-laid d h [] 0)
-
-pub expand-events : (d : Flow) → flow-sized d ≡ true → (x : ℕ) → (owns (expand d) x ≡ true) ↔ (x < flow-events d)
-expand-events d h x =
-    let L = expand-laid d h in
-    let e = L .end in
-    let i = interval (expand d) 0 x (L .numbered) in
-    (λ k. let a = i .0 k in omega arith, λ k. i .1 (omega arith))
 
 pub expand-good : (d : Flow) → Keeps d → Good (expand d)
 expand-good d k = good (expand d) 0 (expand-laid d (k .sizes) .numbered) (flow-fit d (k .solids) [] 0 .choices)
