@@ -1,3 +1,4 @@
 pub mod Tree
 pub mod Count
 pub mod Rules
+pub mod Drawings

@@ -73,7 +73,8 @@ module _ (p q : Process) (d : Apart (owns p) (owns q)) where
     pub own-part-r : Seen q (after₂ p q w) (only (owns q) w)
     own-part-r = seen-r p q d H w (h .2)
 
-    all-ends : Both (Whole p) (Whole q) w ↔ ((complete p (after₂ p q w) && complete q (after₂ p q w)) ≡ true)
+    all-ends : Whole (join all p q) w ↔ (complete (join all p q) (after₂ p q w) ≡ true)
+    unfolding Whole complete
     all-ends = Iff·trans (λ k. let m = both→ w k in (m .1, m .2), λ k. both← w (h .0, k .0, k .1))
         (both-tests (complete p (after₂ p q w)) (complete q (after₂ p q w)) (own-part-l .ends) (own-part-r .ends))
 

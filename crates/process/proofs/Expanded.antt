@@ -13,7 +13,7 @@ use Rattle.diagram.specs.Count.{flow-events, children-events, child-events, loo
 use Rattle.diagram.specs.Rules.{may-be-solid, none-solid, one-solid, solid, each-flow, children-flows, child-flows, member-flows, members-flows, flow-sized, children-sized, child-sized, member-sized, members-sized}
 use Rattle.diagram.proofs.Truth.{cases, and-l, and-r}
 use Rattle.process.specs.Process.{Event, Process, event, seq, join, again, rounds}
-use Rattle.process.specs.Expand.{leaf-copy, copies, flow-process, children-process, child-process, loop-process, member-process, members-process}
+use Rattle.process.specs.Expand.{leaf-copy, reset-of, copies, flow-process, children-process, child-process, loop-process, member-process, members-process}
 use Rattle.process.specs.Runs.{Whole}
 use Rattle.process.proofs.Seen.{Nonempty}
 use Rattle.process.proofs.Numbered.{size, Numbered}
@@ -24,81 +24,80 @@ pub record Laid (p : Process) (lo hi : ℕ) : Type 0 where
   pub numbered : Numbered p lo
   pub end : lo + size p ≡ hi
 
-laid-to : (p : Process) (lo m n : ℕ) → m ≡ n → Laid p lo m → Laid p lo n
-laid-to p lo m n e P = rw (← e) P
+laid-to : {p : Process} {lo m n : ℕ} → Laid p lo m → m ≡ n → Laid p lo n
+laid-to P e = rw (← e) P
 
-laid-seq : (p q : Process) (lo e hi : ℕ) → Laid p lo e → Laid q e hi → Laid (seq p q) lo hi
+laid-seq : {p q : Process} {lo e hi : ℕ} → Laid p lo e → Laid q e hi → Laid (seq p q) lo hi
 unfolding Numbered size
-laid-seq p q lo e hi P Q =
+laid-seq P Q =
     let i = P .end in
     let j = Q .end in
     record { numbered = (P .numbered, rw (← i) at (Q .numbered)); end = omega arith }
 
-laid-join : (y : Way) (p q : Process) (lo e hi : ℕ) → Laid p lo e → Laid q e hi → Laid (join y p q) lo hi
+laid-join : (y : Way) {p q : Process} {lo e hi : ℕ} → Laid p lo e → Laid q e hi → Laid (join y p q) lo hi
 unfolding Numbered size
-laid-join y p q lo e hi P Q = let R = laid-seq p q lo e hi P Q in record { numbered = R .numbered; end = R .end }
+laid-join y P Q = let R = laid-seq P Q in record { numbered = R .numbered; end = R .end }
+
+laid-rounds : {p : Process} {lo r : ℕ} (l : Event) → Laid p lo r → Laid (rounds p r l) lo (r + 1)
+unfolding Numbered size
+laid-rounds l P =
+    let i = P .end in
+    record { numbered = (P .numbered, sym i); end = omega arith }
+
+laid-leaf : (e : ℕ) (l : Event) → Laid (event e l) e (e + 1) × Laid (again e l) e (e + 1)
+unfolding Numbered size
+laid-leaf e l = (record { numbered = refl; end = refl }, record { numbered = refl; end = refl })
 
 copies-laid : (y : Way) (copy : ℕ → Process) (lo k : ℕ) → ((v : ℕ) → Laid (copy v) (lo + v * k) (lo + v * k + k)) → (v : ℕ)
     → Laid (copies y copy v) lo (lo + suc v * k)
 copies-laid y copy lo k f zero =
     let a : 0 * k ≡ 0 = zero-mul k in
     let b : lo + 0 * k ≡ lo = omega arith in
-    laid-to (copy 0) lo (lo + k) (lo + 1 * k) (omega arith) (rw b at (f 0))
+    laid-to (rw b at (f 0)) (omega arith)
 copies-laid y copy lo k f (suc v) =
     let a : suc (suc v) * k ≡ suc v * k + k = suc-mul (suc v) k in
-    laid-to (copies y copy (suc v)) lo (lo + suc v * k + k) (lo + suc (suc v) * k) (omega arith)
-    (laid-join y (copies y copy v) (copy (suc v)) lo (lo + suc v * k) (lo + suc v * k + k) (copies-laid y copy lo k f v) (f (suc v)))
+    laid-to (laid-join y (copies-laid y copy lo k f v) (f (suc v))) (omega arith)
 
 mutual
-  unfolding flow-process flow-events flow-sized Numbered size
+  unfolding flow-process flow-events flow-sized
 
   pub flow-laid : (f : Flow) → flow-sized f ≡ true → (vs : List ℕ) (e : ℕ) → Laid (flow-process f vs e) e (e + flow-events f)
   flow-laid (flow n ps sw c r cs) h vs e =
-      laid-to (flow-process (flow n ps sw c r cs) vs e) e (e + child-events c + children-events cs) (e + (child-events c + children-events cs)) (omega arith)
-      (children-laid cs (and-r (child-sized c) (children-sized cs) h) vs (child-process c vs e) e (e + child-events c) (child-laid c (and-l (child-sized c) (children-sized cs) h) vs e))
+      laid-to (children-laid cs (and-r (child-sized c) (children-sized cs) h) vs _ _ _ (child-laid c (and-l (child-sized c) (children-sized cs) h) vs e)) (omega arith)
 
   pub children-laid : (cs : Children) → children-sized cs ≡ true → (vs : List ℕ) (p : Process) (lo e : ℕ) → Laid p lo e
       → Laid (children-process cs vs p e) lo (e + children-events cs)
-  children-laid none h vs p lo e P = laid-to p lo e (e + 0) (omega arith) P
+  children-laid none h vs p lo e P = laid-to P (omega arith)
   children-laid (next c r cs) h vs p lo e P =
-      laid-to (children-process (next c r cs) vs p e) lo (e + child-events c + children-events cs) (e + (child-events c + children-events cs)) (omega arith)
-      (children-laid cs (and-r (child-sized c) (children-sized cs) h) vs (seq p (child-process c vs e)) lo (e + child-events c)
-      (laid-seq p (child-process c vs e) lo e (e + child-events c) P (child-laid c (and-l (child-sized c) (children-sized cs) h) vs e)))
+      laid-to (children-laid cs (and-r (child-sized c) (children-sized cs) h) vs _ _ _ (laid-seq P (child-laid c (and-l (child-sized c) (children-sized cs) h) vs e))) (omega arith)
 
   pub child-laid : (c : Child) → child-sized c ≡ true → (vs : List ℕ) (e : ℕ) → Laid (child-process c vs e) e (e + child-events c)
   child-laid (plain m) h vs e = member-laid m h vs e
   child-laid (loop m) h vs e = loop-laid m h vs e
   child-laid (group y a b ms) h vs e =
       let k = and-r (member-sized a) (member-sized b && members-sized ms) h in
-      laid-to (child-process (group y a b ms) vs e) e (e + member-events a + member-events b + members-events ms) (e + (member-events a + (member-events b + members-events ms))) (omega arith)
-      (members-laid ms (and-r (member-sized b) (members-sized ms) k) y vs (join y (member-process a vs e) (member-process b vs (e + member-events a))) e (e + member-events a + member-events b)
-      (laid-join y (member-process a vs e) (member-process b vs (e + member-events a)) e (e + member-events a) (e + member-events a + member-events b)
-      (member-laid a (and-l (member-sized a) (member-sized b && members-sized ms) h) vs e) (member-laid b (and-l (member-sized b) (members-sized ms) k) vs (e + member-events a))))
+      let A = member-laid a (and-l (member-sized a) (member-sized b && members-sized ms) h) vs e in
+      let B = member-laid b (and-l (member-sized b) (members-sized ms) k) vs (e + member-events a) in
+      laid-to (members-laid ms (and-r (member-sized b) (members-sized ms) k) y vs _ _ _ (laid-join y A B)) (omega arith)
   child-laid (replicator y par n m) h vs e =
       let g = leb-true 1 n (and-l (leb 1 n) (leb n 16) (and-l (leb 1 n && leb n 16) (member-sized m) h)) in
       let z : suc (n - 1) ≡ n = omega arith in
-      subst (λ (i : ℕ). Laid (child-process (replicator y par n m) vs e) e (e + i * member-events m)) z
-      (copies-laid y (λ v. member-process m (vs ++ (v ∷ [])) (e + v * member-events m)) e (member-events m)
-      (λ v. member-laid m (and-r (leb 1 n && leb n 16) (member-sized m) h) (vs ++ (v ∷ [])) (e + v * member-events m)) (n - 1))
+      let L = copies-laid y _ e (member-events m) (λ v. member-laid m (and-r (leb 1 n && leb n 16) (member-sized m) h) (vs ++ (v ∷ [])) (e + v * member-events m)) (n - 1) in
+      laid-to L (ap (λ (i : ℕ). e + i * member-events m) z)
 
   pub loop-laid : (m : Member) → member-sized m ≡ true → (vs : List ℕ) (e : ℕ) → Laid (loop-process m vs e) e (e + loop-events m)
-  loop-laid (leaf n) h vs e = record { numbered = refl; end = refl }
-  loop-laid (inner f) h vs e =
-      let P = flow-laid f h vs e in
-      let i = P .end in
-      record { numbered = (P .numbered, sym i); end = omega arith }
+  loop-laid (leaf n) h vs e = laid-leaf e (leaf-copy n vs) .1
+  loop-laid (inner f) h vs e = laid-to (laid-rounds (reset-of f vs) (flow-laid f h vs e)) (omega arith)
 
   pub member-laid : (m : Member) → member-sized m ≡ true → (vs : List ℕ) (e : ℕ) → Laid (member-process m vs e) e (e + member-events m)
-  member-laid (leaf n) h vs e = record { numbered = refl; end = refl }
+  member-laid (leaf n) h vs e = laid-leaf e (leaf-copy n vs) .0
   member-laid (inner f) h vs e = flow-laid f h vs e
 
   pub members-laid : (ms : Members) → members-sized ms ≡ true → (y : Way) (vs : List ℕ) (p : Process) (lo e : ℕ) → Laid p lo e
       → Laid (members-process ms y vs p e) lo (e + members-events ms)
-  members-laid end h y vs p lo e P = laid-to p lo e (e + 0) (omega arith) P
+  members-laid end h y vs p lo e P = laid-to P (omega arith)
   members-laid (also m ms) h y vs p lo e P =
-      laid-to (members-process (also m ms) y vs p e) lo (e + member-events m + members-events ms) (e + (member-events m + members-events ms)) (omega arith)
-      (members-laid ms (and-r (member-sized m) (members-sized ms) h) y vs (join y p (member-process m vs e)) lo (e + member-events m)
-      (laid-join y p (member-process m vs e) lo e (e + member-events m) P (member-laid m (and-l (member-sized m) (members-sized ms) h) vs e)))
+      laid-to (members-laid ms (and-r (member-sized m) (members-sized ms) h) y vs _ _ _ (laid-join y P (member-laid m (and-l (member-sized m) (members-sized ms) h) vs e))) (omega arith)
 
 -- The solid child rule makes every member's run nonempty.
 copies-fit : (y : Way) (copy : ℕ → Process) → ((v : ℕ) → Fit (copy v)) → (v : ℕ) → Fit (copies y copy v)
@@ -108,6 +107,18 @@ copies-fit y copy f (suc v) = join-fit y (copies y copy v) (copy (suc v)) (copie
 event-fit : (e : ℕ) (l : Event) → Fit (event e l)
 unfolding Choices Whole
 event-fit e l = record { choices = tt; nonempty = λ h. nil≢cons h }
+
+again-choices : (e : ℕ) (l : Event) → Choices (again e l)
+unfolding Choices
+again-choices e l = tt
+
+seq-choices : (p q : Process) → Choices p → Choices q → Choices (seq p q)
+unfolding Choices
+seq-choices p q C D = (C, D)
+
+rounds-choices : (p : Process) (r : ℕ) (l : Event) → Choices p → Choices (rounds p r l)
+unfolding Choices
+rounds-choices p r l C = C
 
 -- of a child and those after it exactly one is solid: the child's own process has no empty run, or the solid one is still to come
 solid-here : (c : Child) (r : Bool) (cs : Children) (p : Process) → (may-be-solid c ≡ true → Nonempty p) → one-solid (next c r cs) ≡ true
@@ -125,45 +136,41 @@ solid-next c r cs p q f (inr h) = go (solid-here c r cs q f h)
     go (inr k) = inr k
 
 mutual
-  unfolding flow-process each-flow Choices
+  unfolding flow-process each-flow
 
   pub flow-fit : (f : Flow) → each-flow f solid ≡ true → (vs : List ℕ) (e : ℕ) → Fit (flow-process f vs e)
   flow-fit (flow n ps sw c r cs) h vs e =
       let k = and-r (one-solid (next c r cs)) (child-flows c solid && children-flows cs solid) h in
       let i = child-fit c (and-l (child-flows c solid) (children-flows cs solid) k) vs e in
-      children-fit cs (and-r (child-flows c solid) (children-flows cs solid) k) vs (child-process c vs e) (e + child-events c) (i .0)
-      (solid-here c r cs (child-process c vs e) (i .1) (and-l (one-solid (next c r cs)) (child-flows c solid && children-flows cs solid) h))
+      children-fit cs (and-r (child-flows c solid) (children-flows cs solid) k) vs _ _ (i .0)
+      (solid-here c r cs _ (i .1) (and-l (one-solid (next c r cs)) (child-flows c solid && children-flows cs solid) h))
 
   pub children-fit : (cs : Children) → children-flows cs solid ≡ true → (vs : List ℕ) (p : Process) (e : ℕ) → Choices p → Nonempty p ⊎ (one-solid cs ≡ true)
       → Fit (children-process cs vs p e)
-  children-fit none h vs p e c (inl n) = record { choices = c; nonempty = n }
-  children-fit none h vs p e c (inr n) = absurd (false≢true n)
+  children-fit none h vs p e C (inl n) = record { choices = C; nonempty = n }
+  children-fit none h vs p e C (inr n) = absurd (false≢true n)
   children-fit (next c r cs) h vs p e C n =
       let i = child-fit c (and-l (child-flows c solid) (children-flows cs solid) h) vs e in
-      children-fit cs (and-r (child-flows c solid) (children-flows cs solid) h) vs (seq p (child-process c vs e)) (e + child-events c) (C, i .0)
-      (solid-next c r cs p (child-process c vs e) (i .1) n)
+      children-fit cs (and-r (child-flows c solid) (children-flows cs solid) h) vs _ _ (seq-choices p _ C (i .0)) (solid-next c r cs p _ (i .1) n)
 
+  -- a child's choices, and that it has no empty run where it may be solid
   pub child-fit : (c : Child) → child-flows c solid ≡ true → (vs : List ℕ) (e : ℕ)
       → Choices (child-process c vs e) × (may-be-solid c ≡ true → Nonempty (child-process c vs e))
   child-fit (plain m) h vs e = let F = member-fit m h vs e in (F .choices, λ k. F .nonempty)
   child-fit (loop m) h vs e = (loop-choices m h vs e, λ k. absurd (false≢true k))
   child-fit (group y a b ms) h vs e =
       let k = and-r (member-flows a solid) (member-flows b solid && members-flows ms solid) h in
-      let F =
-          members-fit ms (and-r (member-flows b solid) (members-flows ms solid) k) y vs (join y (member-process a vs e) (member-process b vs (e + member-events a)))
-          (e + member-events a + member-events b)
-          (join-fit y (member-process a vs e) (member-process b vs (e + member-events a)) (member-fit a (and-l (member-flows a solid) (member-flows b solid && members-flows ms solid) h) vs e)
-          (member-fit b (and-l (member-flows b solid) (members-flows ms solid) k) vs (e + member-events a))) in
+      let A = member-fit a (and-l (member-flows a solid) (member-flows b solid && members-flows ms solid) h) vs e in
+      let B = member-fit b (and-l (member-flows b solid) (members-flows ms solid) k) vs (e + member-events a) in
+      let F = members-fit ms (and-r (member-flows b solid) (members-flows ms solid) k) y vs _ (e + member-events a + member-events b) (join-fit y _ _ A B) in
       (F .choices, λ z. F .nonempty)
   child-fit (replicator y par n m) h vs e =
-      let F =
-          copies-fit y (λ v. member-process m (vs ++ (v ∷ [])) (e + v * member-events m))
-          (λ v. member-fit m h (vs ++ (v ∷ [])) (e + v * member-events m)) (n - 1) in
+      let F = copies-fit y _ (λ v. member-fit m h (vs ++ (v ∷ [])) (e + v * member-events m)) (n - 1) in
       (F .choices, λ z. F .nonempty)
 
   loop-choices : (m : Member) → member-flows m solid ≡ true → (vs : List ℕ) (e : ℕ) → Choices (loop-process m vs e)
-  loop-choices (leaf n) h vs e = tt
-  loop-choices (inner f) h vs e = flow-fit f h vs e .choices
+  loop-choices (leaf n) h vs e = again-choices e (leaf-copy n vs)
+  loop-choices (inner f) h vs e = rounds-choices _ _ _ (flow-fit f h vs e .choices)
 
   pub member-fit : (m : Member) → member-flows m solid ≡ true → (vs : List ℕ) (e : ℕ) → Fit (member-process m vs e)
   member-fit (leaf n) h vs e = event-fit e (leaf-copy n vs)
@@ -172,5 +179,4 @@ mutual
   pub members-fit : (ms : Members) → members-flows ms solid ≡ true → (y : Way) (vs : List ℕ) (p : Process) (e : ℕ) → Fit p → Fit (members-process ms y vs p e)
   members-fit end h y vs p e F = F
   members-fit (also m ms) h y vs p e F =
-      members-fit ms (and-r (member-flows m solid) (members-flows ms solid) h) y vs (join y p (member-process m vs e)) (e + member-events m)
-      (join-fit y p (member-process m vs e) F (member-fit m (and-l (member-flows m solid) (members-flows ms solid) h) vs e))
+      members-fit ms (and-r (member-flows m solid) (members-flows ms solid) h) y vs _ _ (join-fit y p _ F (member-fit m (and-l (member-flows m solid) (members-flows ms solid) h) vs e))

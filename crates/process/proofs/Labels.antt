@@ -5,11 +5,10 @@ use mathlib.Core.Bool.{Bool, true, false, _&&_, _||_, cond, false≢true}
 use mathlib.Core.List.{List, [], _∷_, _++_}
 use Prim.Native.Nat.{ℕ, zero, suc, _+_, _-_, _*_}
 use lib.Dec.{eqb}
-use Rattle.diagram.specs.Tree.{Way, Flow, flow, Children, none, next, Child, plain, loop, group, replicator, Member, leaf, inner, Members, end, also}
-use Rattle.diagram.specs.Count.{child-events, member-events}
+use Rattle.diagram.specs.Tree.{Name, Way, Flow, flow, Children, none, next, Child, plain, loop, group, replicator, Member, leaf, inner, Members, end, also}
 use Rattle.diagram.proofs.Truth.{cases, clash, is-false, and-l, or-e}
 use Rattle.process.specs.Process.{Process, event, seq, join, again, rounds, owns, event-of}
-use Rattle.process.specs.Expand.{copies, flow-process, children-process, child-process, loop-process, member-process, members-process}
+use Rattle.process.specs.Expand.{leaf-copy, reset-of, copies, flow-process, children-process, child-process, loop-process, member-process, members-process}
 use Rattle.process.specs.Bits.{clears}
 use Rattle.process.proofs.Local.{closed}
 use Rattle.process.proofs.Numbered.{size, Numbered, apart, reset-out}
@@ -22,38 +21,50 @@ Marked (join y p q) = Marked p × Marked q
 Marked (again n l) = l .reset ≡ false
 Marked (rounds p r l) = Marked p × (l .reset ≡ true)
 
-copies-marked : (y : Way) (copy : ℕ → Process) → ((v : ℕ) → Marked (copy v)) → (v : ℕ) → Marked (copies y copy v)
+marked-leaf : (n : ℕ) (name : Name) (vs : List ℕ) → Marked (event n (leaf-copy name vs)) × Marked (again n (leaf-copy name vs))
 unfolding Marked
+marked-leaf n name vs = (refl, refl)
+
+marked-seq : (p q : Process) → Marked p → Marked q → Marked (seq p q)
+unfolding Marked
+marked-seq p q P Q = (P, Q)
+
+marked-join : (y : Way) (p q : Process) → Marked p → Marked q → Marked (join y p q)
+unfolding Marked
+marked-join y p q P Q = (P, Q)
+
+marked-rounds : (p : Process) (r : ℕ) (f : Flow) (vs : List ℕ) → Marked p → Marked (rounds p r (reset-of f vs))
+unfolding Marked
+marked-rounds p r f vs P = (P, refl)
+
+copies-marked : (y : Way) (copy : ℕ → Process) → ((v : ℕ) → Marked (copy v)) → (v : ℕ) → Marked (copies y copy v)
 copies-marked y copy f zero = f 0
-copies-marked y copy f (suc v) = (copies-marked y copy f v, f (suc v))
+copies-marked y copy f (suc v) = marked-join y (copies y copy v) (copy (suc v)) (copies-marked y copy f v) (f (suc v))
 
 mutual
-  unfolding flow-process Marked
+  unfolding flow-process
 
   pub flow-marked : (f : Flow) (vs : List ℕ) (e : ℕ) → Marked (flow-process f vs e)
-  flow-marked (flow n ps sw c r cs) vs e = children-marked cs vs (child-process c vs e) (e + child-events c) (child-marked c vs e)
+  flow-marked (flow n ps sw c r cs) vs e = children-marked cs vs _ _ (child-marked c vs e)
 
   children-marked : (cs : Children) (vs : List ℕ) (p : Process) (e : ℕ) → Marked p → Marked (children-process cs vs p e)
   children-marked none vs p e P = P
-  children-marked (next c r cs) vs p e P = children-marked cs vs (seq p (child-process c vs e)) (e + child-events c) (P, child-marked c vs e)
+  children-marked (next c r cs) vs p e P = children-marked cs vs _ _ (marked-seq p _ P (child-marked c vs e))
 
   child-marked : (c : Child) (vs : List ℕ) (e : ℕ) → Marked (child-process c vs e)
   child-marked (plain m) vs e = member-marked m vs e
   child-marked (loop m) vs e = loop-marked m vs e
-  child-marked (group y a b ms) vs e =
-      members-marked ms y vs (join y (member-process a vs e) (member-process b vs (e + member-events a))) (e + member-events a + member-events b)
-      (member-marked a vs e, member-marked b vs (e + member-events a))
-  child-marked (replicator y par n m) vs e =
-      copies-marked y (λ v. member-process m (vs ++ (v ∷ [])) (e + v * member-events m)) (λ v. member-marked m (vs ++ (v ∷ [])) (e + v * member-events m)) (n - 1)
+  child-marked (group y a b ms) vs e = members-marked ms y vs _ _ (marked-join y _ _ (member-marked a vs _) (member-marked b vs _))
+  child-marked (replicator y par n m) vs e = copies-marked y _ (λ v. member-marked m _ _) (n - 1)
 
   loop-marked : (m : Member) (vs : List ℕ) (e : ℕ) → Marked (loop-process m vs e)
-  loop-marked (leaf n) vs e = refl
-  loop-marked (inner f) vs e = (flow-marked f vs e, refl)
+  loop-marked (leaf n) vs e = marked-leaf e n vs .1
+  loop-marked (inner f) vs e = marked-rounds _ _ f vs (flow-marked f vs _)
 
   member-marked : (m : Member) (vs : List ℕ) (e : ℕ) → Marked (member-process m vs e)
-  member-marked (leaf n) vs e = refl
+  member-marked (leaf n) vs e = marked-leaf e n vs .0
   member-marked (inner f) vs e = flow-marked f vs e
 
   members-marked : (ms : Members) (y : Way) (vs : List ℕ) (p : Process) (e : ℕ) → Marked p → Marked (members-process ms y vs p e)
   members-marked end y vs p e P = P
-  members-marked (also m ms) y vs p e P = members-marked ms y vs (join y p (member-process m vs e)) (e + member-events m) (P, member-marked m vs e)
+  members-marked (also m ms) y vs p e P = members-marked ms y vs _ _ (marked-join y p _ P (member-marked m vs e))

@@ -40,13 +40,16 @@ module _ (n : ℕ) where
   part-bit w (inl h) = rw h
   part-bit w (inr h) = bit w (rw h (eq-eqb n n refl, tt))
 
-  part-ends : (w : List ℕ) → Part w → (w ≡ n ∷ []) ↔ (bits blank w n ≡ true)
-  part-ends w (inl h) = (λ k. absurd (nil≢cons (sym h ∙ k)), λ k. absurd (clash k (part-bit w (inl h) ∙ ap filled h)))
-  part-ends w (inr h) = (λ k. part-bit w (inr h) ∙ ap filled h, λ k. h)
+  part-ends : (l : Event) (w : List ℕ) → Part w → (w ≡ n ∷ []) ↔ (complete (event n l) (bits blank w) ≡ true)
+  unfolding complete
+  part-ends l w (inl h) = (λ k. absurd (nil≢cons (sym h ∙ k)), λ k. absurd (clash k (part-bit w (inl h) ∙ ap filled h)))
+  part-ends l w (inr h) = (λ k. part-bit w (inr h) ∙ ap filled h, λ k. h)
 
-  part-goes-on : (w : List ℕ) → Part w → (x : ℕ) → eqb n x ≡ true → ((v : List ℕ) × ((w ++ (x ∷ [])) ++ v ≡ n ∷ [])) ↔ (not (bits blank w n) ≡ true)
-  part-goes-on w (inl h) x i = (λ k. not-i (part-bit w (inl h) ∙ ap filled h), λ k. ([], rw (h, ← eqb-true n x i)))
-  part-goes-on w (inr h) x i = (
+  part-goes-on : (l : Event) (w : List ℕ) → Part w → (x : ℕ) → eqb n x ≡ true
+      → ((v : List ℕ) × ((w ++ (x ∷ [])) ++ v ≡ n ∷ [])) ↔ (enabled (event n l) (bits blank w) x ≡ true)
+  unfolding enabled
+  part-goes-on l w (inl h) x i = (λ k. not-i (part-bit w (inl h) ∙ ap filled h), λ k. ([], rw (h, ← eqb-true n x i)))
+  part-goes-on l w (inr h) x i = (
     λ k. absurd (cons≢nil (tail-eq-of-cons-eq (rw h at (k .1)))),
     λ k. absurd (clash (part-bit w (inr h) ∙ ap filled h) (not-e (bits blank w n) k)),
   )
@@ -55,7 +58,7 @@ module _ (n : ℕ) where
   unfolding Whole owns clears begun complete enabled
   event-good l w h =
       let k = part w h in
-      record { begins = part-bit w k; ends = part-ends w k; goes-on = part-goes-on w k }
+      record { begins = part-bit w k; ends = part-ends l w k; goes-on = part-goes-on l w k }
 
   pub again-good : (l : Event) → Good (again n l)
   unfolding Whole owns clears begun complete enabled

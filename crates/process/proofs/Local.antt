@@ -1,13 +1,13 @@
 -- A process keeps to its own events: its runs, its bits and what they say of it.
-use mathlib.Core.Path.{_≡_, refl, sym, _∙_, ap, ap₂}
+use mathlib.Core.Path.{_≡_, refl, sym, _∙_, ap}
 use mathlib.Core.Logic.{_⊎_, inl, inr}
-use mathlib.Core.Bool.{Bool, true, false, not, _&&_, _||_, cond, false≢true, or-false}
+use mathlib.Core.Bool.{Bool, true, false, not, _&&_, _||_, cond, and-false, false≢true}
 use mathlib.Core.List.{List, [], _∷_, _++_}
 use Prim.Native.Nat.{ℕ}
 use lib.Dec.{eqb}
 use borrow.Author.Tests.{eqb-true, eq-eqb}
 use Rattle.diagram.specs.Tree.{Way, all, some, one}
-use Rattle.diagram.proofs.Truth.{clash, is-false, and-l, and-r, or-l, or-r, or-e}
+use Rattle.diagram.proofs.Truth.{cases, clash, is-false, or-l, or-r, or-e}
 use Rattle.process.specs.Process.{Process, event, seq, join, again, rounds, owns}
 use Rattle.process.specs.Runs.{All, Rounds, stop, more, Whole, Begins}
 use Rattle.process.specs.Bits.{Bits, blank, clears, take, run, after, begun, complete, enabled}
@@ -54,18 +54,27 @@ own-either : (I J : ℕ → Bool) (x i : ℕ) {a b : Bool} → (a ≡ true → O
 own-either I J x i f g (inl k) = (or-l (J x) (f k .0), or-l (J i) (f k .1))
 own-either I J x i f g (inr k) = (or-r (I x) (g k .0), or-r (I i) (g k .1))
 
+-- a reset clears its body's bits, any other event what it clears in the body
+rounds-own : (I : ℕ → Bool) (r x i : ℕ) (cl : Bool) → (cl ≡ true → Own I x i) → (eqb r x ≡ true) ⊎ (cl ≡ true) → (I i ≡ true) ⊎ (cl ≡ true) → Own (_or_ I (eqb r)) x i
+rounds-own I r x i cl f (inl a) (inl b) = (or-r (I x) a, or-l (eqb r i) b)
+rounds-own I r x i cl f (inl a) (inr c) = (or-r (I x) a, or-l (eqb r i) (f c .1))
+rounds-own I r x i cl f (inr c) b = (or-l (eqb r x) (f c .0), or-l (eqb r i) (f c .1))
+
 pub closed : (p : Process) (x i : ℕ) → clears p x i ≡ true → (owns p x ≡ true) × (owns p i ≡ true)
 unfolding owns clears
 closed (event n l) x i h = absurd (false≢true h)
 closed (seq p q) x i h = own-either (owns p) (owns q) x i (λ k. closed p x i k) (λ k. closed q x i k) (or-e (clears p x i) (clears q x i) h)
 closed (join y p q) x i h = own-either (owns p) (owns q) x i (λ k. closed p x i k) (λ k. closed q x i k) (or-e (clears p x i) (clears q x i) h)
 closed (again n l) x i h = absurd (false≢true h)
-closed (rounds p r l) x i h = go (λ k. closed p x i k) (or-e (eqb r x && owns p i) (clears p x i) h)
+closed (rounds p r l) x i h = rounds-own (owns p) r x i (clears p x i) (λ k. closed p x i k) (at-reset (cases (eqb r x))) (in-body (cases (owns p i)))
   where
-    go : (clears p x i ≡ true → (owns p x ≡ true) × (owns p i ≡ true)) → ((eqb r x && owns p i) ≡ true) ⊎ (clears p x i ≡ true)
-        → (_or_ (owns p) (eqb r) x ≡ true) × (_or_ (owns p) (eqb r) i ≡ true)
-    go f (inl k) = (or-r (owns p x) (and-l (eqb r x) (owns p i) k), or-l (eqb r i) (and-r (eqb r x) (owns p i) k))
-    go f (inr k) = (or-l (eqb r x) (f k .0), or-l (eqb r i) (f k .1))
+    at-reset : (eqb r x ≡ true) ⊎ (eqb r x ≡ false) → (eqb r x ≡ true) ⊎ (clears p x i ≡ true)
+    at-reset (inl k) = inl k
+    at-reset (inr k) = inr (simp k at h)
+
+    in-body : (owns p i ≡ true) ⊎ (owns p i ≡ false) → (owns p i ≡ true) ⊎ (clears p x i ≡ true)
+    in-body (inl k) = inl k
+    in-body (inr k) = inr (simp (k, and-false) at h)
 
 -- Two records agree on the bits that pass a test.
 abbrev pub Agree : (ℕ → Bool) → Bits → Bits → Type 0
@@ -80,40 +89,42 @@ agree-r I J a i h = a i (or-r (I i) h)
 -- What the bits say of a process depends on its own bits only.
 pub begun-local : (p : Process) {s t : Bits} → Agree (owns p) s t → begun p s ≡ begun p t
 unfolding owns begun
-begun-local (event n l) a = a n (eq-eqb n n refl)
-begun-local (seq p q) a = ap₂ _||_ (begun-local p (agree-l (owns p) (owns q) a)) (begun-local q (agree-r (owns p) (owns q) a))
-begun-local (join y p q) a = ap₂ _||_ (begun-local p (agree-l (owns p) (owns q) a)) (begun-local q (agree-r (owns p) (owns q) a))
-begun-local (again n l) a = a n (eq-eqb n n refl)
-begun-local (rounds p r l) a = ap₂ _||_ (begun-local p (agree-l (owns p) (eqb r) a)) (a r (or-r (owns p r) (eq-eqb r r refl)))
+begun-local (event n l) a = rw (a n (eq-eqb n n refl))
+begun-local (seq p q) a = rw (begun-local p (agree-l (owns p) (owns q) a), begun-local q (agree-r (owns p) (owns q) a))
+begun-local (join y p q) a = rw (begun-local p (agree-l (owns p) (owns q) a), begun-local q (agree-r (owns p) (owns q) a))
+begun-local (again n l) a = rw (a n (eq-eqb n n refl))
+begun-local (rounds p r l) a = rw (begun-local p (agree-l (owns p) (eqb r) a), a r (or-r (owns p r) (eq-eqb r r refl)))
+
+-- all that two joined processes are asked
+module _ (p q : Process) {s t : Bits} (a : Agree (_or_ (owns p) (owns q)) s t) where
+  begun-l : begun p s ≡ begun p t
+  begun-l = begun-local p (agree-l (owns p) (owns q) a)
+
+  begun-r : begun q s ≡ begun q t
+  begun-r = begun-local q (agree-r (owns p) (owns q) a)
 
 pub complete-local : (p : Process) {s t : Bits} → Agree (owns p) s t → complete p s ≡ complete p t
 unfolding owns complete
-complete-local (event n l) a = a n (eq-eqb n n refl)
-complete-local (seq p q) a = ap₂ _&&_ (complete-local p (agree-l (owns p) (owns q) a)) (complete-local q (agree-r (owns p) (owns q) a))
-complete-local (join all p q) a = ap₂ _&&_ (complete-local p (agree-l (owns p) (owns q) a)) (complete-local q (agree-r (owns p) (owns q) a))
+complete-local (event n l) a = rw (a n (eq-eqb n n refl))
+complete-local (seq p q) a = rw (complete-local p (agree-l (owns p) (owns q) a), complete-local q (agree-r (owns p) (owns q) a))
+complete-local (join all p q) a = rw (complete-local p (agree-l (owns p) (owns q) a), complete-local q (agree-r (owns p) (owns q) a))
 complete-local (join some p q) a =
-    let l = agree-l (owns p) (owns q) a in
-    let r = agree-r (owns p) (owns q) a in
-    rw (begun-local p l, begun-local q r, complete-local p l, complete-local q r)
-complete-local (join one p q) a = ap₂ _||_ (complete-local p (agree-l (owns p) (owns q) a)) (complete-local q (agree-r (owns p) (owns q) a))
+    rw (begun-l p q a, begun-r p q a, complete-local p (agree-l (owns p) (owns q) a), complete-local q (agree-r (owns p) (owns q) a))
+complete-local (join one p q) a = rw (complete-local p (agree-l (owns p) (owns q) a), complete-local q (agree-r (owns p) (owns q) a))
 complete-local (again n l) a = refl
-complete-local (rounds p r l) a = ap not (begun-local p (agree-l (owns p) (eqb r) a))
+complete-local (rounds p r l) a = rw (begun-local p (agree-l (owns p) (eqb r) a))
 
 pub enabled-local : (p : Process) {s t : Bits} (x : ℕ) → Agree (owns p) s t → enabled p s x ≡ enabled p t x
 unfolding owns enabled
-enabled-local (event n l) x a = ap not (a n (eq-eqb n n refl))
+enabled-local (event n l) x a = rw (a n (eq-eqb n n refl))
 enabled-local (seq p q) x a =
-    let l = agree-l (owns p) (owns q) a in
-    let r = agree-r (owns p) (owns q) a in
-    rw (enabled-local p x l, begun-local q r, complete-local p l, enabled-local q x r)
+    rw (begun-r p q a, complete-local p (agree-l (owns p) (owns q) a), enabled-local p x (agree-l (owns p) (owns q) a), enabled-local q x (agree-r (owns p) (owns q) a))
 enabled-local (join all p q) x a = rw (enabled-local p x (agree-l (owns p) (owns q) a), enabled-local q x (agree-r (owns p) (owns q) a))
 enabled-local (join some p q) x a = rw (enabled-local p x (agree-l (owns p) (owns q) a), enabled-local q x (agree-r (owns p) (owns q) a))
 enabled-local (join one p q) x a =
-    let l = agree-l (owns p) (owns q) a in
-    let r = agree-r (owns p) (owns q) a in
-    rw (enabled-local p x l, begun-local q r, begun-local p l, enabled-local q x r)
+    rw (begun-l p q a, begun-r p q a, enabled-local p x (agree-l (owns p) (owns q) a), enabled-local q x (agree-r (owns p) (owns q) a))
 enabled-local (again n l) x a = refl
-enabled-local (rounds p r l) x a = let b = agree-l (owns p) (eqb r) a in rw (enabled-local p x b, complete-local p b)
+enabled-local (rounds p r l) x a = rw (enabled-local p x (agree-l (owns p) (eqb r) a), complete-local p (agree-l (owns p) (eqb r) a))
 
 -- A process inside a larger one: taking an event of the larger one clears the process's bits as the process itself would.
 abbrev pub Within : Process → (ℕ → ℕ → Bool) → Type 0

@@ -42,8 +42,8 @@ module _ (p q : Process) (d : Apart (owns p) (owns q)) where
     R : Seen q s (only (owns q) w)
     R = own-part-r p q d G H w (h .0)
 
-    one-ends : Whole (join one p q) w ↔ ((complete p s || complete q s) ≡ true)
-    unfolding Whole
+    one-ends : Whole (join one p q) w ↔ (complete (join one p q) s ≡ true)
+    unfolding Whole complete
     one-ends = (to, λ k. from (or-e (complete p s) (complete q s) k) (h .1))
       where
         to : Either (Whole p) (Whole q) w → (complete p s || complete q s) ≡ true
@@ -83,12 +83,11 @@ module _ (p q : Process) (d : Apart (owns p) (owns q)) where
         from : Begins q (only (owns q) w ++ (x ∷ [])) × (only (owns p) w ≡ []) → Lone (w ++ (x ∷ []))
         from (b, e) = (shared-alone-r p q d (w ++ (x ∷ [])) (rw (rest-r p q d w (h .0 .0) e) at b), inr (m .0 ∙ e))
 
-    one-goes-on : (x : ℕ) → _or_ (owns p) (owns q) x ≡ true
-        → Lone (w ++ (x ∷ [])) ↔ (cond (owns p x) (enabled p s x && not (begun q s)) (enabled q s x && not (begun p s)) ≡ true)
+    one-goes-on : (x : ℕ) → _or_ (owns p) (owns q) x ≡ true → Lone (w ++ (x ∷ [])) ↔ (enabled (join one p q) s x ≡ true)
+    unfolding enabled
     one-goes-on x i = go (cases (owns p x))
       where
-        go : (owns p x ≡ true) ⊎ (owns p x ≡ false)
-            → Lone (w ++ (x ∷ [])) ↔ (cond (owns p x) (enabled p s x && not (begun q s)) (enabled q s x && not (begun p s)) ≡ true)
+        go : (owns p x ≡ true) ⊎ (owns p x ≡ false) → Lone (w ++ (x ∷ [])) ↔ (enabled (join one p q) s x ≡ true)
         go (inl j) = rw j (Iff·trans (lone-l x j) (goes-on-alone p q S R x j))
         go (inr j) =
             let o : owns q x ≡ true = rw j at i in

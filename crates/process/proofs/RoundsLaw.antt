@@ -165,7 +165,8 @@ module _ (p : Process) (r : ℕ) (l : Event) (out : owns p r ≡ false) where
     seen : (u v : List ℕ) → Rounds (Whole p) r u → Begins p v → Seen p (after loop (u ++ v)) v
     seen u v hu hv = seen-local p v (after-turns u v hu hv) (G v hv)
 
-    rounds-ends : (w : List ℕ) → Turns p r w → Rounds (Whole p) r w ↔ (not (begun p (after loop w)) ≡ true)
+    rounds-ends : (w : List ℕ) → Turns p r w → Whole loop w ↔ (complete loop (after loop w) ≡ true)
+    unfolding Whole complete
     rounds-ends w t = (to, from)
       where
         to : Rounds (Whole p) r w → not (begun p (after loop w)) ≡ true
@@ -213,7 +214,8 @@ module _ (p : Process) (r : ℕ) (l : Event) (out : owns p r ≡ false) where
               cut-at = rw (t .cut-at, ← eqb-true r x q, append-nil, append-assoc);
             }
 
-    rounds-begins : (w : List ℕ) → Turns p r w → (begun p (after loop w) || after loop w r) ≡ filled w
+    rounds-begins : (w : List ℕ) → Turns p r w → begun loop (after loop w) ≡ filled w
+    unfolding begun
     rounds-begins w t =
         rw (t .cut-at, seen (t .u) (t .v) (t .turns) (t .rest) .begins, mark-turns (t .u) (t .v) (t .turns) (t .rest))
         (or-comm (filled (t .v)) (filled (t .u)) ∙ sym (filled-append (t .u) (t .v)))

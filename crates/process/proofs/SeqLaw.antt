@@ -149,12 +149,15 @@ module _ (p q : Process) (d : Apart (owns p) (owns q)) where
       own-part-r : Seen q s v
       own-part-r = seen-r p q d H w begins-r
 
-      seq-goes-on : (x : ℕ) → _or_ (owns p) (owns q) x ≡ true
-          → Ordered (w ++ (x ∷ [])) ↔ (cond (owns p x) (enabled p s x && not (begun q s)) (enabled q s x && complete p s) ≡ true)
+      seq-ends : Whole (seq p q) w ↔ (complete (seq p q) s ≡ true)
+      unfolding complete
+      seq-ends = Iff·trans seq-whole (both-tests (complete p s) (complete q s) (own-part-l .ends) (own-part-r .ends))
+
+      seq-goes-on : (x : ℕ) → _or_ (owns p) (owns q) x ≡ true → Ordered (w ++ (x ∷ [])) ↔ (enabled (seq p q) s x ≡ true)
+      unfolding enabled
       seq-goes-on x i = go (cases (owns p x))
         where
-          go : (owns p x ≡ true) ⊎ (owns p x ≡ false)
-              → Ordered (w ++ (x ∷ [])) ↔ (cond (owns p x) (enabled p s x && not (begun q s)) (enabled q s x && complete p s) ≡ true)
+          go : (owns p x ≡ true) ⊎ (owns p x ≡ false) → Ordered (w ++ (x ∷ [])) ↔ (enabled (seq p q) s x ≡ true)
           go (inl j) = rw j (Iff·trans (ordered-l x j) (goes-on-alone p q own-part-l own-part-r x j))
           go (inr j) =
               let r : owns q x ≡ true = rw j at i in
@@ -164,10 +167,8 @@ module _ (p q : Process) (d : Apart (owns p) (owns q)) where
   unfolding owns clears begun complete enabled
   seq-good G H w h =
       let o = ordered→ w h in
-      let S = own-part-l w o G H in
-      let R = own-part-r w o G H in
       record {
-        begins = begins₂ p q d w (in-both w o) S R;
-        ends = Iff·trans (seq-whole w o) (both-tests (complete p (after₂ p q w)) (complete q (after₂ p q w)) (S .ends) (R .ends));
+        begins = begins₂ p q d w (in-both w o) (own-part-l w o G H) (own-part-r w o G H);
+        ends = seq-ends w o G H;
         goes-on = λ x i. Iff·trans (seq-ordered (w ++ (x ∷ []))) (seq-goes-on w o G H x i);
       }

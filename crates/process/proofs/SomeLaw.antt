@@ -85,7 +85,8 @@ module _ (p q : Process) (d : Apart (owns p) (owns q)) where
     parts← f (inr a) (inl b) = inl (inr (rw (rest-r p q d w (h .0) a) at b))
     parts← f (inr a) (inr b) = absurd (clash f (ap filled (sym (rest-l p q d w (h .0) b) ∙ a)))
 
-    some-ends : Whole (join some p q) w ↔ (((begun p s || begun q s) && ((complete p s || not (begun p s)) && (complete q s || not (begun q s)))) ≡ true)
+    some-ends : Whole (join some p q) w ↔ (complete (join some p q) s ≡ true)
+    unfolding complete
     some-ends = Iff·trans (λ k. let m = parts→ k in (m .0, (m .1, m .2)), λ k. parts← (k .0) (k .1 .0) (k .1 .1))
         (both-tests (begun p s || begun q s) ((complete p s || not (begun p s)) && (complete q s || not (begun q s))) (rw (← begins₂ p q d w (h .0) S R) Iff·rfl)
         (both-tests (complete p s || not (begun p s)) (complete q s || not (begun q s)) (part-ends p S) (part-ends q R)))

@@ -13,7 +13,7 @@ use Rattle.process.specs.Process.{owns}
 use Rattle.process.specs.Expand.{expand, flow-process}
 use Rattle.process.specs.Bits.{after, clears, begun, complete, enabled}
 use Rattle.process.specs.Decide.{begins?, whole?}
-use Rattle.process.specs.Drawings.{Line, whole, away, byte, table, Holds, Each, first-byte}
+use Rattle.process.specs.Starred.{Line, whole, away, byte, table, Holds, Each, first-byte}
 use Rattle.process.proofs.Theorem.{begins-decided, whole-decided}
 
 

@@ -4,4 +4,4 @@ pub mod Runs
 pub mod Bits
 pub mod Decide
 pub mod Once
-pub mod Drawings
+pub mod Starred

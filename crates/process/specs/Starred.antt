@@ -1,27 +1,13 @@
--- The starred lines of document 01, "Drawings worked through", on the trees of T and U.
+-- The starred lines of document 01, "Drawings worked through", on the trees of T and U: one table.
 use mathlib.Core.Path.{_≡_}
 use mathlib.Core.Bool.{Bool, true, false, cond}
 use mathlib.Core.List.{List, [], _∷_, _++_}
 use Prim.Native.Nat.{ℕ, _+_, _*_}
-use Rattle.diagram.specs.Tree.{Name, all, some, one, Flow, flow, Children, none, next, Child, plain, loop, group, replicator, Member, leaf, inner, Members, end, also}
+use Rattle.diagram.specs.Tree.{Flow}
+use Rattle.diagram.specs.Drawings.{T, U}
 use Rattle.process.specs.Expand.{expand}
 use Rattle.process.specs.Runs.{Whole, Begins}
 use Rattle.process.specs.Bits.{Bits, after}
-
--- T: `flow(trip,1)(leaf(take)(0)loop(leaf(fill))(0)xor(leaf(send)leaf(drop))(0)leaf(free)(1))`.
-abbrev pub T : Flow
-T =
-    flow (116 ∷ 114 ∷ 105 ∷ 112 ∷ []) [] true (plain (leaf (116 ∷ 97 ∷ 107 ∷ 101 ∷ []))) false
-    (next (loop (leaf (102 ∷ 105 ∷ 108 ∷ 108 ∷ []))) false
-    (next (group one (leaf (115 ∷ 101 ∷ 110 ∷ 100 ∷ [])) (leaf (100 ∷ 114 ∷ 111 ∷ 112 ∷ [])) end) false
-    (next (plain (leaf (102 ∷ 114 ∷ 101 ∷ 101 ∷ []))) true none)))
-
--- U: `flow(t,1)(loop(flow(r,1)(leaf(a)(0)leaf(b)(1)))(0)leaf(c)(1))`.
-abbrev pub U : Flow
-U =
-    flow (116 ∷ []) [] true
-    (loop (inner (flow (114 ∷ []) [] true (plain (leaf (97 ∷ []))) false (next (plain (leaf (98 ∷ []))) true none)))) false
-    (next (plain (leaf (99 ∷ []))) true none)
 
 -- A line: these events of a drawing are a whole run; of these events the one after them is turned away; after these events the first
 -- byte of the record is this.
