@@ -3,7 +3,7 @@ use mathlib.Core.Path.{_≡_}
 use mathlib.Core.Bool.{true, false}
 use mathlib.Core.List.{List, [], _∷_}
 use Prim.Native.Nat.{ℕ, zero, suc}
-use Rattle.diagram.specs.Tree.{all, one, Flow, flow, Children, none, next, Child, plain, loop, group, replicator, Member, leaf, inner, end}
+use Rattle.diagram.specs.Tree.{all, one, Flow, flow, Children, none, next, Child, plain, loop, group, replicator, leaf, inner, end}
 use Rattle.diagram.specs.Count.{flow-nodes, flow-copies, flow-events}
 
 -- T: `flow(trip,1)(leaf(take)(0)loop(leaf(fill))(0)xor(leaf(send)leaf(drop))(0)leaf(free)(1))`.

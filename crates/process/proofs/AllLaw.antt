@@ -1,14 +1,14 @@
 -- Both of two processes, interleaved.
-use mathlib.Core.Path.{_≡_, refl, sym, _∙_}
+use mathlib.Core.Path.{_≡_}
 use mathlib.Core.Logic.{_⊎_, inl, inr, _↔_, Iff·trans}
-use mathlib.Core.Bool.{Bool, true, false, _&&_, cond}
-use mathlib.Core.List.{List, [], _∷_, _++_, append-nil}
+use mathlib.Core.Bool.{true, false, cond}
+use mathlib.Core.List.{List, [], _∷_, _++_}
 use Prim.Native.Nat.{ℕ}
 use Rattle.diagram.specs.Tree.{all}
 use Rattle.diagram.proofs.Truth.{cases}
 use Rattle.process.specs.Process.{Process, join, owns}
 use Rattle.process.specs.Runs.{All, Both, Whole, Begins}
-use Rattle.process.specs.Bits.{Bits, clears, begun, complete, enabled}
+use Rattle.process.specs.Bits.{clears, begun, complete, enabled}
 use Rattle.process.proofs.Lists.{all-append, all-left, all-right, all-in-l, all-in-r, Apart, only, only-append, _or_, mix-all, mix-l, mix-r, mix-make}
 use Rattle.process.proofs.Local.{inside}
 use Rattle.process.proofs.Seen.{Seen, Good, both-tests}

@@ -1,19 +1,19 @@
 -- A leaf copy that is no loop's member is taken again only after a reset of a loop around it. No rule of the diagram is needed.
 use mathlib.Core.Path.{_≡_, refl, sym, _∙_, ap}
 use mathlib.Core.Logic.{_⊎_, inl, inr}
-use mathlib.Core.Bool.{Bool, true, false, not, _&&_, _||_, cond, false≢true}
+use mathlib.Core.Bool.{Bool, true, false, _||_, false≢true}
 use mathlib.Core.List.{List, [], _∷_, _++_, append-assoc, tail-eq-of-cons-eq, append-eq-nil-iff}
-use Prim.Native.Nat.{ℕ, suc, _+_, _≤_, _<_}
+use Prim.Native.Nat.{ℕ, _+_, _≤_}
 use native.Mathlib.Omega.{arith}
 use lib.Dec.{eqb, leb}
 use borrow.Author.Tests.{eqb-true, eq-eqb, leb-true, leb-false}
 use Rattle.diagram.specs.Tree.{Way, all, some, one}
-use Rattle.diagram.proofs.Truth.{cases, clash, is-false, or-l, or-r, or-e}
+use Rattle.diagram.proofs.Truth.{cases, clash, or-l, or-r, or-e}
 use Rattle.process.specs.Process.{Event, Process, event, seq, join, again, rounds, owns}
 use Rattle.process.specs.Runs.{Whole, Begins}
 use Rattle.process.specs.Bits.{Bits, blank, clears, take, run, after}
 use Rattle.process.specs.Once.{single, outside, Occurs, times}
-use Rattle.process.proofs.Lists.{snoc≢nil, Apart, apart-sym, only, only-snoc-in}
+use Rattle.process.proofs.Lists.{snoc≢nil, Apart, only, only-snoc-in}
 use Rattle.process.proofs.Local.{closed, Within, after-only, run-append}
 use Rattle.process.proofs.Seen.{begins-shorter}
 use Rattle.process.proofs.Parts.{clears₂, within-l, within-r}
@@ -149,13 +149,16 @@ twice-at : (x : ℕ) (w : List ℕ) → 2 ≤ times x w → (u : List ℕ) × (v
 twice-at x [] h = let z : ⊥ = omega arith in absurd z
 twice-at x (y ∷ w) h = go (twice-at x w) (cases (eqb x y))
   where
+    push : (u : List ℕ) × (v : List ℕ) × (t : List ℕ) × (w ≡ u ++ (x ∷ (v ++ (x ∷ t)))) → (u : List ℕ) × (v : List ℕ) × (t : List ℕ) × (y ∷ w ≡ u ++ (x ∷ (v ++ (x ∷ t))))
+    push (u, v, t, e) = (y ∷ u, v, t, ap (λ (l : List ℕ). y ∷ l) e)
+
     go : (2 ≤ times x w → (u : List ℕ) × (v : List ℕ) × (t : List ℕ) × (w ≡ u ++ (x ∷ (v ++ (x ∷ t))))) → (eqb x y ≡ true) ⊎ (eqb x y ≡ false)
         → (u : List ℕ) × (v : List ℕ) × (t : List ℕ) × (y ∷ w ≡ u ++ (x ∷ (v ++ (x ∷ t))))
     go ih (inl k) =
         let a : 2 ≤ 1 + times x w = rw k at h in
         let i = once-at x w (omega arith) in
         ([], i .0, i .1, rw (← eqb-true x y k, ← i .2))
-    go ih (inr k) = let i = ih (rw k at h) in (y ∷ i .0, i .1, i .2, ap (λ (l : List ℕ). y ∷ l) (i .3))
+    go ih (inr k) = push (ih (rw k at h))
 
 pub at-most-once : (p : Process) (lo x : ℕ) → Numbered p lo → outside p x ≡ true → (w : List ℕ) → Begins p w → times x w ≤ 1
 at-most-once p lo x m h w b = go (cases (leb (times x w) 1))

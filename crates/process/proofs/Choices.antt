@@ -1,11 +1,11 @@
 -- Every process is good whose events are numbered and whose choices are between processes with no empty run.
 use mathlib.Core.Path.{_≡_, refl, sym}
 use mathlib.Core.Logic.{_⊎_, inl, inr}
-use mathlib.Core.List.{List, [], _∷_, _++_, append-eq-nil-iff}
+use mathlib.Core.List.{[], append-eq-nil-iff}
 use Prim.Native.Nat.{ℕ, _+_}
 use Rattle.diagram.specs.Tree.{Way, all, some, one}
 use Rattle.process.specs.Process.{Process, event, seq, join, again, rounds}
-use Rattle.process.specs.Runs.{Then, Both, Either, Whole}
+use Rattle.process.specs.Runs.{Both, Either, Whole}
 use Rattle.process.proofs.Lists.{mix-nil}
 use Rattle.process.proofs.Seen.{Good, Nonempty}
 use Rattle.process.proofs.LeafLaw.{event-good, again-good}

@@ -1,17 +1,17 @@
 -- What taking an event clears: nothing, or, at a reset, the events of its body, which end right before it.
 use mathlib.Core.Path.{_≡_, refl, sym, _∙_, ap}
-use mathlib.Core.Logic.{_⊎_, inl, inr, _↔_, Iff·trans, Iff·rfl}
-use mathlib.Core.Bool.{Bool, true, false, _&&_, _||_, cond, true≢false, false≢true, or-false}
+use mathlib.Core.Logic.{_⊎_, inl, inr, _↔_}
+use mathlib.Core.Bool.{Bool, true, false, _||_, cond, or-false}
 use Prim.Native.Nat.{ℕ, _+_, _≤_, _<_}
 use native.Mathlib.Omega.{arith}
 use lib.Dec.{eqb}
-use borrow.Author.Tests.{eqb-true, eq-eqb}
-use Rattle.diagram.proofs.Truth.{cases, clash, is-false, or-e}
+use borrow.Author.Tests.{eqb-true}
+use Rattle.diagram.proofs.Truth.{cases, clash, is-false}
 use Rattle.process.specs.Process.{Event, Process, event, seq, join, again, rounds, owns, event-of}
 use Rattle.process.specs.Bits.{clears}
 use Rattle.process.proofs.Lists.{Apart, apart-sym}
-use Rattle.process.proofs.Local.{closed, Within}
-use Rattle.process.proofs.Parts.{clears₂, within-l, within-r}
+use Rattle.process.proofs.Local.{closed}
+use Rattle.process.proofs.Parts.{clears₂}
 use Rattle.process.proofs.Numbered.{size, Numbered, interval, apart, reset-out}
 use Rattle.process.proofs.Labels.{Marked}
 

@@ -1,8 +1,8 @@
 -- The events of a diagram: every node copy owns an interval of numbers, a reset's body ends right before it, and a number's event is
 -- the one at its place in the order.
-use mathlib.Core.Path.{_≡_, refl, sym, _∙_, ap, subst}
-use mathlib.Core.Logic.{_⊎_, _↔_}
-use mathlib.Core.Bool.{Bool, true}
+use mathlib.Core.Path.{_≡_, refl, sym, _∙_, subst}
+use mathlib.Core.Logic.{_↔_}
+use mathlib.Core.Bool.{true}
 use mathlib.Core.List.{List, []}
 use Prim.Native.Nat.{ℕ, _+_, _≤_, _<_}
 use native.Mathlib.Nat.{zero-add}
@@ -14,7 +14,7 @@ use Rattle.diagram.specs.Rules.{flow-sized, child-sized, member-sized}
 use Rattle.process.specs.Process.{Event, Process, rounds, owns, event-of, events}
 use Rattle.process.specs.Expand.{expand, reset-of, flow-process, child-process, loop-process, member-process}
 use Rattle.process.specs.Bits.{clears}
-use Rattle.process.proofs.Numbered.{size, Numbered, interval, size-events, event-at}
+use Rattle.process.proofs.Numbered.{size, interval, size-events, event-at}
 use Rattle.process.proofs.Expanded.{Laid, flow-laid, child-laid, member-laid}
 use Rattle.process.proofs.Labels.{flow-marked}
 use Rattle.process.proofs.Cleared.{Effect, effect}

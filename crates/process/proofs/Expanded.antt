@@ -1,17 +1,17 @@
 -- The process of a diagram: its events are numbered, and the solid child rule leaves no member with an empty run.
-use mathlib.Core.Path.{_≡_, refl, sym, _∙_, ap, subst}
+use mathlib.Core.Path.{_≡_, refl, sym, ap}
 use mathlib.Core.Logic.{_⊎_, inl, inr}
-use mathlib.Core.Bool.{Bool, true, false, _&&_, cond, false≢true}
+use mathlib.Core.Bool.{Bool, true, false, _&&_, false≢true}
 use mathlib.Core.List.{List, [], _∷_, _++_, nil≢cons}
-use Prim.Native.Nat.{ℕ, zero, suc, _+_, _-_, _*_, _≤_}
+use Prim.Native.Nat.{ℕ, zero, suc, _+_, _-_, _*_}
 use native.Mathlib.Nat.{suc-mul, zero-mul}
 use native.Mathlib.Omega.{arith}
 use lib.Dec.{leb}
 use borrow.Author.Tests.{leb-true}
-use Rattle.diagram.specs.Tree.{Way, all, some, one, Flow, flow, Children, none, next, Child, plain, loop, group, replicator, Member, leaf, inner, Members, end, also}
+use Rattle.diagram.specs.Tree.{Way, Flow, flow, Children, none, next, Child, plain, loop, group, replicator, Member, leaf, inner, Members, end, also}
 use Rattle.diagram.specs.Count.{flow-events, children-events, child-events, loop-events, member-events, members-events}
 use Rattle.diagram.specs.Rules.{may-be-solid, none-solid, one-solid, solid, each-flow, children-flows, child-flows, member-flows, members-flows, flow-sized, children-sized, child-sized, member-sized, members-sized}
-use Rattle.diagram.proofs.Truth.{cases, and-l, and-r}
+use Rattle.diagram.proofs.Truth.{and-l, and-r}
 use Rattle.process.specs.Process.{Event, Process, event, seq, join, again, rounds}
 use Rattle.process.specs.Expand.{leaf-copy, reset-of, copies, flow-process, children-process, child-process, loop-process, member-process, members-process}
 use Rattle.process.specs.Runs.{Whole}

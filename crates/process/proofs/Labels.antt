@@ -1,17 +1,11 @@
 -- What a diagram's process says of its events: those that clear bits are its resets, and no others are.
-use mathlib.Core.Path.{_≡_, refl, sym, _∙_, ap}
-use mathlib.Core.Logic.{_⊎_, inl, inr}
-use mathlib.Core.Bool.{Bool, true, false, _&&_, _||_, cond, false≢true}
-use mathlib.Core.List.{List, [], _∷_, _++_}
-use Prim.Native.Nat.{ℕ, zero, suc, _+_, _-_, _*_}
-use lib.Dec.{eqb}
+use mathlib.Core.Path.{_≡_, refl}
+use mathlib.Core.Bool.{true, false}
+use mathlib.Core.List.{List}
+use Prim.Native.Nat.{ℕ, zero, suc, _-_}
 use Rattle.diagram.specs.Tree.{Name, Way, Flow, flow, Children, none, next, Child, plain, loop, group, replicator, Member, leaf, inner, Members, end, also}
-use Rattle.diagram.proofs.Truth.{cases, clash, is-false, and-l, or-e}
-use Rattle.process.specs.Process.{Process, event, seq, join, again, rounds, owns, event-of}
+use Rattle.process.specs.Process.{Process, event, seq, join, again, rounds}
 use Rattle.process.specs.Expand.{leaf-copy, reset-of, copies, flow-process, children-process, child-process, loop-process, member-process, members-process}
-use Rattle.process.specs.Bits.{clears}
-use Rattle.process.proofs.Local.{closed}
-use Rattle.process.proofs.Numbered.{size, Numbered, apart, reset-out}
 
 -- The resets, and only they, are marked as such.
 unfoldable pub Marked : Process → Type 0

@@ -1,17 +1,17 @@
 -- One event, and one event again and again.
 use mathlib.Core.Path.{_≡_, refl, sym, _∙_, ap}
 use mathlib.Core.Logic.{_⊎_, inl, inr, _↔_}
-use mathlib.Core.Bool.{Bool, true, false, not}
+use mathlib.Core.Bool.{true, false}
 use mathlib.Core.List.{List, [], _∷_, _++_, append-nil, cons≢nil, nil≢cons, head-eq-of-cons-eq, tail-eq-of-cons-eq}
 use Prim.Native.Nat.{ℕ}
 use lib.Dec.{eqb}
 use borrow.Author.Tests.{eqb-true, eq-eqb}
 use Rattle.diagram.proofs.Truth.{clash, or-l, or-r, not-i, not-e}
-use Rattle.process.specs.Process.{Event, Process, event, again, owns}
-use Rattle.process.specs.Runs.{All, Whole, Begins}
+use Rattle.process.specs.Process.{Event, event, again, owns}
+use Rattle.process.specs.Runs.{All, Whole}
 use Rattle.process.specs.Bits.{Bits, blank, clears, take, run, begun, complete, enabled}
 use Rattle.process.proofs.Lists.{filled, all-append, all-left}
-use Rattle.process.proofs.Seen.{Seen, Good}
+use Rattle.process.proofs.Seen.{Good}
 
 module _ (n : ℕ) where
   -- the bits where no event clears

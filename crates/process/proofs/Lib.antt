@@ -18,4 +18,6 @@ pub mod Decides
 pub mod Theorem
 pub mod Between
 pub mod NoSecond
+pub mod Joins
+pub mod Read
 pub mod Starred

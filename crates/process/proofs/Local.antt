@@ -1,17 +1,17 @@
 -- A process keeps to its own events: its runs, its bits and what they say of it.
 use mathlib.Core.Path.{_≡_, refl, sym, _∙_, ap}
-use mathlib.Core.Logic.{_⊎_, inl, inr}
-use mathlib.Core.Bool.{Bool, true, false, not, _&&_, _||_, cond, and-false, false≢true}
+use mathlib.Core.Logic.{_⊎_, inl, inr, _↔_}
+use mathlib.Core.Bool.{Bool, true, false, _||_, and-false, false≢true}
 use mathlib.Core.List.{List, [], _∷_, _++_}
 use Prim.Native.Nat.{ℕ}
 use lib.Dec.{eqb}
 use borrow.Author.Tests.{eqb-true, eq-eqb}
-use Rattle.diagram.specs.Tree.{Way, all, some, one}
+use Rattle.diagram.specs.Tree.{all, some, one}
 use Rattle.diagram.proofs.Truth.{cases, clash, is-false, or-l, or-r, or-e}
 use Rattle.process.specs.Process.{Process, event, seq, join, again, rounds, owns}
 use Rattle.process.specs.Runs.{All, Rounds, stop, more, Whole, Begins}
 use Rattle.process.specs.Bits.{Bits, blank, clears, take, run, after, begun, complete, enabled}
-use Rattle.process.proofs.Lists.{all-append, all-left, all-map, all-in-l, all-in-r, Apart, keep, only, _or_, mix-all, mix-append}
+use Rattle.process.proofs.Lists.{all-append, all-left, all-in-l, all-in-r, keep, only, _or_, mix-all, mix-append}
 
 -- Runs
 pub run-of : (p : Process) → (w : List ℕ) × Whole p w
@@ -125,6 +125,32 @@ enabled-local (join one p q) x a =
     rw (begun-l p q a, begun-r p q a, enabled-local p x (agree-l (owns p) (owns q) a), enabled-local q x (agree-r (owns p) (owns q) a))
 enabled-local (again n l) x a = refl
 enabled-local (rounds p r l) x a = rw (enabled-local p x (agree-l (owns p) (eqb r) a), complete-local p (agree-l (owns p) (eqb r) a))
+
+-- A process is begun exactly if the bit of one of its events is set.
+abbrev Set : (ℕ → Bool) → Bits → Type 0
+Set I s = (i : ℕ) × (I i ≡ true) × (s i ≡ true)
+
+set-one : (n : ℕ) (s : Bits) → (s n ≡ true) ↔ Set (eqb n) s
+set-one n s = (λ h. (n, eq-eqb n n refl, h), λ (i, o, h). rw (eqb-true n i o) h)
+
+set-either : (I J : ℕ → Bool) (s : Bits) (a b : Bool) → (a ≡ true) ↔ Set I s → (b ≡ true) ↔ Set J s → ((a || b) ≡ true) ↔ Set (_or_ I J) s
+set-either I J s a b f g = (λ h. to (or-e a b h), λ (i, o, h). from i h (or-e (I i) (J i) o))
+  where
+    to : (a ≡ true) ⊎ (b ≡ true) → Set (_or_ I J) s
+    to (inl h) = let k = f .0 h in (k .0, or-l (J (k .0)) (k .1), k .2)
+    to (inr h) = let k = g .0 h in (k .0, or-r (I (k .0)) (k .1), k .2)
+
+    from : (i : ℕ) → s i ≡ true → (I i ≡ true) ⊎ (J i ≡ true) → (a || b) ≡ true
+    from i h (inl o) = or-l b (f .1 (i, o, h))
+    from i h (inr o) = or-r a (g .1 (i, o, h))
+
+pub begun-iff : (p : Process) (s : Bits) → (begun p s ≡ true) ↔ ((i : ℕ) × (owns p i ≡ true) × (s i ≡ true))
+unfolding owns begun
+begun-iff (event n l) s = set-one n s
+begun-iff (seq p q) s = set-either (owns p) (owns q) s (begun p s) (begun q s) (begun-iff p s) (begun-iff q s)
+begun-iff (join y p q) s = set-either (owns p) (owns q) s (begun p s) (begun q s) (begun-iff p s) (begun-iff q s)
+begun-iff (again n l) s = set-one n s
+begun-iff (rounds p r l) s = set-either (owns p) (eqb r) s (begun p s) (s r) (begun-iff p s) (set-one r s)
 
 -- A process inside a larger one: taking an event of the larger one clears the process's bits as the process itself would.
 abbrev pub Within : Process → (ℕ → ℕ → Bool) → Type 0

@@ -1,8 +1,8 @@
 -- What the planner fears most, "free" coming twice, ruled out for every diagram of the grammar, whether or not it keeps the rules.
-use mathlib.Core.Path.{_≡_, refl, sym, _∙_}
-use mathlib.Core.Logic.{_⊎_, inl, inr}
-use mathlib.Core.Bool.{Bool, true}
-use mathlib.Core.List.{List, [], _∷_, _++_}
+use mathlib.Core.Path.{_≡_}
+use mathlib.Core.Logic.{inl, inr}
+use mathlib.Core.Bool.{true}
+use mathlib.Core.List.{List, _∷_, _++_}
 use Prim.Native.Nat.{ℕ, _≤_}
 use Rattle.diagram.specs.Tree.{Flow}
 use Rattle.diagram.specs.Rules.{flow-sized}

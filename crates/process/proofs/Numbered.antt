@@ -9,7 +9,7 @@ use lib.Dec.{eqb, ltb}
 use lib.ListN.{length, length-append, getD, List·getD-append}
 use lib.Seq.{getD-append-add}
 use borrow.Author.Tests.{eqb-true, eq-eqb, ltb-true, ltb-false}
-use Rattle.diagram.proofs.Truth.{cases, clash, is-false, or-l, or-r, or-e}
+use Rattle.diagram.proofs.Truth.{cases, is-false, or-l, or-r, or-e}
 use Rattle.process.specs.Process.{Event, Process, event, seq, join, again, rounds, owns, event-of, events}
 use Rattle.process.proofs.Lists.{Apart}
 

@@ -1,7 +1,7 @@
 -- One of two processes, neither of which has an empty run.
-use mathlib.Core.Path.{_≡_, refl, sym, _∙_, ap}
+use mathlib.Core.Path.{_≡_, sym, _∙_}
 use mathlib.Core.Logic.{_⊎_, inl, inr, _↔_, Iff·trans}
-use mathlib.Core.Bool.{Bool, true, false, not, _&&_, _||_, cond}
+use mathlib.Core.Bool.{true, false, _||_}
 use mathlib.Core.List.{List, [], _∷_, _++_}
 use Prim.Native.Nat.{ℕ}
 use Rattle.diagram.specs.Tree.{one}
@@ -11,7 +11,7 @@ use Rattle.process.specs.Runs.{Either, Whole, Begins}
 use Rattle.process.specs.Bits.{Bits, clears, begun, complete, enabled}
 use Rattle.process.proofs.Lists.{snoc≢nil, Apart, only, _or_}
 use Rattle.process.proofs.Seen.{Seen, Good, Nonempty, goes-on-alone, begins-whole}
-use Rattle.process.proofs.Parts.{after₂, In, alone-l, alone-r, rest-l, rest-r, more-l, more-r, begins₂}
+use Rattle.process.proofs.Parts.{after₂, alone-l, alone-r, rest-l, rest-r, more-l, more-r, begins₂}
 use Rattle.process.proofs.AllLaw.{Shared, own-part-l, own-part-r}
 use Rattle.process.proofs.SomeLaw.{shared-alone-l, shared-alone-r}
 

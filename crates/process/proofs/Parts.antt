@@ -1,13 +1,13 @@
 -- Two processes with different events, joined: each sees its own part of a list.
-use mathlib.Core.Path.{_≡_, refl, sym, _∙_, ap₂}
-use mathlib.Core.Bool.{Bool, true, false, _||_, or-false}
+use mathlib.Core.Path.{_≡_, _∙_, ap₂}
+use mathlib.Core.Bool.{Bool, true, _||_, or-false}
 use mathlib.Core.List.{List, [], _∷_, _++_}
 use Prim.Native.Nat.{ℕ}
 use Rattle.diagram.proofs.Truth.{is-false}
 use Rattle.process.specs.Process.{Process, owns}
-use Rattle.process.specs.Runs.{All, Whole, Begins}
+use Rattle.process.specs.Runs.{All, Begins}
 use Rattle.process.specs.Bits.{Bits, blank, clears, run, begun}
-use Rattle.process.proofs.Lists.{filled, all-append, all-in-l, all-in-r, Apart, apart-sym, only, only-all, only-none, only-snoc-in, only-snoc-out, _or_, mix-all-l, mix-all-r, mix-make, split-l, split-r, filled-only}
+use Rattle.process.proofs.Lists.{filled, Apart, apart-sym, only, only-all, only-none, only-snoc-in, only-snoc-out, _or_, mix-all-l, mix-all-r, mix-make, split-l, split-r, filled-only}
 use Rattle.process.proofs.Local.{closed, begins-inside, Within, after-only}
 use Rattle.process.proofs.Seen.{Seen, Good, seen-local}
 

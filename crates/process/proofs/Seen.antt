@@ -1,7 +1,7 @@
 -- What makes a process good: after any list that begins one of its runs, the bits say of it what the list does.
 use mathlib.Core.Path.{_≡_, sym, _∙_, ap}
 use mathlib.Core.Logic.{_↔_}
-use mathlib.Core.Bool.{Bool, true, false, not, _&&_}
+use mathlib.Core.Bool.{Bool, true, not, _&&_}
 use mathlib.Core.List.{List, [], _∷_, _++_, append-nil, append-assoc}
 use Prim.Native.Nat.{ℕ}
 use Rattle.diagram.proofs.Truth.{and-l, and-r, and-i, not-i, not-e}

@@ -1,7 +1,7 @@
 -- A nonempty choice of two processes, neither of which has an empty run.
 use mathlib.Core.Path.{_≡_, refl, sym, _∙_, ap}
 use mathlib.Core.Logic.{_⊎_, inl, inr, _↔_, Iff·trans, Iff·rfl}
-use mathlib.Core.Bool.{Bool, true, false, not, _&&_, _||_}
+use mathlib.Core.Bool.{true, not, _&&_, _||_}
 use mathlib.Core.List.{List, [], _∷_, _++_}
 use Prim.Native.Nat.{ℕ}
 use Rattle.diagram.specs.Tree.{some}
@@ -9,10 +9,10 @@ use Rattle.diagram.proofs.Truth.{clash, or-l, or-r, or-e, not-i, not-e}
 use Rattle.process.specs.Process.{Process, join, owns}
 use Rattle.process.specs.Runs.{Either, Both, Whole, Begins}
 use Rattle.process.specs.Bits.{Bits, clears, begun, complete, enabled}
-use Rattle.process.proofs.Lists.{filled, filled-nil, all-in-l, all-in-r, Apart, only, _or_}
+use Rattle.process.proofs.Lists.{filled, filled-nil, all-in-l, all-in-r, Apart, only}
 use Rattle.process.proofs.Local.{begins-inside}
 use Rattle.process.proofs.Seen.{Seen, Good, both-tests, Nonempty, begins-nil, begins-whole}
-use Rattle.process.proofs.Parts.{after₂, In, alone-l, alone-r, rest-l, rest-r, begins₂}
+use Rattle.process.proofs.Parts.{after₂, alone-l, alone-r, rest-l, rest-r, begins₂}
 use Rattle.process.proofs.AllLaw.{Shared, both→, both←, shared→, shared←, own-part-l, own-part-r, shared-goes-on}
 
 nonempty-filled : (p : Process) → Nonempty p → (w : List ℕ) → Whole p w → filled w ≡ true

@@ -1,10 +1,9 @@
 -- The starred lines of document 01 hold: one test computed over the whole table, and one law that turns a line's test into the line.
 use mathlib.Core.Path.{_≡_, refl}
-use mathlib.Core.Bool.{Bool, true, false, not, _&&_}
+use mathlib.Core.Bool.{Bool, true, not, _&&_}
 use mathlib.Core.List.{List, [], _∷_, _++_}
 use lib.Dec.{eqb}
 use borrow.Author.Tests.{eqb-true}
-use Rattle.diagram.specs.Tree.{Flow}
 use Rattle.diagram.specs.Count.{flow-events}
 use Rattle.diagram.specs.Rules.{flow-sized, flow-names, flow-parameters, each-flow}
 use Rattle.diagram.proofs.Truth.{and-l, and-r, clash, not-e}

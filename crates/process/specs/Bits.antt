@@ -3,7 +3,7 @@ use mathlib.Core.Bool.{Bool, true, false, not, _&&_, _||_, cond}
 use mathlib.Core.List.{List, [], _∷_}
 use Prim.Native.Nat.{ℕ}
 use lib.Dec.{eqb}
-use Rattle.diagram.specs.Tree.{Way, all, some, one}
+use Rattle.diagram.specs.Tree.{all, some, one}
 use Rattle.process.specs.Process.{Process, event, seq, join, again, rounds, owns}
 
 -- The control bits: one for each event.

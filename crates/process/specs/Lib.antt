@@ -4,4 +4,5 @@ pub mod Runs
 pub mod Bits
 pub mod Decide
 pub mod Once
+pub mod Readings
 pub mod Starred

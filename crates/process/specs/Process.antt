@@ -1,7 +1,7 @@
 -- A process: what a diagram stands for once each node is replaced by its copies and each event by its number.
 use mathlib.Core.Bool.{Bool, _||_, cond}
 use mathlib.Core.List.{List, [], _∷_, _++_}
-use Prim.Native.Nat.{ℕ, _+_}
+use Prim.Native.Nat.{ℕ}
 use lib.Dec.{eqb}
 use Rattle.diagram.specs.Tree.{Name, Way}
 

@@ -5,7 +5,7 @@ use mathlib.Core.Bool.{Bool, true}
 use mathlib.Core.List.{List, [], _∷_, _++_}
 use Prim.Native.Nat.{ℕ}
 use lib.Dec.{eqb}
-use Rattle.diagram.specs.Tree.{Way, all, some, one}
+use Rattle.diagram.specs.Tree.{all, some, one}
 use Rattle.process.specs.Process.{Process, event, seq, join, again, rounds}
 
 -- A set of lists of event numbers.

@@ -1,6 +1,6 @@
 -- The starred lines of document 01, "Drawings worked through", on the trees of T and U: one table.
 use mathlib.Core.Path.{_≡_}
-use mathlib.Core.Bool.{Bool, true, false, cond}
+use mathlib.Core.Bool.{Bool, cond}
 use mathlib.Core.List.{List, [], _∷_, _++_}
 use Prim.Native.Nat.{ℕ, _+_, _*_}
 use Rattle.diagram.specs.Tree.{Flow}
