@@ -101,11 +101,11 @@ pub between : (p : Process) (lo x : ℕ) → Numbered p lo → single p x ≡ tr
 between p lo x m s u v w h =
     let y : List ℕ = u ++ (x ∷ v) in
     let e : u ++ (x ∷ (v ++ (x ∷ w))) ≡ (y ++ (x ∷ [])) ++ w =
-        sym (append-assoc u (x ∷ v) (x ∷ w)) ∙ sym (append-assoc y (x ∷ []) w) in
+    sym (append-assoc u (x ∷ v) (x ∷ w)) ∙ sym (append-assoc y (x ∷ []) w) in
     let b : Begins p (y ++ (x ∷ [])) = begins-shorter p (y ++ (x ∷ [])) w (rw e at h) in
     let a : after p y x ≡ false = fresh p lo x m s y b in
     let c : run (clears p) (after p (u ++ (x ∷ []))) v x ≡ false =
-        ap (λ (t : Bits). t x) (sym (run-append (clears p) (u ++ (x ∷ [])) v blank) ∙ ap (after p) (append-assoc u (x ∷ []) v)) ∙ a in
+    ap (λ (t : Bits). t x) (sym (run-append (clears p) (u ++ (x ∷ [])) v blank) ∙ ap (after p) (append-assoc u (x ∷ []) v)) ∙ a in
     was-cleared (clears p) x v (after p (u ++ (x ∷ []))) (set-by (clears p) u x) c
 
 -- A leaf copy outside every loop is of that kind, and no reset clears its bit.

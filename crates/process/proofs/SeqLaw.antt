@@ -97,8 +97,8 @@ module _ (p q : Process) (d : Apart (owns p) (owns q)) where
         swap : Ordered (w ++ (x ∷ [])) → v ++ (x ∷ []) ≡ x ∷ v
         swap k =
             let e : u ++ (v ++ (x ∷ [])) ≡ u ++ (x ∷ v) =
-                sym (ap (λ (l : List ℕ). l ++ (x ∷ [])) (o .cut-at) ∙ append-assoc u v (x ∷ []))
-                ∙ (k .cut-at ∙ (ap₂ (λ (a b : List ℕ). a ++ b) (m .0) (m .1) ∙ append-assoc u (x ∷ []) v)) in
+            sym (ap (λ (l : List ℕ). l ++ (x ∷ [])) (o .cut-at) ∙ append-assoc u v (x ∷ []))
+            ∙ (k .cut-at ∙ (ap₂ (λ (a b : List ℕ). a ++ b) (m .0) (m .1) ∙ append-assoc u (x ∷ []) v)) in
             append-cancel-left u (v ++ (x ∷ [])) (x ∷ v) e
 
         to : Ordered (w ++ (x ∷ []))

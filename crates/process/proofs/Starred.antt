@@ -15,7 +15,6 @@ use Rattle.process.specs.Decide.{begins?, whole?}
 use Rattle.process.specs.Starred.{Line, whole, away, byte, table, Holds, Each, first-byte}
 use Rattle.process.proofs.Theorem.{begins-decided, whole-decided}
 
-
 abbrev test : Line → Bool
 test (whole d w) = keeps? d && whole? (expand d) w
 test (away d w e) = keeps? d && (begins? (expand d) w && not (begins? (expand d) (w ++ (e ∷ []))))
