@@ -5,18 +5,29 @@ use mathlib.Core.Bool.{true, false, cond}
 use mathlib.Core.List.{List, [], _∷_, _++_}
 use Prim.Native.Nat.{ℕ}
 use Rattle.diagram.specs.Tree.{all}
-use Rattle.diagram.proofs.Truth.{cases}
+use Rattle.diagram.proofs.Truth.{cases, or-l}
 use Rattle.process.specs.Process.{Process, join, owns}
 use Rattle.process.specs.Runs.{All, Both, Whole, Begins}
 use Rattle.process.specs.Bits.{clears, begun, complete, enabled}
-use Rattle.process.proofs.Lists.{all-append, all-left, all-right, all-in-l, all-in-r, Apart, only, only-append, _or_, mix-all, mix-l, mix-r, mix-make}
+use Rattle.process.proofs.Lists.{all-append, all-left, all-right, all-in-l, all-in-r, all-swap, Apart, apart-sym, only, only-append, _or_, mix-all, mix-l, mix-r, mix-make}
 use Rattle.process.proofs.Local.{inside}
 use Rattle.process.proofs.Seen.{Seen, Good, both-tests}
-use Rattle.process.proofs.Parts.{after₂, In, seen-l, seen-r, own-l, own-r, more-l, more-r, begins₂}
+use Rattle.process.proofs.Parts.{after₂, In, seen-l, seen-r, own-l, own-r, one-more, begins₂}
 
 -- Each part of the list begins a run of its process.
 abbrev pub Shared : Process → Process → List ℕ → Type 0
 Shared p q w = In p q w × Begins p (only (owns p) w) × Begins q (only (owns q) w)
+
+pub shared-swap : (p q : Process) (w : List ℕ) → Shared p q w → Shared q p w
+shared-swap p q w (i, a, b) = (all-swap (owns p) (owns q) w i, b, a)
+
+-- with one event more, of the first
+pub shared-more : (p q : Process) → Apart (owns p) (owns q) → (w : List ℕ) → Shared p q w → (x : ℕ) → owns p x ≡ true
+    → Shared p q (w ++ (x ∷ [])) ↔ Begins p (only (owns p) w ++ (x ∷ []))
+shared-more p q d w h x j =
+    let m = one-more p q d w x j in
+    let i : In p q (w ++ (x ∷ [])) = all-append (_or_ (owns p) (owns q)) w (x ∷ []) (h .0) (or-l (owns q x) j, tt) in
+    (λ k. rw (m .0) at (k .1), λ k. (i, rw (m .0) k, rw (m .1) (h .2)))
 
 module _ (p q : Process) (d : Apart (owns p) (owns q)) where
   -- a run of both: each part of it is a run of its process
@@ -47,21 +58,6 @@ module _ (p q : Process) (d : Apart (owns p) (owns q)) where
         ),
       )
 
-  -- with one event more
-  module _ (w : List ℕ) (h : Shared p q w) (x : ℕ) where
-    more-in : _or_ (owns p) (owns q) x ≡ true → In p q (w ++ (x ∷ []))
-    more-in i = all-append (_or_ (owns p) (owns q)) w (x ∷ []) (h .0) (i, tt)
-
-    pub shared-l : _or_ (owns p) (owns q) x ≡ true → owns p x ≡ true → Shared p q (w ++ (x ∷ [])) ↔ Begins p (only (owns p) w ++ (x ∷ []))
-    shared-l i j =
-        let m = more-l p q d w x j in
-        (λ k. rw (m .0) at (k .1), λ k. (more-in i, rw (m .0) k, rw (m .1) (h .2)))
-
-    pub shared-r : _or_ (owns p) (owns q) x ≡ true → owns q x ≡ true → Shared p q (w ++ (x ∷ [])) ↔ Begins q (only (owns q) w ++ (x ∷ []))
-    shared-r i j =
-        let m = more-r p q d w x j in
-        (λ k. rw (m .1) at (k .2), λ k. (more-in i, rw (m .0) (h .1), rw (m .1) k))
-
   pub all-shared : (w : List ℕ) → Begins (join all p q) w ↔ Shared p q w
   unfolding Whole
   all-shared w = (λ k. shared→ w (k .0) (k .1), shared← w)
@@ -85,10 +81,11 @@ module _ (p q : Process) (d : Apart (owns p) (owns q)) where
       where
         go : (owns p x ≡ true) ⊎ (owns p x ≡ false)
             → Shared p q (w ++ (x ∷ [])) ↔ (cond (owns p x) (enabled p (after₂ p q w) x) (enabled q (after₂ p q w) x) ≡ true)
-        go (inl j) = rw j (Iff·trans (shared-l w h x i j) (own-part-l .goes-on x j))
+        go (inl j) = rw j (Iff·trans (shared-more p q d w h x j) (own-part-l .goes-on x j))
         go (inr j) =
             let o : owns q x ≡ true = rw j at i in
-            rw j (Iff·trans (shared-r w h x i o) (own-part-r .goes-on x o))
+            let v = w ++ (x ∷ []) in
+            rw j (Iff·trans (shared-swap p q v, shared-swap q p v) (Iff·trans (shared-more q p (apart-sym d) w (shared-swap p q w h) x o) (own-part-r .goes-on x o)))
 
   pub all-good : Good p → Good q → Good (join all p q)
   unfolding Whole owns clears begun complete enabled

@@ -6,6 +6,7 @@ use mathlib.Core.List.{List, [], _∷_, _++_, append-assoc}
 use Prim.Native.Nat.{ℕ}
 use Rattle.process.specs.Process.{Process}
 use Rattle.process.specs.Runs.{Runs, Then, Mix, done, left, right, Both, Either, Whole}
+use Rattle.process.proofs.Lists.{mix-sym}
 
 -- The same runs.
 abbrev pub Same : Runs → Runs → Type 0
@@ -19,11 +20,6 @@ mix-assoc (left m) (left n) = let k = mix-assoc m n in (k .0, k .1, left (k .2))
 mix-assoc (left m) (right n) = let k = mix-assoc (left m) n in (_ ∷ k .0, right (k .1), right (k .2))
 mix-assoc (right m) (left n) = let k = mix-assoc m n in (_ ∷ k .0, left (k .1), right (k .2))
 mix-assoc (right m) (right n) = let k = mix-assoc (right m) n in (_ ∷ k .0, right (k .1), right (k .2))
-
-mix-sym : {u v w : List ℕ} → Mix u v w → Mix v u w
-mix-sym done = done
-mix-sym (left m) = right (mix-sym m)
-mix-sym (right m) = left (mix-sym m)
 
 mix-assoc′ : {v w z u y : List ℕ} → Mix v w z → Mix u z y → (x : List ℕ) × Mix u v x × Mix x w y
 mix-assoc′ m n = let k = mix-assoc (mix-sym m) (mix-sym n) in (k .0, mix-sym (k .1), mix-sym (k .2))

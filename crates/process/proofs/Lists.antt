@@ -1,7 +1,7 @@
 -- Lists of event numbers: their ends, what of them passes a test, and interleavings.
-use mathlib.Core.Path.{_≡_, refl, sym, ap, ap₂}
+use mathlib.Core.Path.{_≡_, refl, sym, _∙_, ap, ap₂}
 use mathlib.Core.Logic.{_⊎_, inl, inr}
-use mathlib.Core.Bool.{Bool, true, false, _||_, true≢false}
+use mathlib.Core.Bool.{Bool, true, false, _||_, true≢false, or-comm}
 use mathlib.Core.List.{List, [], _∷_, _++_, append-nil, cons≢nil, head-eq-of-cons-eq, tail-eq-of-cons-eq}
 use Prim.Native.Nat.{ℕ}
 use Rattle.diagram.proofs.Truth.{cases, is-false, or-l, or-r, or-e}
@@ -127,6 +127,9 @@ all-in-l I J w h = all-map (λ x k. or-l (J x) k) w h
 pub all-in-r : (I J : ℕ → Bool) (w : List ℕ) → All J w → All (_or_ I J) w
 all-in-r I J w h = all-map (λ x k. or-r (I x) k) w h
 
+pub all-swap : (I J : ℕ → Bool) (w : List ℕ) → All (_or_ I J) w → All (_or_ J I) w
+all-swap I J w h = all-map (λ x k. or-comm (J x) (I x) ∙ k) w h
+
 -- Interleavings.
 pub mix-append : (u v : List ℕ) → Mix u v (u ++ v)
 mix-append [] [] = done
@@ -148,39 +151,29 @@ mix-all-l done e = refl
 mix-all-l (left {x} r) e = ap (λ (l : List ℕ). x ∷ l) (mix-all-l r e)
 mix-all-l (right r) e = absurd (cons≢nil e)
 
-pub mix-all-r : {u v w : List ℕ} → Mix u v w → u ≡ [] → v ≡ w
-mix-all-r done e = refl
-mix-all-r (left r) e = absurd (cons≢nil e)
-mix-all-r (right {x} r) e = ap (λ (l : List ℕ). x ∷ l) (mix-all-r r e)
+pub mix-sym : {u v w : List ℕ} → Mix u v w → Mix v u w
+mix-sym done = done
+mix-sym (left m) = right (mix-sym m)
+mix-sym (right m) = left (mix-sym m)
 
-module _ (I J : ℕ → Bool) (d : Apart I J) where
-  pub mix-l : {u v w : List ℕ} → Mix u v w → All I u → All J v → only I w ≡ u
-  mix-l done h k = refl
-  mix-l (left {x} r) h k = rw (h .0, mix-l r (h .1) k)
-  mix-l (right {x} r) h k = rw (is-false (I x) (λ p. d x p (k .0)), mix-l r h (k .1))
+pub mix-l : (I J : ℕ → Bool) → Apart I J → {u v w : List ℕ} → Mix u v w → All I u → All J v → only I w ≡ u
+mix-l I J d done h k = refl
+mix-l I J d (left {x} r) h k = rw (h .0, mix-l I J d r (h .1) k)
+mix-l I J d (right {x} r) h k = rw (is-false (I x) (λ p. d x p (k .0)), mix-l I J d r h (k .1))
 
-  pub mix-r : {u v w : List ℕ} → Mix u v w → All I u → All J v → only J w ≡ v
-  mix-r done h k = refl
-  mix-r (left {x} r) h k = rw (is-false (J x) (λ p. d x (h .0) p), mix-r r (h .1) k)
-  mix-r (right {x} r) h k = rw (k .0, mix-r r h (k .1))
+pub mix-r : (I J : ℕ → Bool) → Apart I J → {u v w : List ℕ} → Mix u v w → All I u → All J v → only J w ≡ v
+mix-r I J d m h k = mix-l J I (apart-sym d) (mix-sym m) k h
 
-  -- A list whose elements are of the two parts is an interleaving of them.
-  pub mix-make : (w : List ℕ) → All (_or_ I J) w → Mix (only I w) (only J w) w
-  mix-make [] h = done
-  mix-make (x ∷ w) h = go (mix-make w (h .1)) (cases (I x))
-    where
-      go : Mix (only I w) (only J w) w → (I x ≡ true) ⊎ (I x ≡ false) → Mix (keep (I x) x (only I w)) (keep (J x) x (only J w)) (x ∷ w)
-      go r (inl p) = rw (p, is-false (J x) (λ q. d x p q)) (left r)
-      go r (inr p) =
-          let q : J x ≡ true = rw p at (h .0) in
-          rw (p, q) (right r)
-
-  -- Of two lists, one of each part, what is each part's.
-  pub split-l : (u v : List ℕ) → All I u → All J v → only I (u ++ v) ≡ u
-  split-l u v hu hv = mix-l (mix-append u v) hu hv
-
-  pub split-r : (u v : List ℕ) → All I u → All J v → only J (u ++ v) ≡ v
-  split-r u v hu hv = mix-r (mix-append u v) hu hv
+-- A list whose elements are of the two parts is an interleaving of them.
+pub mix-make : (I J : ℕ → Bool) → Apart I J → (w : List ℕ) → All (_or_ I J) w → Mix (only I w) (only J w) w
+mix-make I J d [] h = done
+mix-make I J d (x ∷ w) h = go (mix-make I J d w (h .1)) (cases (I x))
+  where
+    go : Mix (only I w) (only J w) w → (I x ≡ true) ⊎ (I x ≡ false) → Mix (keep (I x) x (only I w)) (keep (J x) x (only J w)) (x ∷ w)
+    go r (inl p) = rw (p, is-false (J x) (λ q. d x p q)) (left r)
+    go r (inr p) =
+        let q : J x ≡ true = rw p at (h .0) in
+        rw (p, q) (right r)
 
 pub filled-only : (I J : ℕ → Bool) (w : List ℕ) → All (_or_ I J) w → (filled (only I w) || filled (only J w)) ≡ filled w
 filled-only I J [] h = refl

@@ -7,7 +7,7 @@ use Rattle.diagram.proofs.Truth.{is-false}
 use Rattle.process.specs.Process.{Process, owns}
 use Rattle.process.specs.Runs.{All, Begins}
 use Rattle.process.specs.Bits.{Bits, blank, clears, run, begun}
-use Rattle.process.proofs.Lists.{filled, Apart, apart-sym, only, only-all, only-none, only-snoc-in, only-snoc-out, _or_, mix-all-l, mix-all-r, mix-make, split-l, split-r, filled-only}
+use Rattle.process.proofs.Lists.{filled, Apart, apart-sym, only, only-all, only-none, only-snoc-in, only-snoc-out, _or_, mix-append, mix-all-l, mix-l, mix-r, mix-make, filled-only}
 use Rattle.process.proofs.Local.{closed, begins-inside, Within, after-only}
 use Rattle.process.proofs.Seen.{Seen, Good, seen-local}
 
@@ -38,30 +38,21 @@ module _ (p q : Process) (d : Apart (owns p) (owns q)) where
 
   -- a list of the first's events and then of the second's
   pub own-l : (u v : List ℕ) → All (owns p) u → All (owns q) v → only (owns p) (u ++ v) ≡ u
-  own-l = split-l (owns p) (owns q) d
+  own-l u v = mix-l (owns p) (owns q) d (mix-append u v)
 
   pub own-r : (u v : List ℕ) → All (owns p) u → All (owns q) v → only (owns q) (u ++ v) ≡ v
-  own-r = split-r (owns p) (owns q) d
+  own-r u v = mix-r (owns p) (owns q) d (mix-append u v)
 
-  -- a list of one of them alone
-  pub alone-l : (w : List ℕ) → Begins p w → (only (owns p) w ≡ w) × (only (owns q) w ≡ [])
-  alone-l w h = let a = begins-inside p w h in (only-all (owns p) w a, only-none (owns q) (owns p) (apart-sym d) w a)
+  -- a list of the first alone
+  pub alone : (w : List ℕ) → Begins p w → (only (owns p) w ≡ w) × (only (owns q) w ≡ [])
+  alone w h = let a = begins-inside p w h in (only-all (owns p) w a, only-none (owns q) (owns p) (apart-sym d) w a)
 
-  pub alone-r : (w : List ℕ) → Begins q w → (only (owns p) w ≡ []) × (only (owns q) w ≡ w)
-  alone-r w h = let a = begins-inside q w h in (only-none (owns p) (owns q) d w a, only-all (owns q) w a)
+  pub rest : (w : List ℕ) → In p q w → only (owns q) w ≡ [] → only (owns p) w ≡ w
+  rest w i e = mix-all-l (mix-make (owns p) (owns q) d w i) e
 
-  pub rest-l : (w : List ℕ) → In p q w → only (owns q) w ≡ [] → only (owns p) w ≡ w
-  rest-l w i e = mix-all-l (mix-make (owns p) (owns q) d w i) e
-
-  pub rest-r : (w : List ℕ) → In p q w → only (owns p) w ≡ [] → only (owns q) w ≡ w
-  rest-r w i e = mix-all-r (mix-make (owns p) (owns q) d w i) e
-
-  -- one event more, of the first or of the second
-  pub more-l : (w : List ℕ) (x : ℕ) → owns p x ≡ true → (only (owns p) (w ++ (x ∷ [])) ≡ only (owns p) w ++ (x ∷ [])) × (only (owns q) (w ++ (x ∷ [])) ≡ only (owns q) w)
-  more-l w x h = (only-snoc-in (owns p) w x h, only-snoc-out (owns q) w x (is-false (owns q x) (λ k. d x h k)))
-
-  pub more-r : (w : List ℕ) (x : ℕ) → owns q x ≡ true → (only (owns p) (w ++ (x ∷ [])) ≡ only (owns p) w) × (only (owns q) (w ++ (x ∷ [])) ≡ only (owns q) w ++ (x ∷ []))
-  more-r w x h = (only-snoc-out (owns p) w x (is-false (owns p x) (λ k. d x k h)), only-snoc-in (owns q) w x h)
+  -- one event more, of the first
+  pub one-more : (w : List ℕ) (x : ℕ) → owns p x ≡ true → (only (owns p) (w ++ (x ∷ [])) ≡ only (owns p) w ++ (x ∷ [])) × (only (owns q) (w ++ (x ∷ [])) ≡ only (owns q) w)
+  one-more w x h = (only-snoc-in (owns p) w x h, only-snoc-out (owns q) w x (is-false (owns q x) (λ k. d x h k)))
 
   -- whatever joins them, one of them is begun exactly if the list has an element
   pub begins₂ : (w : List ℕ) → In p q w → Seen p (after₂ p q w) (only (owns p) w) → Seen q (after₂ p q w) (only (owns q) w)

@@ -8,10 +8,10 @@ use Rattle.diagram.proofs.Truth.{cases, clash, is-false}
 use Rattle.process.specs.Process.{Process, seq, owns}
 use Rattle.process.specs.Runs.{All, Then, Whole, Begins}
 use Rattle.process.specs.Bits.{Bits, clears, begun, complete, enabled}
-use Rattle.process.proofs.Lists.{snoc≢nil, Cut, cut, all-append, all-in-l, all-in-r, Apart, only, _or_}
+use Rattle.process.proofs.Lists.{snoc≢nil, Cut, cut, all-append, all-in-l, all-in-r, Apart, apart-sym, only, _or_}
 use Rattle.process.proofs.Local.{run-of, inside, begins-inside}
 use Rattle.process.proofs.Seen.{Seen, Good, both-tests, goes-on-alone, begins-nil, begins-whole}
-use Rattle.process.proofs.Parts.{after₂, In, seen-l, seen-r, own-l, own-r, alone-l, more-l, more-r, begins₂}
+use Rattle.process.proofs.Parts.{after₂, In, seen-l, seen-r, own-l, own-r, alone, one-more, begins₂}
 
 -- an element that may stand before or after a list of others finds no others
 no-swap : (J : ℕ → Bool) (x : ℕ) (v : List ℕ) → J x ≡ false → All J v → v ++ (x ∷ []) ≡ x ∷ v → v ≡ []
@@ -26,7 +26,7 @@ module _ (p q : Process) (d : Apart (owns p) (owns q)) where
 
   first : (w : List ℕ) → Begins p w → Ordered w
   first w h =
-      let a = alone-l p q d w h in
+      let a = alone p q d w h in
       record { cut-at = rw (a .0, a .1) (sym (append-nil w)); turn = inl (rw (a .0) h, a .1) }
 
   second : (w u v : List ℕ) → w ≡ u ++ v → Whole p u → Begins q v → Ordered w
@@ -92,7 +92,7 @@ module _ (p q : Process) (d : Apart (owns p) (owns q)) where
     ordered-l x j = (λ k. to k (k .turn), from)
       where
         m : (only (owns p) (w ++ (x ∷ [])) ≡ u ++ (x ∷ [])) × (only (owns q) (w ++ (x ∷ [])) ≡ v)
-        m = more-l p q d w x j
+        m = one-more p q d w x j
 
         swap : Ordered (w ++ (x ∷ [])) → v ++ (x ∷ []) ≡ x ∷ v
         swap k =
@@ -118,13 +118,13 @@ module _ (p q : Process) (d : Apart (owns p) (owns q)) where
     ordered-r : (x : ℕ) → owns q x ≡ true → Ordered (w ++ (x ∷ [])) ↔ (Begins q (v ++ (x ∷ [])) × Whole p u)
     ordered-r x j = (λ k. to (k .turn), from)
       where
-        m : (only (owns p) (w ++ (x ∷ [])) ≡ u) × (only (owns q) (w ++ (x ∷ [])) ≡ v ++ (x ∷ []))
-        m = more-r p q d w x j
+        m : (only (owns q) (w ++ (x ∷ [])) ≡ v ++ (x ∷ [])) × (only (owns p) (w ++ (x ∷ [])) ≡ u)
+        m = one-more q p (apart-sym d) w x j
 
         to : (Begins p (only (owns p) (w ++ (x ∷ []))) × (only (owns q) (w ++ (x ∷ [])) ≡ [])) ⊎ (Begins q (only (owns q) (w ++ (x ∷ []))) × Whole p (only (owns p) (w ++ (x ∷ []))))
             → Begins q (v ++ (x ∷ [])) × Whole p u
-        to (inl t) = absurd (snoc≢nil v x (sym (m .1) ∙ t .1))
-        to (inr t) = (rw (m .1) at (t .0), rw (m .0) at (t .1))
+        to (inl t) = absurd (snoc≢nil v x (sym (m .0) ∙ t .1))
+        to (inr t) = (rw (m .0) at (t .0), rw (m .1) at (t .1))
 
         from : Begins q (v ++ (x ∷ [])) × Whole p u → Ordered (w ++ (x ∷ []))
         from (h, k) = second (w ++ (x ∷ [])) u (v ++ (x ∷ [])) (ap (λ (l : List ℕ). l ++ (x ∷ [])) (o .cut-at) ∙ append-assoc u v (x ∷ [])) k h

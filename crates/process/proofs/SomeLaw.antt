@@ -9,11 +9,11 @@ use Rattle.diagram.proofs.Truth.{clash, or-l, or-r, or-e, not-i, not-e}
 use Rattle.process.specs.Process.{Process, join, owns}
 use Rattle.process.specs.Runs.{Either, Both, Whole, Begins}
 use Rattle.process.specs.Bits.{Bits, clears, begun, complete, enabled}
-use Rattle.process.proofs.Lists.{filled, filled-nil, all-in-l, all-in-r, Apart, only}
+use Rattle.process.proofs.Lists.{filled, filled-nil, all-in-l, all-swap, Apart, apart-sym, only}
 use Rattle.process.proofs.Local.{begins-inside}
 use Rattle.process.proofs.Seen.{Seen, Good, both-tests, Nonempty, begins-nil, begins-whole}
-use Rattle.process.proofs.Parts.{after₂, alone-l, alone-r, rest-l, rest-r, begins₂}
-use Rattle.process.proofs.AllLaw.{Shared, both→, both←, shared→, shared←, own-part-l, own-part-r, shared-goes-on}
+use Rattle.process.proofs.Parts.{after₂, alone, rest, begins₂}
+use Rattle.process.proofs.AllLaw.{Shared, shared-swap, both→, both←, shared→, shared←, own-part-l, own-part-r, shared-goes-on}
 
 nonempty-filled : (p : Process) → Nonempty p → (w : List ℕ) → Whole p w → filled w ≡ true
 nonempty-filled p n [] h = absurd (n h)
@@ -34,25 +34,20 @@ part-ends p {s} {u} S = (to, λ k. from (or-e (complete p s) (not (begun p s)) k
     from (inl h) = inl (S .ends .1 h)
     from (inr h) = inr (filled-nil u (sym (S .begins) ∙ not-e (begun p s) h))
 
+-- a run of the first alone
+pub shared-alone : (p q : Process) → Apart (owns p) (owns q) → (w : List ℕ) → Begins p w → Shared p q w
+shared-alone p q d w h =
+    let a = alone p q d w h in
+    (all-in-l (owns p) (owns q) w (begins-inside p w h), rw (a .0) h, rw (a .1) (begins-nil q))
+
 module _ (p q : Process) (d : Apart (owns p) (owns q)) where
-  -- a run of one of them alone
-  pub shared-alone-l : (w : List ℕ) → Begins p w → Shared p q w
-  shared-alone-l w h =
-      let a = alone-l p q d w h in
-      (all-in-l (owns p) (owns q) w (begins-inside p w h), rw (a .0) h, rw (a .1) (begins-nil q))
-
-  pub shared-alone-r : (w : List ℕ) → Begins q w → Shared p q w
-  shared-alone-r w h =
-      let a = alone-r p q d w h in
-      (all-in-r (owns p) (owns q) w (begins-inside q w h), rw (a .0) (begins-nil p), rw (a .1) h)
-
   pub some-shared : (w : List ℕ) → Begins (join some p q) w ↔ Shared p q w
   unfolding Whole
   some-shared w = (to, λ k. let r = shared← p q d w k in (r .0, inr (r .1)))
     where
       to : (x : List ℕ) × Either (Either (Whole p) (Whole q)) (Both (Whole p) (Whole q)) (w ++ x) → Shared p q w
-      to (x, inl (inl h)) = shared-alone-l w (x, h)
-      to (x, inl (inr h)) = shared-alone-r w (x, h)
+      to (x, inl (inl h)) = shared-alone p q d w (x, h)
+      to (x, inl (inr h)) = shared-swap q p w (shared-alone q p (apart-sym d) w (x, h))
       to (x, inr h) = shared→ p q d w x h
 
   module _ (np : Nonempty p) (nq : Nonempty q) (G : Good p) (H : Good q) (w : List ℕ) (h : Shared p q w) where
@@ -69,11 +64,11 @@ module _ (p q : Process) (d : Apart (owns p) (owns q)) where
     parts→ : Whole (join some p q) w → (filled w ≡ true) × Part p (only (owns p) w) × Part q (only (owns q) w)
     unfolding Whole
     parts→ (inl (inl k)) =
-        let a = alone-l p q d w (begins-whole p w k) in
+        let a = alone p q d w (begins-whole p w k) in
         (nonempty-filled p np w k, inl (rw (a .0) k), inr (a .1))
     parts→ (inl (inr k)) =
-        let a = alone-r p q d w (begins-whole q w k) in
-        (nonempty-filled q nq w k, inr (a .0), inl (rw (a .1) k))
+        let a = alone q p (apart-sym d) w (begins-whole q w k) in
+        (nonempty-filled q nq w k, inr (a .1), inl (rw (a .0) k))
     parts→ (inr k) =
         let m = both→ p q d w k in
         (sym (begins₂ p q d w (m .0) S R) ∙ or-l (begun q s) (S .begins ∙ nonempty-filled p np (only (owns p) w) (m .1)), inl (m .1), inl (m .2))
@@ -81,9 +76,9 @@ module _ (p q : Process) (d : Apart (owns p) (owns q)) where
     parts← : filled w ≡ true → Part p (only (owns p) w) → Part q (only (owns q) w) → Whole (join some p q) w
     unfolding Whole
     parts← f (inl a) (inl b) = inr (both← p q d w (h .0, a, b))
-    parts← f (inl a) (inr b) = inl (inl (rw (rest-l p q d w (h .0) b) at a))
-    parts← f (inr a) (inl b) = inl (inr (rw (rest-r p q d w (h .0) a) at b))
-    parts← f (inr a) (inr b) = absurd (clash f (ap filled (sym (rest-l p q d w (h .0) b) ∙ a)))
+    parts← f (inl a) (inr b) = inl (inl (rw (rest p q d w (h .0) b) at a))
+    parts← f (inr a) (inl b) = inl (inr (rw (rest q p (apart-sym d) w (all-swap (owns p) (owns q) w (h .0)) a) at b))
+    parts← f (inr a) (inr b) = absurd (clash f (ap filled (sym (rest p q d w (h .0) b) ∙ a)))
 
     some-ends : Whole (join some p q) w ↔ (complete (join some p q) s ≡ true)
     unfolding complete
