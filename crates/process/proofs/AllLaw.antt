@@ -8,7 +8,8 @@ use Rattle.diagram.specs.Tree.{all}
 use Rattle.diagram.proofs.Truth.{cases, or-l}
 use Rattle.process.specs.Process.{Process, join, owns}
 use Rattle.process.specs.Runs.{All, Both, Whole, Begins}
-use Rattle.process.specs.Bits.{clears, begun, complete, enabled}
+use Rattle.process.specs.Bits.{clears}
+use Rattle.process.specs.Guards.{begun, complete, enabled}
 use Rattle.process.proofs.Lists.{all-append, all-left, all-right, all-in-l, all-in-r, all-swap, Apart, apart-sym, only, only-append, _or_, mix-all, mix-l, mix-r, mix-make}
 use Rattle.process.proofs.Local.{inside}
 use Rattle.process.proofs.Seen.{Seen, Good, both-tests}

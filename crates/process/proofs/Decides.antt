@@ -7,7 +7,8 @@ use Prim.Native.Nat.{ℕ}
 use Rattle.diagram.proofs.Truth.{and-l, and-r, and-i}
 use Rattle.process.specs.Process.{Process, owns}
 use Rattle.process.specs.Runs.{Whole, Begins}
-use Rattle.process.specs.Bits.{blank, clears, take, after, complete, enabled}
+use Rattle.process.specs.Bits.{blank, clears, take, after}
+use Rattle.process.specs.Guards.{complete, enabled}
 use Rattle.process.specs.Decide.{takes, begins?, whole?}
 use Rattle.process.proofs.Lists.{all-right}
 use Rattle.process.proofs.Local.{begins-inside, run-append}

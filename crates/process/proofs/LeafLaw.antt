@@ -9,7 +9,8 @@ use borrow.Author.Tests.{eqb-true, eq-eqb}
 use Rattle.diagram.proofs.Truth.{clash, or-l, or-r, not-i, not-e}
 use Rattle.process.specs.Process.{Event, event, again, owns}
 use Rattle.process.specs.Runs.{All, Whole}
-use Rattle.process.specs.Bits.{Bits, blank, clears, take, run, begun, complete, enabled}
+use Rattle.process.specs.Bits.{Bits, blank, clears, take, run}
+use Rattle.process.specs.Guards.{begun, complete, enabled}
 use Rattle.process.proofs.Lists.{filled, all-append, all-left}
 use Rattle.process.proofs.Seen.{Good}
 

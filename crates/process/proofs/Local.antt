@@ -10,7 +10,8 @@ use Rattle.diagram.specs.Tree.{all, some, one}
 use Rattle.diagram.proofs.Truth.{cases, clash, is-false, or-l, or-r, or-e}
 use Rattle.process.specs.Process.{Process, event, seq, join, again, rounds, owns}
 use Rattle.process.specs.Runs.{All, Rounds, stop, more, Whole, Begins}
-use Rattle.process.specs.Bits.{Bits, blank, clears, take, run, after, begun, complete, enabled}
+use Rattle.process.specs.Bits.{Bits, blank, clears, take, run, after}
+use Rattle.process.specs.Guards.{begun, complete, enabled}
 use Rattle.process.proofs.Lists.{all-append, all-left, all-in-l, all-in-r, keep, only, _or_, mix-all, mix-append}
 
 -- Runs

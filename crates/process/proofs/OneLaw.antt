@@ -8,7 +8,8 @@ use Rattle.diagram.specs.Tree.{one}
 use Rattle.diagram.proofs.Truth.{cases, or-l, or-r, or-e}
 use Rattle.process.specs.Process.{Process, join, owns}
 use Rattle.process.specs.Runs.{Either, Whole, Begins}
-use Rattle.process.specs.Bits.{Bits, clears, begun, complete, enabled}
+use Rattle.process.specs.Bits.{Bits, clears}
+use Rattle.process.specs.Guards.{begun, complete, enabled}
 use Rattle.process.proofs.Lists.{snoc≢nil, all-swap, Apart, apart-sym, only, _or_}
 use Rattle.process.proofs.Seen.{Seen, Good, Nonempty, goes-on-alone, begins-whole}
 use Rattle.process.proofs.Parts.{after₂, alone, rest, one-more, begins₂}

@@ -6,7 +6,8 @@ use Prim.Native.Nat.{ℕ}
 use Rattle.diagram.proofs.Truth.{is-false}
 use Rattle.process.specs.Process.{Process, owns}
 use Rattle.process.specs.Runs.{All, Begins}
-use Rattle.process.specs.Bits.{Bits, blank, clears, run, begun}
+use Rattle.process.specs.Bits.{Bits, blank, clears, run}
+use Rattle.process.specs.Guards.{begun}
 use Rattle.process.proofs.Lists.{filled, Apart, apart-sym, only, only-all, only-none, only-snoc-in, only-snoc-out, _or_, mix-append, mix-all-l, mix-l, mix-r, mix-make, filled-only}
 use Rattle.process.proofs.Local.{closed, begins-inside, Within, after-only}
 use Rattle.process.proofs.Seen.{Seen, Good, seen-local}

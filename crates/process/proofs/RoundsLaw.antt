@@ -9,7 +9,8 @@ use borrow.Author.Tests.{eqb-true, eq-eqb}
 use Rattle.diagram.proofs.Truth.{cases, clash, is-false, or-r, not-i, not-e}
 use Rattle.process.specs.Process.{Event, Process, rounds, owns}
 use Rattle.process.specs.Runs.{Runs, All, Rounds, stop, more, Whole, Begins}
-use Rattle.process.specs.Bits.{Bits, blank, clears, take, run, after, begun, complete, enabled}
+use Rattle.process.specs.Bits.{Bits, blank, clears, take, run, after}
+use Rattle.process.specs.Guards.{begun, complete, enabled}
 use Rattle.process.proofs.Lists.{filled, filled-nil, filled-append, filled-snoc, snoc≢nil, Cut, cut, last, snoc-eq, all-right}
 use Rattle.process.proofs.Local.{begins-inside, closed, Agree, begun-local, run-append}
 use Rattle.process.proofs.Seen.{Seen, Good, seen-local, begins-nil, begins-whole, begins-shorter}

@@ -7,7 +7,8 @@ use Prim.Native.Nat.{ℕ}
 use Rattle.diagram.proofs.Truth.{and-l, and-r, and-i, not-i, not-e}
 use Rattle.process.specs.Process.{Process, owns}
 use Rattle.process.specs.Runs.{Whole, Begins}
-use Rattle.process.specs.Bits.{Bits, after, begun, complete, enabled}
+use Rattle.process.specs.Bits.{Bits, after}
+use Rattle.process.specs.Guards.{begun, complete, enabled}
 use Rattle.process.proofs.Lists.{filled, filled-nil}
 use Rattle.process.proofs.Local.{run-of, Agree, begun-local, complete-local, enabled-local}
 

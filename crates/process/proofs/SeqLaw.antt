@@ -7,7 +7,8 @@ use Prim.Native.Nat.{ℕ}
 use Rattle.diagram.proofs.Truth.{cases, clash, is-false}
 use Rattle.process.specs.Process.{Process, seq, owns}
 use Rattle.process.specs.Runs.{All, Then, Whole, Begins}
-use Rattle.process.specs.Bits.{Bits, clears, begun, complete, enabled}
+use Rattle.process.specs.Bits.{Bits, clears}
+use Rattle.process.specs.Guards.{begun, complete, enabled}
 use Rattle.process.proofs.Lists.{snoc≢nil, Cut, cut, all-append, all-in-l, all-in-r, Apart, apart-sym, only, _or_}
 use Rattle.process.proofs.Local.{run-of, inside, begins-inside}
 use Rattle.process.proofs.Seen.{Seen, Good, both-tests, goes-on-alone, begins-nil, begins-whole}

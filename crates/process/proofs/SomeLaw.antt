@@ -8,7 +8,8 @@ use Rattle.diagram.specs.Tree.{some}
 use Rattle.diagram.proofs.Truth.{clash, or-l, or-r, or-e, not-i, not-e}
 use Rattle.process.specs.Process.{Process, join, owns}
 use Rattle.process.specs.Runs.{Either, Both, Whole, Begins}
-use Rattle.process.specs.Bits.{Bits, clears, begun, complete, enabled}
+use Rattle.process.specs.Bits.{Bits, clears}
+use Rattle.process.specs.Guards.{begun, complete, enabled}
 use Rattle.process.proofs.Lists.{filled, filled-nil, all-in-l, all-swap, Apart, apart-sym, only}
 use Rattle.process.proofs.Local.{begins-inside}
 use Rattle.process.proofs.Seen.{Seen, Good, both-tests, Nonempty, begins-nil, begins-whole}

@@ -10,7 +10,8 @@ use Rattle.diagram.proofs.Truth.{and-l, and-r, clash, not-e}
 use Rattle.diagram.proofs.Kept.{keeps?, keeps}
 use Rattle.process.specs.Process.{owns}
 use Rattle.process.specs.Expand.{expand, flow-process}
-use Rattle.process.specs.Bits.{after, clears, begun, complete, enabled}
+use Rattle.process.specs.Bits.{after, clears}
+use Rattle.process.specs.Guards.{begun, complete, enabled}
 use Rattle.process.specs.Decide.{begins?, whole?}
 use Rattle.process.specs.Starred.{Line, whole, away, byte, table, Holds, Each, first-byte}
 use Rattle.process.proofs.Theorem.{begins-decided, whole-decided}

@@ -12,7 +12,8 @@ use Rattle.diagram.proofs.Truth.{clash, and-l, and-r, and-i}
 use Rattle.process.specs.Process.{owns}
 use Rattle.process.specs.Expand.{expand}
 use Rattle.process.specs.Runs.{Whole, Begins}
-use Rattle.process.specs.Bits.{after, begun, complete, enabled}
+use Rattle.process.specs.Bits.{after}
+use Rattle.process.specs.Guards.{begun, complete, enabled}
 use Rattle.process.specs.Decide.{begins?, whole?}
 use Rattle.process.proofs.Lists.{filled}
 use Rattle.process.proofs.Local.{run-of}

@@ -3,7 +3,8 @@ use mathlib.Core.Bool.{Bool, true, _&&_}
 use mathlib.Core.List.{List, [], _∷_}
 use Prim.Native.Nat.{ℕ}
 use Rattle.process.specs.Process.{Process, owns}
-use Rattle.process.specs.Bits.{Bits, blank, clears, take, after, complete, enabled}
+use Rattle.process.specs.Bits.{Bits, blank, clears, take, after}
+use Rattle.process.specs.Guards.{complete, enabled}
 
 -- Each event is one of the process, and enabled where it is taken.
 abbrev pub takes : Process → Bits → List ℕ → Bool
