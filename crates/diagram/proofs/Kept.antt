@@ -3,7 +3,11 @@ use mathlib.Core.Path.{_≡_}
 use mathlib.Core.Bool.{Bool, true, _&&_}
 use mathlib.Core.List.{[]}
 use Rattle.diagram.specs.Tree.{Flow}
-use Rattle.diagram.specs.Rules.{flow-sized, flow-names, differ, flow-parameters, each-flow, solid, strong, Keeps}
+use Rattle.diagram.specs.Sizes.{flow-sized}
+use Rattle.diagram.specs.Names.{flow-names, differ}
+use Rattle.diagram.specs.Parameters.{flow-parameters}
+use Rattle.diagram.specs.Flows.{each-flow, solid, strong}
+use Rattle.diagram.specs.Rules.{Keeps}
 use Rattle.diagram.proofs.Truth.{and-l, and-r}
 
 abbrev pub keeps? : Flow → Bool

@@ -10,7 +10,7 @@ use native.Mathlib.Omega.{arith}
 use lib.ListN.{length, getD}
 use Rattle.diagram.specs.Tree.{Flow, Child, Member, inner}
 use Rattle.diagram.specs.Count.{flow-events, child-events, member-events}
-use Rattle.diagram.specs.Rules.{flow-sized, child-sized, member-sized}
+use Rattle.diagram.specs.Sizes.{flow-sized, child-sized, member-sized}
 use Rattle.process.specs.Process.{Event, Process, rounds, owns, event-of, events}
 use Rattle.process.specs.Expand.{expand, reset-of, flow-process, child-process, loop-process, member-process}
 use Rattle.process.specs.Bits.{clears}

@@ -10,7 +10,8 @@ use lib.Dec.{leb}
 use borrow.Author.Tests.{leb-true}
 use Rattle.diagram.specs.Tree.{Way, Flow, flow, Children, none, next, Child, plain, loop, group, replicator, Member, leaf, inner, Members, end, also}
 use Rattle.diagram.specs.Count.{flow-events, children-events, child-events, loop-events, member-events, members-events}
-use Rattle.diagram.specs.Rules.{may-be-solid, none-solid, one-solid, solid, each-flow, children-flows, child-flows, member-flows, members-flows, flow-sized, children-sized, child-sized, member-sized, members-sized}
+use Rattle.diagram.specs.Sizes.{flow-sized, children-sized, child-sized, member-sized, members-sized}
+use Rattle.diagram.specs.Flows.{may-be-solid, none-solid, one-solid, solid, each-flow, children-flows, child-flows, member-flows, members-flows}
 use Rattle.diagram.proofs.Truth.{and-l, and-r}
 use Rattle.process.specs.Process.{Event, Process, event, seq, join, again, rounds}
 use Rattle.process.specs.Expand.{leaf-copy, reset-of, copies, flow-process, children-process, child-process, loop-process, member-process, members-process}

@@ -5,7 +5,7 @@ use mathlib.Core.Bool.{true}
 use mathlib.Core.List.{List, _∷_, _++_}
 use Prim.Native.Nat.{ℕ, _≤_}
 use Rattle.diagram.specs.Tree.{Flow}
-use Rattle.diagram.specs.Rules.{flow-sized}
+use Rattle.diagram.specs.Sizes.{flow-sized}
 use Rattle.diagram.proofs.Truth.{clash}
 use Rattle.process.specs.Process.{event-of}
 use Rattle.process.specs.Expand.{expand}

@@ -5,7 +5,10 @@ use mathlib.Core.List.{List, [], _∷_, _++_}
 use lib.Dec.{eqb}
 use borrow.Author.Tests.{eqb-true}
 use Rattle.diagram.specs.Count.{flow-events}
-use Rattle.diagram.specs.Rules.{flow-sized, flow-names, flow-parameters, each-flow}
+use Rattle.diagram.specs.Sizes.{flow-sized}
+use Rattle.diagram.specs.Names.{flow-names}
+use Rattle.diagram.specs.Parameters.{flow-parameters}
+use Rattle.diagram.specs.Flows.{each-flow}
 use Rattle.diagram.proofs.Truth.{and-l, and-r, clash, not-e}
 use Rattle.diagram.proofs.Kept.{keeps?, keeps}
 use Rattle.process.specs.Process.{owns}
