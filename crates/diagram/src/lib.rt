@@ -1,0 +1,1 @@
+// No code yet: the trees, counts and rules are definitions in specs/.

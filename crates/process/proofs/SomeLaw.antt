@@ -5,14 +5,14 @@ use mathlib.Core.Bool.{true, not, _&&_, _||_}
 use mathlib.Core.List.{List, [], _∷_, _++_}
 use Prim.Native.Nat.{ℕ}
 use Rattle.diagram.specs.Tree.{some}
-use Rattle.diagram.proofs.Truth.{clash, or-l, or-r, or-e, not-i, not-e}
+use Rattle.diagram.proofs.Truth.{clash, or-l, or-r, or-e}
 use Rattle.process.specs.Process.{Process, join, owns}
 use Rattle.process.specs.Runs.{Either, Both, Whole, Begins}
 use Rattle.process.specs.Bits.{Bits, clears}
 use Rattle.process.specs.Guards.{begun, complete, enabled}
-use Rattle.process.proofs.Lists.{filled, filled-nil, all-in-l, all-swap, Apart, apart-sym, only}
+use Rattle.process.proofs.Lists.{filled, all-in-l, all-swap, Apart, apart-sym, only}
 use Rattle.process.proofs.Local.{begins-inside}
-use Rattle.process.proofs.Seen.{Seen, Good, both-tests, Nonempty, begins-nil, begins-whole}
+use Rattle.process.proofs.Seen.{Seen, Good, not-begun, both-tests, Nonempty, begins-nil, begins-whole}
 use Rattle.process.proofs.Parts.{after₂, alone, rest, begins₂}
 use Rattle.process.proofs.AllLaw.{Shared, shared-swap, both→, both←, shared→, shared←, own-part-l, own-part-r, shared-goes-on}
 
@@ -29,11 +29,11 @@ part-ends p {s} {u} S = (to, λ k. from (or-e (complete p s) (not (begun p s)) k
   where
     to : Part p u → (complete p s || not (begun p s)) ≡ true
     to (inl h) = or-l (not (begun p s)) (S .ends .0 h)
-    to (inr h) = or-r (complete p s) (not-i (rw h at (S .begins)))
+    to (inr h) = or-r (complete p s) (not-begun p S .0 h)
 
     from : (complete p s ≡ true) ⊎ (not (begun p s) ≡ true) → Part p u
     from (inl h) = inl (S .ends .1 h)
-    from (inr h) = inr (filled-nil u (sym (S .begins) ∙ not-e (begun p s) h))
+    from (inr h) = inr (not-begun p S .1 h)
 
 -- a run of the first alone
 pub shared-alone : (p q : Process) → Apart (owns p) (owns q) → (w : List ℕ) → Begins p w → Shared p q w
@@ -88,7 +88,7 @@ module _ (p q : Process) (d : Apart (owns p) (owns q)) where
         (both-tests (complete p s || not (begun p s)) (complete q s || not (begun q s)) (part-ends p S) (part-ends q R)))
 
   pub some-good : Nonempty p → Nonempty q → Good p → Good q → Good (join some p q)
-  unfolding owns clears begun complete enabled S R
+  unfolding owns clears begun complete enabled
   some-good np nq G H w h =
       let k = some-shared w .0 h in
       record {

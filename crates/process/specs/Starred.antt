@@ -9,17 +9,17 @@ use Rattle.process.specs.Expand.{expand}
 use Rattle.process.specs.Runs.{Whole, Begins}
 use Rattle.process.specs.Bits.{Bits, after}
 
--- A line: these events of a drawing are a whole run; of these events the one after them is turned away; after these events the first
--- byte of the record is this.
+-- A line of a drawing: these events are a whole run; these begin one, and the next is refused; after these the first byte of the record is
+-- this.
 pub data Line : Type 0 where
   whole : Flow → List ℕ → Line
-  away : Flow → List ℕ → ℕ → Line
+  refused : Flow → List ℕ → ℕ → Line
   byte : Flow → List ℕ → ℕ → Line
 
 abbrev pub table : List Line
 table =
-    whole T (0 ∷ 2 ∷ 4 ∷ []) ∷ whole T (0 ∷ 1 ∷ 1 ∷ 3 ∷ 4 ∷ []) ∷ away T (0 ∷ 2 ∷ []) 3 ∷ away T (0 ∷ 2 ∷ 4 ∷ []) 4 ∷ away T (0 ∷ 2 ∷ []) 1
-    ∷ whole U (3 ∷ []) ∷ whole U (0 ∷ 1 ∷ 2 ∷ 3 ∷ []) ∷ away U (0 ∷ 1 ∷ []) 3 ∷ away U (0 ∷ []) 3
+    whole T (0 ∷ 2 ∷ 4 ∷ []) ∷ whole T (0 ∷ 1 ∷ 1 ∷ 3 ∷ 4 ∷ []) ∷ refused T (0 ∷ 2 ∷ []) 3 ∷ refused T (0 ∷ 2 ∷ 4 ∷ []) 4 ∷ refused T (0 ∷ 2 ∷ []) 1
+    ∷ whole U (3 ∷ []) ∷ whole U (0 ∷ 1 ∷ 2 ∷ 3 ∷ []) ∷ refused U (0 ∷ 1 ∷ []) 3 ∷ refused U (0 ∷ []) 3
     ∷ byte U (0 ∷ 1 ∷ []) 192 ∷ byte U (0 ∷ 1 ∷ 2 ∷ []) 32 ∷ byte U (0 ∷ 1 ∷ 2 ∷ 3 ∷ []) 48 ∷ []
 
 abbrev bit : Bool → ℕ
@@ -33,7 +33,7 @@ first-byte s =
 -- What a line says.
 abbrev pub Holds : Line → Type 0
 Holds (whole d w) = Whole (expand d) w
-Holds (away d w e) = Begins (expand d) w × (Begins (expand d) (w ++ (e ∷ [])) → ⊥)
+Holds (refused d w e) = Begins (expand d) w × (Begins (expand d) (w ++ (e ∷ [])) → ⊥)
 Holds (byte d w b) = Begins (expand d) w × (first-byte (after (expand d) w) ≡ b)
 
 abbrev pub Each : List Line → Type 0

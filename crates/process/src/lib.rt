@@ -1,0 +1,1 @@
+// No code: the meaning is definitions in specs/ and theorems in proofs/.
