@@ -7,9 +7,8 @@ use Prim.Native.Nat.{ℕ, _+_, _≤_}
 use native.Mathlib.Omega.{arith}
 use lib.Dec.{eqb, leb}
 use borrow.Author.Tests.{eqb-true, eq-eqb, leb-true, leb-false}
-use Rattle.diagram.specs.Tree.{Way, all, some, one}
 use Rattle.diagram.proofs.Truth.{cases, clash, or-l, or-r, or-e}
-use Rattle.process.specs.Process.{Event, Process, event, seq, join, again, rounds, owns}
+use Rattle.process.specs.Process.{Event, Joint, seq, and, or, xor, Process, event, join, again, rounds, owns}
 use Rattle.process.specs.Runs.{Whole, Begins}
 use Rattle.process.specs.Bits.{Bits, blank, clears, take, run, after}
 use Rattle.process.specs.Once.{single, outside, Occurs, times}
@@ -18,9 +17,9 @@ use Rattle.process.proofs.Local.{closed, Within, after-only, run-append
 use Rattle.process.proofs.Seen.{begins-shorter}
 use Rattle.process.proofs.Parts.{clears₂, within-l, within-r}
 use Rattle.process.proofs.SeqLaw.{ordered→, begins-l, begins-r}
-use Rattle.process.proofs.AllLaw.{all-shared}
-use Rattle.process.proofs.SomeLaw.{some-shared}
-use Rattle.process.proofs.OneLaw.{one-lone}
+use Rattle.process.proofs.AndLaw.{and-shared}
+use Rattle.process.proofs.OrLaw.{or-shared}
+use Rattle.process.proofs.XorLaw.{xor-lone}
 use Rattle.process.proofs.RoundsLaw.{begins-turns, after-turns, Ahead, ahead}
 use Rattle.process.proofs.Numbered.{size, Numbered, apart, reset-out}
 
@@ -28,13 +27,11 @@ use Rattle.process.proofs.Numbered.{size, Numbered, apart, reset-out}
 abbrev Parts : Process → Process → List ℕ → Type 0
 Parts p q w = Begins p (only (owns p) w) × Begins q (only (owns q) w)
 
-seq-parts : (p q : Process) → Apart (owns p) (owns q) → (w : List ℕ) → Begins (seq p q) w → Parts p q w
-seq-parts p q d w h = let o = ordered→ p q d w h in (begins-l p q d w o, begins-r p q d w o)
-
-join-parts : (y : Way) (p q : Process) → Apart (owns p) (owns q) → (w : List ℕ) → Begins (join y p q) w → Parts p q w
-join-parts all p q d w h = let s = all-shared p q d w .0 h in (s .1, s .2)
-join-parts some p q d w h = let s = some-shared p q d w .0 h in (s .1, s .2)
-join-parts one p q d w h = let s = one-lone p q d w .0 h .0 in (s .1, s .2)
+parts : (j : Joint) (p q : Process) → Apart (owns p) (owns q) → (w : List ℕ) → Begins (join j p q) w → Parts p q w
+parts seq p q d w h = let o = ordered→ p q d w h in (begins-l p q d w o, begins-r p q d w o)
+parts and p q d w h = let s = and-shared p q d w .0 h in (s .1, s .2)
+parts or p q d w h = let s = or-shared p q d w .0 h in (s .1, s .2)
+parts xor p q d w h = let s = xor-lone p q d w .0 h .0 in (s .1, s .2)
 
 either-owns : {a b : Bool} (c d : Bool) → (a ≡ true → c ≡ true) → (b ≡ true → d ≡ true) → (a ≡ true) ⊎ (b ≡ true) → (c || d) ≡ true
 either-owns c d f g (inl k) = or-l d (f k)
@@ -43,8 +40,7 @@ either-owns c d f g (inr k) = or-r c (g k)
 pub single-owns : (p : Process) (x : ℕ) → single p x ≡ true → owns p x ≡ true
 unfolding single owns
 single-owns (event n l) x h = h
-single-owns (seq p q) x h = either-owns (owns p x) (owns q x) (λ k. single-owns p x k) (λ k. single-owns q x k) (or-e (single p x) (single q x) h)
-single-owns (join y p q) x h = either-owns (owns p x) (owns q x) (λ k. single-owns p x k) (λ k. single-owns q x k) (or-e (single p x) (single q x) h)
+single-owns (join j p q) x h = either-owns (owns p x) (owns q x) (λ k. single-owns p x k) (λ k. single-owns q x k) (or-e (single p x) (single q x) h)
 single-owns (again n l) x h = absurd (false≢true h)
 single-owns (rounds p r l) x h = or-l (eqb r x) (single-owns p x h)
 
@@ -73,12 +69,9 @@ fresh : (p : Process) (lo x : ℕ) → Numbered p lo → Fresh p x
 unfolding Whole clears single Numbered
 fresh (event n l) lo x m s [] h = refl
 fresh (event n l) lo x m s (y ∷ u) h = absurd (snoc≢nil u x (append-eq-nil-iff .0 (tail-eq-of-cons-eq (h .1)) .0))
-fresh (seq p q) lo x m s u h =
+fresh (join j p q) lo x m s u h =
     let d = apart p q lo (m .0) (m .1) in
-    fresh-either p q x d (fresh p lo x (m .0)) (fresh q (lo + size p) x (m .1)) u (or-e (single p x) (single q x) s) (seq-parts p q d (u ++ (x ∷ [])) h)
-fresh (join y p q) lo x m s u h =
-    let d = apart p q lo (m .0) (m .1) in
-    fresh-either p q x d (fresh p lo x (m .0)) (fresh q (lo + size p) x (m .1)) u (or-e (single p x) (single q x) s) (join-parts y p q d (u ++ (x ∷ [])) h)
+    fresh-either p q x d (fresh p lo x (m .0)) (fresh q (lo + size p) x (m .1)) u (or-e (single p x) (single q x) s) (parts j p q d (u ++ (x ∷ [])) h)
 fresh (again n l) lo x m s u h = absurd (false≢true s)
 fresh (rounds p r l) lo x m s u h =
     let out = reset-out p lo r (m .0) (m .1) in
@@ -112,8 +105,7 @@ between p lo x m s u v w h =
 outside-single : (p : Process) (x : ℕ) → outside p x ≡ true → single p x ≡ true
 unfolding outside single
 outside-single (event n l) x h = h
-outside-single (seq p q) x h = either-owns (single p x) (single q x) (λ k. outside-single p x k) (λ k. outside-single q x k) (or-e (outside p x) (outside q x) h)
-outside-single (join y p q) x h = either-owns (single p x) (single q x) (λ k. outside-single p x k) (λ k. outside-single q x k) (or-e (outside p x) (outside q x) h)
+outside-single (join j p q) x h = either-owns (single p x) (single q x) (λ k. outside-single p x k) (λ k. outside-single q x k) (or-e (outside p x) (outside q x) h)
 outside-single (again n l) x h = absurd (false≢true h)
 outside-single (rounds p r l) x h = absurd (false≢true h)
 
@@ -127,10 +119,7 @@ uncleared-either p q x r d f g (inr a) (inr c) = g a c
 uncleared : (p : Process) (lo x r : ℕ) → Numbered p lo → outside p x ≡ true → clears p r x ≡ true → ⊥
 unfolding outside clears Numbered
 uncleared (event n l) lo x r m h c = false≢true c
-uncleared (seq p q) lo x r m h c =
-    uncleared-either p q x r (apart p q lo (m .0) (m .1)) (λ a b. uncleared p lo x r (m .0) a b) (λ a b. uncleared q (lo + size p) x r (m .1) a b)
-    (or-e (outside p x) (outside q x) h) (or-e (clears p r x) (clears q r x) c)
-uncleared (join y p q) lo x r m h c =
+uncleared (join j p q) lo x r m h c =
     uncleared-either p q x r (apart p q lo (m .0) (m .1)) (λ a b. uncleared p lo x r (m .0) a b) (λ a b. uncleared q (lo + size p) x r (m .1) a b)
     (or-e (outside p x) (outside q x) h) (or-e (clears p r x) (clears q r x) c)
 uncleared (again n l) lo x r m h c = false≢true h

@@ -7,7 +7,7 @@ use native.Mathlib.Omega.{arith}
 use lib.Dec.{eqb}
 use borrow.Author.Tests.{eqb-true}
 use Rattle.diagram.proofs.Truth.{cases, clash, is-false}
-use Rattle.process.specs.Process.{Event, Process, event, seq, join, again, rounds, owns, event-of}
+use Rattle.process.specs.Process.{Event, Process, event, join, again, rounds, owns, event-of}
 use Rattle.process.specs.Bits.{clears}
 use Rattle.process.proofs.Lists.{Apart, apart-sym}
 use Rattle.process.proofs.Local.{closed}
@@ -18,8 +18,7 @@ use Rattle.process.proofs.Labels.{Marked}
 pub size-positive : (p : Process) → 1 ≤ size p
 unfolding size
 size-positive (event n l) = omega arith
-size-positive (seq p q) = let a = size-positive p in omega arith
-size-positive (join y p q) = let a = size-positive p in omega arith
+size-positive (join j p q) = let a = size-positive p in omega arith
 size-positive (again n l) = omega arith
 size-positive (rounds p r l) = omega arith
 
@@ -72,9 +71,7 @@ effect-rounds p r l lo x m b t h f = go (cases (owns p x))
 pub effect : (p : Process) (lo x : ℕ) → Numbered p lo → Marked p → owns p x ≡ true → Effect (event-of p x) (clears p) lo x
 unfolding owns event-of clears Numbered Marked
 effect (event n l) lo x m t h = inl (t, λ i. refl)
-effect (seq p q) lo x m t h =
-    effect-either p q lo x (m .0) (m .1) h (λ k. effect p lo x (m .0) (t .0) k) (λ k. effect q (lo + size p) x (m .1) (t .1) k)
-effect (join y p q) lo x m t h =
+effect (join j p q) lo x m t h =
     effect-either p q lo x (m .0) (m .1) h (λ k. effect p lo x (m .0) (t .0) k) (λ k. effect q (lo + size p) x (m .1) (t .1) k)
 effect (again n l) lo x m t h = inl (t, λ i. refl)
 effect (rounds p r l) lo x m t h = effect-rounds p r l lo x (m .0) (m .1) (t .1) h (λ k. effect p lo x (m .0) (t .0) k)

@@ -8,13 +8,13 @@ use native.Mathlib.Nat.{suc-mul, zero-mul}
 use native.Mathlib.Omega.{arith}
 use lib.Dec.{leb}
 use borrow.Author.Tests.{leb-true}
-use Rattle.diagram.specs.Tree.{Way, Flow, flow, Children, none, next, Child, plain, loop, group, replicator, Member, leaf, inner, Members, end, also}
+use Rattle.diagram.specs.Tree.{Flow, flow, Children, none, next, Child, plain, loop, group, replicator, Member, leaf, inner, Members, end, also}
 use Rattle.diagram.specs.Count.{flow-events, children-events, child-events, loop-events, member-events, members-events}
 use Rattle.diagram.specs.Sizes.{flow-sized, children-sized, child-sized, member-sized, members-sized}
 use Rattle.diagram.specs.Flows.{may-be-solid, none-solid, one-solid, solid, each-flow, children-flows, child-flows, member-flows, members-flows}
 use Rattle.diagram.proofs.Truth.{and-l, and-r}
-use Rattle.process.specs.Process.{Event, Process, event, seq, join, again, rounds}
-use Rattle.process.specs.Expand.{leaf-copy, reset-of, copies, flow-process, children-process, child-process, loop-process, member-process, members-process}
+use Rattle.process.specs.Process.{Event, Joint, seq, Process, event, join, again, rounds}
+use Rattle.process.specs.Expand.{leaf-copy, reset-of, joint, copies, flow-process, children-process, child-process, loop-process, member-process, members-process}
 use Rattle.process.specs.Runs.{Whole}
 use Rattle.process.proofs.Seen.{Nonempty}
 use Rattle.process.proofs.Numbered.{size, Numbered}
@@ -28,16 +28,12 @@ pub record Laid (p : Process) (lo hi : ℕ) : Type 0 where
 laid-to : {p : Process} {lo m n : ℕ} → Laid p lo m → m ≡ n → Laid p lo n
 laid-to P e = rw (← e) P
 
-laid-seq : {p q : Process} {lo e hi : ℕ} → Laid p lo e → Laid q e hi → Laid (seq p q) lo hi
+laid-join : (j : Joint) {p q : Process} {lo e hi : ℕ} → Laid p lo e → Laid q e hi → Laid (join j p q) lo hi
 unfolding Numbered size
-laid-seq P Q =
+laid-join j P Q =
     let i = P .end in
-    let j = Q .end in
+    let k = Q .end in
     record { numbered = (P .numbered, rw (← i) at (Q .numbered)); end = omega arith }
-
-laid-join : (y : Way) {p q : Process} {lo e hi : ℕ} → Laid p lo e → Laid q e hi → Laid (join y p q) lo hi
-unfolding Numbered size
-laid-join y P Q = let R = laid-seq P Q in record { numbered = R .numbered; end = R .end }
 
 laid-rounds : {p : Process} {lo r : ℕ} (l : Event) → Laid p lo r → Laid (rounds p r l) lo (r + 1)
 unfolding Numbered size
@@ -49,15 +45,15 @@ laid-leaf : (e : ℕ) (l : Event) → Laid (event e l) e (e + 1) × Laid (again 
 unfolding Numbered size
 laid-leaf e l = (record { numbered = refl; end = refl }, record { numbered = refl; end = refl })
 
-copies-laid : (y : Way) (copy : ℕ → Process) (lo k : ℕ) → ((v : ℕ) → Laid (copy v) (lo + v * k) (lo + v * k + k)) → (v : ℕ)
-    → Laid (copies y copy v) lo (lo + suc v * k)
-copies-laid y copy lo k f zero =
+copies-laid : (j : Joint) (copy : ℕ → Process) (lo k : ℕ) → ((v : ℕ) → Laid (copy v) (lo + v * k) (lo + v * k + k)) → (v : ℕ)
+    → Laid (copies j copy v) lo (lo + suc v * k)
+copies-laid j copy lo k f zero =
     let a : 0 * k ≡ 0 = zero-mul k in
     let b : lo + 0 * k ≡ lo = omega arith in
     laid-to (rw b at (f 0)) (omega arith)
-copies-laid y copy lo k f (suc v) =
+copies-laid j copy lo k f (suc v) =
     let a : suc (suc v) * k ≡ suc v * k + k = suc-mul (suc v) k in
-    laid-to (laid-join y (copies-laid y copy lo k f v) (f (suc v))) (omega arith)
+    laid-to (laid-join j (copies-laid j copy lo k f v) (f (suc v))) (omega arith)
 
 mutual
   unfolding flow-process flow-events flow-sized
@@ -70,7 +66,7 @@ mutual
       → Laid (children-process cs vs p e) lo (e + children-events cs)
   children-laid none h vs p lo e P = laid-to P (omega arith)
   children-laid (next c r cs) h vs p lo e P =
-      laid-to (children-laid cs (and-r (child-sized c) (children-sized cs) h) vs _ _ _ (laid-seq P (child-laid c (and-l (child-sized c) (children-sized cs) h) vs e))) (omega arith)
+      laid-to (children-laid cs (and-r (child-sized c) (children-sized cs) h) vs _ _ _ (laid-join seq P (child-laid c (and-l (child-sized c) (children-sized cs) h) vs e))) (omega arith)
 
   pub child-laid : (c : Child) → child-sized c ≡ true → (vs : List ℕ) (e : ℕ) → Laid (child-process c vs e) e (e + child-events c)
   child-laid (plain m) h vs e = member-laid m h vs e
@@ -79,11 +75,11 @@ mutual
       let k = and-r (member-sized a) (member-sized b && members-sized ms) h in
       let A = member-laid a (and-l (member-sized a) (member-sized b && members-sized ms) h) vs e in
       let B = member-laid b (and-l (member-sized b) (members-sized ms) k) vs (e + member-events a) in
-      laid-to (members-laid ms (and-r (member-sized b) (members-sized ms) k) y vs _ _ _ (laid-join y A B)) (omega arith)
+      laid-to (members-laid ms (and-r (member-sized b) (members-sized ms) k) (joint y) vs _ _ _ (laid-join (joint y) A B)) (omega arith)
   child-laid (replicator y par n m) h vs e =
       let g = leb-true 1 n (and-l (leb 1 n) (leb n 16) (and-l (leb 1 n && leb n 16) (member-sized m) h)) in
       let z : suc (n - 1) ≡ n = omega arith in
-      let L = copies-laid y _ e (member-events m) (λ v. member-laid m (and-r (leb 1 n && leb n 16) (member-sized m) h) (vs ++ (v ∷ [])) (e + v * member-events m)) (n - 1) in
+      let L = copies-laid (joint y) _ e (member-events m) (λ v. member-laid m (and-r (leb 1 n && leb n 16) (member-sized m) h) (vs ++ (v ∷ [])) (e + v * member-events m)) (n - 1) in
       laid-to L (ap (λ (i : ℕ). e + i * member-events m) z)
 
   pub loop-laid : (m : Member) → member-sized m ≡ true → (vs : List ℕ) (e : ℕ) → Laid (loop-process m vs e) e (e + loop-events m)
@@ -94,16 +90,16 @@ mutual
   member-laid (leaf n) h vs e = laid-leaf e (leaf-copy n vs) .0
   member-laid (inner f) h vs e = flow-laid f h vs e
 
-  pub members-laid : (ms : Members) → members-sized ms ≡ true → (y : Way) (vs : List ℕ) (p : Process) (lo e : ℕ) → Laid p lo e
-      → Laid (members-process ms y vs p e) lo (e + members-events ms)
-  members-laid end h y vs p lo e P = laid-to P (omega arith)
-  members-laid (also m ms) h y vs p lo e P =
-      laid-to (members-laid ms (and-r (member-sized m) (members-sized ms) h) y vs _ _ _ (laid-join y P (member-laid m (and-l (member-sized m) (members-sized ms) h) vs e))) (omega arith)
+  pub members-laid : (ms : Members) → members-sized ms ≡ true → (j : Joint) (vs : List ℕ) (p : Process) (lo e : ℕ) → Laid p lo e
+      → Laid (members-process ms j vs p e) lo (e + members-events ms)
+  members-laid end h j vs p lo e P = laid-to P (omega arith)
+  members-laid (also m ms) h j vs p lo e P =
+      laid-to (members-laid ms (and-r (member-sized m) (members-sized ms) h) j vs _ _ _ (laid-join j P (member-laid m (and-l (member-sized m) (members-sized ms) h) vs e))) (omega arith)
 
 -- The solid child rule makes every member's run nonempty.
-copies-fit : (y : Way) (copy : ℕ → Process) → ((v : ℕ) → Fit (copy v)) → (v : ℕ) → Fit (copies y copy v)
-copies-fit y copy f zero = f 0
-copies-fit y copy f (suc v) = join-fit y (copies y copy v) (copy (suc v)) (copies-fit y copy f v) (f (suc v))
+copies-fit : (j : Joint) (copy : ℕ → Process) → ((v : ℕ) → Fit (copy v)) → (v : ℕ) → Fit (copies j copy v)
+copies-fit j copy f zero = f 0
+copies-fit j copy f (suc v) = join-fit j (copies j copy v) (copy (suc v)) (copies-fit j copy f v) (f (suc v))
 
 event-fit : (e : ℕ) (l : Event) → Fit (event e l)
 unfolding Choices Whole
@@ -113,7 +109,7 @@ again-choices : (e : ℕ) (l : Event) → Choices (again e l)
 unfolding Choices
 again-choices e l = tt
 
-seq-choices : (p q : Process) → Choices p → Choices q → Choices (seq p q)
+seq-choices : (p q : Process) → Choices p → Choices q → Choices (join seq p q)
 unfolding Choices
 seq-choices p q C D = (C, D)
 
@@ -128,11 +124,11 @@ solid-here c true cs p f h = inl (f (and-l (may-be-solid c) (none-solid cs) h))
 solid-here c false cs p f h = inr h
 
 solid-next : (c : Child) (r : Bool) (cs : Children) (p q : Process) → (may-be-solid c ≡ true → Nonempty q) → Nonempty p ⊎ (one-solid (next c r cs) ≡ true)
-    → Nonempty (seq p q) ⊎ (one-solid cs ≡ true)
+    → Nonempty (join seq p q) ⊎ (one-solid cs ≡ true)
 solid-next c r cs p q f (inl n) = inl (seq-nonempty p q (inl n))
 solid-next c r cs p q f (inr h) = go (solid-here c r cs q f h)
   where
-    go : Nonempty q ⊎ (one-solid cs ≡ true) → Nonempty (seq p q) ⊎ (one-solid cs ≡ true)
+    go : Nonempty q ⊎ (one-solid cs ≡ true) → Nonempty (join seq p q) ⊎ (one-solid cs ≡ true)
     go (inl n) = inl (seq-nonempty p q (inr n))
     go (inr k) = inr k
 
@@ -163,10 +159,10 @@ mutual
       let k = and-r (member-flows a solid) (member-flows b solid && members-flows ms solid) h in
       let A = member-fit a (and-l (member-flows a solid) (member-flows b solid && members-flows ms solid) h) vs e in
       let B = member-fit b (and-l (member-flows b solid) (members-flows ms solid) k) vs (e + member-events a) in
-      let F = members-fit ms (and-r (member-flows b solid) (members-flows ms solid) k) y vs _ (e + member-events a + member-events b) (join-fit y _ _ A B) in
+      let F = members-fit ms (and-r (member-flows b solid) (members-flows ms solid) k) (joint y) vs _ (e + member-events a + member-events b) (join-fit (joint y) _ _ A B) in
       (F .choices, λ z. F .nonempty)
   child-fit (replicator y par n m) h vs e =
-      let F = copies-fit y _ (λ v. member-fit m h (vs ++ (v ∷ [])) (e + v * member-events m)) (n - 1) in
+      let F = copies-fit (joint y) _ (λ v. member-fit m h (vs ++ (v ∷ [])) (e + v * member-events m)) (n - 1) in
       (F .choices, λ z. F .nonempty)
 
   loop-choices : (m : Member) → member-flows m solid ≡ true → (vs : List ℕ) (e : ℕ) → Choices (loop-process m vs e)
@@ -177,7 +173,7 @@ mutual
   member-fit (leaf n) h vs e = event-fit e (leaf-copy n vs)
   member-fit (inner f) h vs e = flow-fit f h vs e
 
-  pub members-fit : (ms : Members) → members-flows ms solid ≡ true → (y : Way) (vs : List ℕ) (p : Process) (e : ℕ) → Fit p → Fit (members-process ms y vs p e)
-  members-fit end h y vs p e F = F
-  members-fit (also m ms) h y vs p e F =
-      members-fit ms (and-r (member-flows m solid) (members-flows ms solid) h) y vs _ _ (join-fit y p _ F (member-fit m (and-l (member-flows m solid) (members-flows ms solid) h) vs e))
+  pub members-fit : (ms : Members) → members-flows ms solid ≡ true → (j : Joint) (vs : List ℕ) (p : Process) (e : ℕ) → Fit p → Fit (members-process ms j vs p e)
+  members-fit end h j vs p e F = F
+  members-fit (also m ms) h j vs p e F =
+      members-fit ms (and-r (member-flows m solid) (members-flows ms solid) h) j vs _ _ (join-fit j p _ F (member-fit m (and-l (member-flows m solid) (members-flows ms solid) h) vs e))

@@ -3,15 +3,14 @@ use mathlib.Core.Path.{_≡_, refl}
 use mathlib.Core.Bool.{true, false}
 use mathlib.Core.List.{List}
 use Prim.Native.Nat.{ℕ, zero, suc, _-_}
-use Rattle.diagram.specs.Tree.{Name, Way, Flow, flow, Children, none, next, Child, plain, loop, group, replicator, Member, leaf, inner, Members, end, also}
-use Rattle.process.specs.Process.{Process, event, seq, join, again, rounds}
-use Rattle.process.specs.Expand.{leaf-copy, reset-of, copies, flow-process, children-process, child-process, loop-process, member-process, members-process}
+use Rattle.diagram.specs.Tree.{Name, Flow, flow, Children, none, next, Child, plain, loop, group, replicator, Member, leaf, inner, Members, end, also}
+use Rattle.process.specs.Process.{Joint, seq, Process, event, join, again, rounds}
+use Rattle.process.specs.Expand.{leaf-copy, reset-of, joint, copies, flow-process, children-process, child-process, loop-process, member-process, members-process}
 
 -- The resets, and only they, are marked as such.
 unfoldable pub Marked : Process → Type 0
 Marked (event n l) = l .reset ≡ false
-Marked (seq p q) = Marked p × Marked q
-Marked (join y p q) = Marked p × Marked q
+Marked (join j p q) = Marked p × Marked q
 Marked (again n l) = l .reset ≡ false
 Marked (rounds p r l) = Marked p × (l .reset ≡ true)
 
@@ -19,21 +18,17 @@ marked-leaf : (n : ℕ) (name : Name) (vs : List ℕ) → Marked (event n (leaf-
 unfolding Marked
 marked-leaf n name vs = (refl, refl)
 
-marked-seq : (p q : Process) → Marked p → Marked q → Marked (seq p q)
+marked-join : (j : Joint) (p q : Process) → Marked p → Marked q → Marked (join j p q)
 unfolding Marked
-marked-seq p q P Q = (P, Q)
-
-marked-join : (y : Way) (p q : Process) → Marked p → Marked q → Marked (join y p q)
-unfolding Marked
-marked-join y p q P Q = (P, Q)
+marked-join j p q P Q = (P, Q)
 
 marked-rounds : (p : Process) (r : ℕ) (f : Flow) (vs : List ℕ) → Marked p → Marked (rounds p r (reset-of f vs))
 unfolding Marked
 marked-rounds p r f vs P = (P, refl)
 
-copies-marked : (y : Way) (copy : ℕ → Process) → ((v : ℕ) → Marked (copy v)) → (v : ℕ) → Marked (copies y copy v)
-copies-marked y copy f zero = f 0
-copies-marked y copy f (suc v) = marked-join y (copies y copy v) (copy (suc v)) (copies-marked y copy f v) (f (suc v))
+copies-marked : (j : Joint) (copy : ℕ → Process) → ((v : ℕ) → Marked (copy v)) → (v : ℕ) → Marked (copies j copy v)
+copies-marked j copy f zero = f 0
+copies-marked j copy f (suc v) = marked-join j (copies j copy v) (copy (suc v)) (copies-marked j copy f v) (f (suc v))
 
 mutual
   unfolding flow-process
@@ -43,13 +38,13 @@ mutual
 
   children-marked : (cs : Children) (vs : List ℕ) (p : Process) (e : ℕ) → Marked p → Marked (children-process cs vs p e)
   children-marked none vs p e P = P
-  children-marked (next c r cs) vs p e P = children-marked cs vs _ _ (marked-seq p _ P (child-marked c vs e))
+  children-marked (next c r cs) vs p e P = children-marked cs vs _ _ (marked-join seq p _ P (child-marked c vs e))
 
   child-marked : (c : Child) (vs : List ℕ) (e : ℕ) → Marked (child-process c vs e)
   child-marked (plain m) vs e = member-marked m vs e
   child-marked (loop m) vs e = loop-marked m vs e
-  child-marked (group y a b ms) vs e = members-marked ms y vs _ _ (marked-join y _ _ (member-marked a vs _) (member-marked b vs _))
-  child-marked (replicator y par n m) vs e = copies-marked y _ (λ v. member-marked m _ _) (n - 1)
+  child-marked (group y a b ms) vs e = members-marked ms (joint y) vs _ _ (marked-join (joint y) _ _ (member-marked a vs _) (member-marked b vs _))
+  child-marked (replicator y par n m) vs e = copies-marked (joint y) _ (λ v. member-marked m _ _) (n - 1)
 
   loop-marked : (m : Member) (vs : List ℕ) (e : ℕ) → Marked (loop-process m vs e)
   loop-marked (leaf n) vs e = marked-leaf e n vs .1
@@ -59,6 +54,6 @@ mutual
   member-marked (leaf n) vs e = marked-leaf e n vs .0
   member-marked (inner f) vs e = flow-marked f vs e
 
-  members-marked : (ms : Members) (y : Way) (vs : List ℕ) (p : Process) (e : ℕ) → Marked p → Marked (members-process ms y vs p e)
-  members-marked end y vs p e P = P
-  members-marked (also m ms) y vs p e P = members-marked ms y vs _ _ (marked-join y p _ P (member-marked m vs e))
+  members-marked : (ms : Members) (j : Joint) (vs : List ℕ) (p : Process) (e : ℕ) → Marked p → Marked (members-process ms j vs p e)
+  members-marked end j vs p e P = P
+  members-marked (also m ms) j vs p e P = members-marked ms j vs _ _ (marked-join j p _ P (member-marked m vs e))

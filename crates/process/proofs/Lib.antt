@@ -4,9 +4,9 @@ pub mod Seen
 pub mod Parts
 pub mod LeafLaw
 pub mod SeqLaw
-pub mod AllLaw
-pub mod SomeLaw
-pub mod OneLaw
+pub mod AndLaw
+pub mod OrLaw
+pub mod XorLaw
 pub mod RoundsLaw
 pub mod Numbered
 pub mod Choices

@@ -118,16 +118,16 @@ pub only-snoc-out : (I : ℕ → Bool) (w : List ℕ) (e : ℕ) → I e ≡ fals
 only-snoc-out I w e h = rw (only-append I w (e ∷ []), h) (append-nil (only I w))
 
 -- The tests of two parts.
-abbrev pub _or_ : (ℕ → Bool) → (ℕ → Bool) → ℕ → Bool
-_or_ I J x = I x || J x
+abbrev pub union : (ℕ → Bool) → (ℕ → Bool) → ℕ → Bool
+union I J x = I x || J x
 
-pub all-in-l : (I J : ℕ → Bool) (w : List ℕ) → All I w → All (_or_ I J) w
+pub all-in-l : (I J : ℕ → Bool) (w : List ℕ) → All I w → All (union I J) w
 all-in-l I J w h = all-map (λ x k. or-l (J x) k) w h
 
-pub all-in-r : (I J : ℕ → Bool) (w : List ℕ) → All J w → All (_or_ I J) w
+pub all-in-r : (I J : ℕ → Bool) (w : List ℕ) → All J w → All (union I J) w
 all-in-r I J w h = all-map (λ x k. or-r (I x) k) w h
 
-pub all-swap : (I J : ℕ → Bool) (w : List ℕ) → All (_or_ I J) w → All (_or_ J I) w
+pub all-swap : (I J : ℕ → Bool) (w : List ℕ) → All (union I J) w → All (union J I) w
 all-swap I J w h = all-map (λ x k. or-comm (J x) (I x) ∙ k) w h
 
 -- Interleavings.
@@ -136,7 +136,7 @@ mix-append [] [] = done
 mix-append [] (x ∷ v) = right (mix-append [] v)
 mix-append (x ∷ u) v = left (mix-append u v)
 
-pub mix-all : (I J : ℕ → Bool) {u v w : List ℕ} → Mix u v w → All I u → All J v → All (_or_ I J) w
+pub mix-all : (I J : ℕ → Bool) {u v w : List ℕ} → Mix u v w → All I u → All J v → All (union I J) w
 mix-all I J done h k = tt
 mix-all I J (left {x} r) h k = (or-l (J x) (h .0), mix-all I J r (h .1) k)
 mix-all I J (right {x} r) h k = (or-r (I x) (k .0), mix-all I J r h (k .1))
@@ -165,7 +165,7 @@ pub mix-r : (I J : ℕ → Bool) → Apart I J → {u v w : List ℕ} → Mix u 
 mix-r I J d m h k = mix-l J I (apart-sym d) (mix-sym m) k h
 
 -- A list whose elements are of the two parts is an interleaving of them.
-pub mix-make : (I J : ℕ → Bool) → Apart I J → (w : List ℕ) → All (_or_ I J) w → Mix (only I w) (only J w) w
+pub mix-make : (I J : ℕ → Bool) → Apart I J → (w : List ℕ) → All (union I J) w → Mix (only I w) (only J w) w
 mix-make I J d [] h = done
 mix-make I J d (x ∷ w) h = go (mix-make I J d w (h .1)) (cases (I x))
   where
@@ -175,7 +175,7 @@ mix-make I J d (x ∷ w) h = go (mix-make I J d w (h .1)) (cases (I x))
         let q : J x ≡ true = rw p at (h .0) in
         rw (p, q) (right r)
 
-pub filled-only : (I J : ℕ → Bool) (w : List ℕ) → All (_or_ I J) w → (filled (only I w) || filled (only J w)) ≡ filled w
+pub filled-only : (I J : ℕ → Bool) (w : List ℕ) → All (union I J) w → (filled (only I w) || filled (only J w)) ≡ filled w
 filled-only I J [] h = refl
 filled-only I J (x ∷ w) h = go (or-e (I x) (J x) (h .0))
   where

@@ -6,41 +6,40 @@ use mathlib.Core.List.{List, [], _∷_, _++_}
 use Prim.Native.Nat.{ℕ}
 use lib.Dec.{eqb}
 use borrow.Author.Tests.{eqb-true, eq-eqb}
-use Rattle.diagram.specs.Tree.{all, some, one}
 use Rattle.diagram.proofs.Truth.{cases, clash, is-false, or-l, or-r, or-e}
-use Rattle.process.specs.Process.{Process, event, seq, join, again, rounds, owns}
+use Rattle.process.specs.Process.{seq, and, or, xor, Process, event, join, again, rounds, owns}
 use Rattle.process.specs.Runs.{All, Rounds, stop, more, Whole, Begins}
 use Rattle.process.specs.Bits.{Bits, blank, clears, take, run, after}
 use Rattle.process.specs.Guards.{begun, complete, enabled}
-use Rattle.process.proofs.Lists.{all-append, all-left, all-in-l, all-in-r, keep, only, _or_, mix-all, mix-append}
+use Rattle.process.proofs.Lists.{all-append, all-left, all-in-l, all-in-r, keep, only, union, mix-all, mix-append}
 
 -- Runs
 pub run-of : (p : Process) → (w : List ℕ) × Whole p w
 unfolding Whole
 run-of (event n l) = (n ∷ [], refl)
-run-of (seq p q) = let a = run-of p in let b = run-of q in (a .0 ++ b .0, (a .0, b .0, a .1, b .1, refl))
-run-of (join all p q) = let a = run-of p in let b = run-of q in (a .0 ++ b .0, (a .0, b .0, a .1, b .1, mix-append (a .0) (b .0)))
-run-of (join some p q) = let a = run-of p in (a .0, inl (inl (a .1)))
-run-of (join one p q) = let a = run-of p in (a .0, inl (a .1))
+run-of (join seq p q) = let a = run-of p in let b = run-of q in (a .0 ++ b .0, (a .0, b .0, a .1, b .1, refl))
+run-of (join and p q) = let a = run-of p in let b = run-of q in (a .0 ++ b .0, (a .0, b .0, a .1, b .1, mix-append (a .0) (b .0)))
+run-of (join or p q) = let a = run-of p in (a .0, inl (inl (a .1)))
+run-of (join xor p q) = let a = run-of p in (a .0, inl (a .1))
 run-of (again n l) = ([], tt)
 run-of (rounds p r l) = ([], stop)
 
-rounds-inside : (A : List ℕ → Type 0) (I : ℕ → Bool) (r : ℕ) → ((u : List ℕ) → A u → All I u) → {w : List ℕ} → Rounds A r w → All (_or_ I (eqb r)) w
+rounds-inside : (A : List ℕ → Type 0) (I : ℕ → Bool) (r : ℕ) → ((u : List ℕ) → A u → All I u) → {w : List ℕ} → Rounds A r w → All (union I (eqb r)) w
 rounds-inside A I r f stop = tt
 rounds-inside A I r f (more u v hu hv e) =
-    rw e (all-append (_or_ I (eqb r)) u (r ∷ v) (all-in-l I (eqb r) u (f u hu)) (or-r (I r) (eq-eqb r r refl), rounds-inside A I r f hv))
+    rw e (all-append (union I (eqb r)) u (r ∷ v) (all-in-l I (eqb r) u (f u hu)) (or-r (I r) (eq-eqb r r refl), rounds-inside A I r f hv))
 
 pub inside : (p : Process) (w : List ℕ) → Whole p w → All (owns p) w
 unfolding Whole owns
 inside (event n l) w h = rw h (eq-eqb n n refl, tt)
-inside (seq p q) w h =
-    rw (h .4) (all-append (_or_ (owns p) (owns q)) (h .0) (h .1) (all-in-l (owns p) (owns q) (h .0) (inside p (h .0) (h .2))) (all-in-r (owns p) (owns q) (h .1) (inside q (h .1) (h .3))))
-inside (join all p q) w h = mix-all (owns p) (owns q) (h .4) (inside p (h .0) (h .2)) (inside q (h .1) (h .3))
-inside (join some p q) w (inl (inl h)) = all-in-l (owns p) (owns q) w (inside p w h)
-inside (join some p q) w (inl (inr h)) = all-in-r (owns p) (owns q) w (inside q w h)
-inside (join some p q) w (inr h) = mix-all (owns p) (owns q) (h .4) (inside p (h .0) (h .2)) (inside q (h .1) (h .3))
-inside (join one p q) w (inl h) = all-in-l (owns p) (owns q) w (inside p w h)
-inside (join one p q) w (inr h) = all-in-r (owns p) (owns q) w (inside q w h)
+inside (join seq p q) w h =
+    rw (h .4) (all-append (union (owns p) (owns q)) (h .0) (h .1) (all-in-l (owns p) (owns q) (h .0) (inside p (h .0) (h .2))) (all-in-r (owns p) (owns q) (h .1) (inside q (h .1) (h .3))))
+inside (join and p q) w h = mix-all (owns p) (owns q) (h .4) (inside p (h .0) (h .2)) (inside q (h .1) (h .3))
+inside (join or p q) w (inl (inl h)) = all-in-l (owns p) (owns q) w (inside p w h)
+inside (join or p q) w (inl (inr h)) = all-in-r (owns p) (owns q) w (inside q w h)
+inside (join or p q) w (inr h) = mix-all (owns p) (owns q) (h .4) (inside p (h .0) (h .2)) (inside q (h .1) (h .3))
+inside (join xor p q) w (inl h) = all-in-l (owns p) (owns q) w (inside p w h)
+inside (join xor p q) w (inr h) = all-in-r (owns p) (owns q) w (inside q w h)
 inside (again n l) w h = h
 inside (rounds p r l) w h = rounds-inside (Whole p) (owns p) r (λ u k. inside p u k) h
 
@@ -51,12 +50,12 @@ begins-inside p w h = all-left (owns p) w (h .0) (inside p (w ++ h .0) (h .1))
 abbrev Own : (I : ℕ → Bool) (x i : ℕ) → Type 0
 Own I x i = (I x ≡ true) × (I i ≡ true)
 
-own-either : (I J : ℕ → Bool) (x i : ℕ) {a b : Bool} → (a ≡ true → Own I x i) → (b ≡ true → Own J x i) → (a ≡ true) ⊎ (b ≡ true) → Own (_or_ I J) x i
+own-either : (I J : ℕ → Bool) (x i : ℕ) {a b : Bool} → (a ≡ true → Own I x i) → (b ≡ true → Own J x i) → (a ≡ true) ⊎ (b ≡ true) → Own (union I J) x i
 own-either I J x i f g (inl k) = (or-l (J x) (f k .0), or-l (J i) (f k .1))
 own-either I J x i f g (inr k) = (or-r (I x) (g k .0), or-r (I i) (g k .1))
 
 -- a reset clears its body's bits, any other event what it clears in the body
-rounds-own : (I : ℕ → Bool) (r x i : ℕ) (cl : Bool) → (cl ≡ true → Own I x i) → (eqb r x ≡ true) ⊎ (cl ≡ true) → (I i ≡ true) ⊎ (cl ≡ true) → Own (_or_ I (eqb r)) x i
+rounds-own : (I : ℕ → Bool) (r x i : ℕ) (cl : Bool) → (cl ≡ true → Own I x i) → (eqb r x ≡ true) ⊎ (cl ≡ true) → (I i ≡ true) ⊎ (cl ≡ true) → Own (union I (eqb r)) x i
 rounds-own I r x i cl f (inl a) (inl b) = (or-r (I x) a, or-l (eqb r i) b)
 rounds-own I r x i cl f (inl a) (inr c) = (or-r (I x) a, or-l (eqb r i) (f c .1))
 rounds-own I r x i cl f (inr c) b = (or-l (eqb r x) (f c .0), or-l (eqb r i) (f c .1))
@@ -64,8 +63,7 @@ rounds-own I r x i cl f (inr c) b = (or-l (eqb r x) (f c .0), or-l (eqb r i) (f 
 pub closed : (p : Process) (x i : ℕ) → clears p x i ≡ true → (owns p x ≡ true) × (owns p i ≡ true)
 unfolding owns clears
 closed (event n l) x i h = absurd (false≢true h)
-closed (seq p q) x i h = own-either (owns p) (owns q) x i (λ k. closed p x i k) (λ k. closed q x i k) (or-e (clears p x i) (clears q x i) h)
-closed (join y p q) x i h = own-either (owns p) (owns q) x i (λ k. closed p x i k) (λ k. closed q x i k) (or-e (clears p x i) (clears q x i) h)
+closed (join j p q) x i h = own-either (owns p) (owns q) x i (λ k. closed p x i k) (λ k. closed q x i k) (or-e (clears p x i) (clears q x i) h)
 closed (again n l) x i h = absurd (false≢true h)
 closed (rounds p r l) x i h = rounds-own (owns p) r x i (clears p x i) (λ k. closed p x i k) (at-reset (cases (eqb r x))) (in-body (cases (owns p i)))
   where
@@ -81,23 +79,22 @@ closed (rounds p r l) x i h = rounds-own (owns p) r x i (clears p x i) (λ k. cl
 abbrev pub Agree : (ℕ → Bool) → Bits → Bits → Type 0
 Agree I s t = (i : ℕ) → I i ≡ true → s i ≡ t i
 
-agree-l : (I J : ℕ → Bool) {s t : Bits} → Agree (_or_ I J) s t → Agree I s t
+agree-l : (I J : ℕ → Bool) {s t : Bits} → Agree (union I J) s t → Agree I s t
 agree-l I J a i h = a i (or-l (J i) h)
 
-agree-r : (I J : ℕ → Bool) {s t : Bits} → Agree (_or_ I J) s t → Agree J s t
+agree-r : (I J : ℕ → Bool) {s t : Bits} → Agree (union I J) s t → Agree J s t
 agree-r I J a i h = a i (or-r (I i) h)
 
 -- What the bits say of a process depends on its own bits only.
 pub begun-local : (p : Process) {s t : Bits} → Agree (owns p) s t → begun p s ≡ begun p t
 unfolding owns begun
 begun-local (event n l) a = rw (a n (eq-eqb n n refl))
-begun-local (seq p q) a = rw (begun-local p (agree-l (owns p) (owns q) a), begun-local q (agree-r (owns p) (owns q) a))
-begun-local (join y p q) a = rw (begun-local p (agree-l (owns p) (owns q) a), begun-local q (agree-r (owns p) (owns q) a))
+begun-local (join j p q) a = rw (begun-local p (agree-l (owns p) (owns q) a), begun-local q (agree-r (owns p) (owns q) a))
 begun-local (again n l) a = rw (a n (eq-eqb n n refl))
 begun-local (rounds p r l) a = rw (begun-local p (agree-l (owns p) (eqb r) a), a r (or-r (owns p r) (eq-eqb r r refl)))
 
 -- all that two joined processes are asked
-module _ (p q : Process) {s t : Bits} (a : Agree (_or_ (owns p) (owns q)) s t) where
+module _ (p q : Process) {s t : Bits} (a : Agree (union (owns p) (owns q)) s t) where
   begun-l : begun p s ≡ begun p t
   begun-l = begun-local p (agree-l (owns p) (owns q) a)
 
@@ -107,22 +104,22 @@ module _ (p q : Process) {s t : Bits} (a : Agree (_or_ (owns p) (owns q)) s t) w
 pub complete-local : (p : Process) {s t : Bits} → Agree (owns p) s t → complete p s ≡ complete p t
 unfolding owns complete
 complete-local (event n l) a = rw (a n (eq-eqb n n refl))
-complete-local (seq p q) a = rw (complete-local p (agree-l (owns p) (owns q) a), complete-local q (agree-r (owns p) (owns q) a))
-complete-local (join all p q) a = rw (complete-local p (agree-l (owns p) (owns q) a), complete-local q (agree-r (owns p) (owns q) a))
-complete-local (join some p q) a =
+complete-local (join seq p q) a = rw (complete-local p (agree-l (owns p) (owns q) a), complete-local q (agree-r (owns p) (owns q) a))
+complete-local (join and p q) a = rw (complete-local p (agree-l (owns p) (owns q) a), complete-local q (agree-r (owns p) (owns q) a))
+complete-local (join or p q) a =
     rw (begun-l p q a, begun-r p q a, complete-local p (agree-l (owns p) (owns q) a), complete-local q (agree-r (owns p) (owns q) a))
-complete-local (join one p q) a = rw (complete-local p (agree-l (owns p) (owns q) a), complete-local q (agree-r (owns p) (owns q) a))
+complete-local (join xor p q) a = rw (complete-local p (agree-l (owns p) (owns q) a), complete-local q (agree-r (owns p) (owns q) a))
 complete-local (again n l) a = refl
 complete-local (rounds p r l) a = rw (begun-local p (agree-l (owns p) (eqb r) a))
 
 pub enabled-local : (p : Process) {s t : Bits} (x : ℕ) → Agree (owns p) s t → enabled p s x ≡ enabled p t x
 unfolding owns enabled
 enabled-local (event n l) x a = rw (a n (eq-eqb n n refl))
-enabled-local (seq p q) x a =
+enabled-local (join seq p q) x a =
     rw (begun-r p q a, complete-local p (agree-l (owns p) (owns q) a), enabled-local p x (agree-l (owns p) (owns q) a), enabled-local q x (agree-r (owns p) (owns q) a))
-enabled-local (join all p q) x a = rw (enabled-local p x (agree-l (owns p) (owns q) a), enabled-local q x (agree-r (owns p) (owns q) a))
-enabled-local (join some p q) x a = rw (enabled-local p x (agree-l (owns p) (owns q) a), enabled-local q x (agree-r (owns p) (owns q) a))
-enabled-local (join one p q) x a =
+enabled-local (join and p q) x a = rw (enabled-local p x (agree-l (owns p) (owns q) a), enabled-local q x (agree-r (owns p) (owns q) a))
+enabled-local (join or p q) x a = rw (enabled-local p x (agree-l (owns p) (owns q) a), enabled-local q x (agree-r (owns p) (owns q) a))
+enabled-local (join xor p q) x a =
     rw (begun-l p q a, begun-r p q a, enabled-local p x (agree-l (owns p) (owns q) a), enabled-local q x (agree-r (owns p) (owns q) a))
 enabled-local (again n l) x a = refl
 enabled-local (rounds p r l) x a = rw (enabled-local p x (agree-l (owns p) (eqb r) a), complete-local p (agree-l (owns p) (eqb r) a))
@@ -134,10 +131,10 @@ Set I s = (i : ℕ) × (I i ≡ true) × (s i ≡ true)
 set-one : (n : ℕ) (s : Bits) → (s n ≡ true) ↔ Set (eqb n) s
 set-one n s = (λ h. (n, eq-eqb n n refl, h), λ (i, o, h). rw (eqb-true n i o) h)
 
-set-either : (I J : ℕ → Bool) (s : Bits) (a b : Bool) → (a ≡ true) ↔ Set I s → (b ≡ true) ↔ Set J s → ((a || b) ≡ true) ↔ Set (_or_ I J) s
+set-either : (I J : ℕ → Bool) (s : Bits) (a b : Bool) → (a ≡ true) ↔ Set I s → (b ≡ true) ↔ Set J s → ((a || b) ≡ true) ↔ Set (union I J) s
 set-either I J s a b f g = (λ h. to (or-e a b h), λ (i, o, h). from i h (or-e (I i) (J i) o))
   where
-    to : (a ≡ true) ⊎ (b ≡ true) → Set (_or_ I J) s
+    to : (a ≡ true) ⊎ (b ≡ true) → Set (union I J) s
     to (inl h) = let k = f .0 h in (k .0, or-l (J (k .0)) (k .1), k .2)
     to (inr h) = let k = g .0 h in (k .0, or-r (I (k .0)) (k .1), k .2)
 
@@ -148,8 +145,7 @@ set-either I J s a b f g = (λ h. to (or-e a b h), λ (i, o, h). from i h (or-e 
 pub begun-iff : (p : Process) (s : Bits) → (begun p s ≡ true) ↔ ((i : ℕ) × (owns p i ≡ true) × (s i ≡ true))
 unfolding owns begun
 begun-iff (event n l) s = set-one n s
-begun-iff (seq p q) s = set-either (owns p) (owns q) s (begun p s) (begun q s) (begun-iff p s) (begun-iff q s)
-begun-iff (join y p q) s = set-either (owns p) (owns q) s (begun p s) (begun q s) (begun-iff p s) (begun-iff q s)
+begun-iff (join j p q) s = set-either (owns p) (owns q) s (begun p s) (begun q s) (begun-iff p s) (begun-iff q s)
 begun-iff (again n l) s = set-one n s
 begun-iff (rounds p r l) s = set-either (owns p) (eqb r) s (begun p s) (s r) (begun-iff p s) (set-one r s)
 

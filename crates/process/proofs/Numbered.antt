@@ -10,14 +10,13 @@ use lib.ListN.{length, length-append, getD, List·getD-append}
 use lib.Seq.{getD-append-add}
 use borrow.Author.Tests.{eqb-true, eq-eqb, ltb-true, ltb-false}
 use Rattle.diagram.proofs.Truth.{cases, is-false, or-l, or-r, or-e}
-use Rattle.process.specs.Process.{Event, Process, event, seq, join, again, rounds, owns, event-of, events}
+use Rattle.process.specs.Process.{Event, Process, event, join, again, rounds, owns, event-of, events}
 use Rattle.process.proofs.Lists.{Apart}
 
 -- How many events.
 unfoldable pub size : Process → ℕ
 size (event n l) = 1
-size (seq p q) = size p + size q
-size (join y p q) = size p + size q
+size (join j p q) = size p + size q
 size (again n l) = 1
 size (rounds p r l) = size p + 1
 
@@ -25,8 +24,7 @@ size (rounds p r l) = size p + 1
 unfoldable pub Numbered : Process → ℕ → Type 0
 unfolding size
 Numbered (event n l) lo = n ≡ lo
-Numbered (seq p q) lo = Numbered p lo × Numbered q (lo + size p)
-Numbered (join y p q) lo = Numbered p lo × Numbered q (lo + size p)
+Numbered (join j p q) lo = Numbered p lo × Numbered q (lo + size p)
 Numbered (again n l) lo = n ≡ lo
 Numbered (rounds p r l) lo = Numbered p lo × (r ≡ lo + size p)
 
@@ -51,8 +49,7 @@ in-one n lo x e = (λ h. let k = eqb-true n x h in omega arith, λ h. eq-eqb n x
 pub interval : (p : Process) (lo x : ℕ) → Numbered p lo → (owns p x ≡ true) ↔ ((lo ≤ x) × (x < lo + size p))
 unfolding owns size Numbered
 interval (event n l) lo x h = in-one n lo x h
-interval (seq p q) lo x h = in-either (owns p x) (owns q x) lo (size p) (size q) x (interval p lo x (h .0)) (interval q (lo + size p) x (h .1))
-interval (join y p q) lo x h = in-either (owns p x) (owns q x) lo (size p) (size q) x (interval p lo x (h .0)) (interval q (lo + size p) x (h .1))
+interval (join j p q) lo x h = in-either (owns p x) (owns q x) lo (size p) (size q) x (interval p lo x (h .0)) (interval q (lo + size p) x (h .1))
 interval (again n l) lo x h = in-one n lo x h
 interval (rounds p r l) lo x h = in-either (owns p x) (eqb r x) lo (size p) 1 x (interval p lo x (h .0)) (in-one r (lo + size p) x (h .1))
 
@@ -67,8 +64,7 @@ reset-out p lo r m e = is-false (owns p r) (λ h. let a = interval p lo r m .0 h
 pub size-events : (p : Process) → size p ≡ length (events p)
 unfolding size events
 size-events (event n l) = refl
-size-events (seq p q) = rw (size-events p, size-events q) (sym (length-append (events p) (events q)))
-size-events (join y p q) = rw (size-events p, size-events q) (sym (length-append (events p) (events q)))
+size-events (join j p q) = rw (size-events p, size-events q) (sym (length-append (events p) (events q)))
 size-events (again n l) = refl
 size-events (rounds p r l) = rw (size-events p) (sym (length-append (events p) (l ∷ [])))
 
@@ -99,9 +95,7 @@ pick p lo n i rest es d m f g h = go (cases (ltb i (size p)))
 pub event-at : (p : Process) (lo i : ℕ) (d : Event) → Numbered p lo → i < size p → event-of p (lo + i) ≡ getD (events p) i d
 unfolding size Numbered event-of events
 event-at (event n l) lo i d m h = one-at l i d h
-event-at (seq p q) lo i d m h =
-    pick p lo (size q) i (event-of q) (events q) d (m .0) (λ j k. event-at p lo j d (m .0) k) (λ j k. event-at q (lo + size p) j d (m .1) k) h
-event-at (join y p q) lo i d m h =
-    pick p lo (size q) i (event-of q) (events q) d (m .0) (λ j k. event-at p lo j d (m .0) k) (λ j k. event-at q (lo + size p) j d (m .1) k) h
+event-at (join k p q) lo i d m h =
+    pick p lo (size q) i (event-of q) (events q) d (m .0) (λ j a. event-at p lo j d (m .0) a) (λ j a. event-at q (lo + size p) j d (m .1) a) h
 event-at (again n l) lo i d m h = one-at l i d h
 event-at (rounds p r l) lo i d m h = pick p lo 1 i (λ x. l) (l ∷ []) d (m .0) (λ j k. event-at p lo j d (m .0) k) (λ j k. one-at l j d k) h

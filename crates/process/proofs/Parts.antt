@@ -8,7 +8,7 @@ use Rattle.process.specs.Process.{Process, owns}
 use Rattle.process.specs.Runs.{All, Begins}
 use Rattle.process.specs.Bits.{Bits, blank, clears, run}
 use Rattle.process.specs.Guards.{begun}
-use Rattle.process.proofs.Lists.{filled, Apart, apart-sym, only, only-all, only-none, only-snoc-in, only-snoc-out, _or_, mix-append, mix-all-l, mix-l, mix-r, mix-make, filled-only}
+use Rattle.process.proofs.Lists.{filled, Apart, apart-sym, only, only-all, only-none, only-snoc-in, only-snoc-out, union, mix-append, mix-all-l, mix-l, mix-r, mix-make, filled-only}
 use Rattle.process.proofs.Local.{closed, begins-inside, Within, after-only}
 use Rattle.process.proofs.Seen.{Seen, Good, seen-local}
 
@@ -22,7 +22,7 @@ after₂ p q w = run (clears₂ p q) blank w
 
 -- All of a list is of the one or the other.
 abbrev pub In : Process → Process → List ℕ → Type 0
-In p q w = All (_or_ (owns p) (owns q)) w
+In p q w = All (union (owns p) (owns q)) w
 
 module _ (p q : Process) (d : Apart (owns p) (owns q)) where
   pub within-l : Within p (clears₂ p q)

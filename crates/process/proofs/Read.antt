@@ -7,28 +7,32 @@ use Prim.Native.Nat.{ℕ, zero, suc, _+_, _-_, _*_}
 use native.Mathlib.Omega.{arith}
 use Rattle.diagram.specs.Tree.{Name, Way, all, some, one, flow, Children, none, next, Child, group, replicator, Member, Members, end, also}
 use Rattle.diagram.specs.Count.{child-events, member-events}
-use Rattle.process.specs.Process.{Process, seq, join}
-use Rattle.process.specs.Expand.{copies, flow-process, children-process, child-process, member-process, members-process}
+use Rattle.process.specs.Process.{Joint, seq, and, or, xor, Process, join}
+use Rattle.process.specs.Expand.{joint, copies, flow-process, children-process, child-process, member-process, members-process}
 use Rattle.process.specs.Runs.{Runs, Then, Both, Either, Mix, Whole}
 use Rattle.process.specs.Readings.{InOrder, Interleaved, Choice, nothing, pick, leave, SomeOf, OneOf, Several, children-parts, members-parts, copies-parts}
 use Rattle.process.proofs.Lists.{mix-all-l, mix-append}
-use Rattle.process.proofs.Joins.{Same, Or, Joint, then-joint, both-joint, either-joint, or-joint, from-left, to-right, left-under, left-snoc, regroup}
+use Rattle.process.proofs.Joins.{Same, Or, Groups, then-groups, both-groups, either-groups, or-groups, from-left, to-right, left-under, left-snoc, regroup}
 
-abbrev way : Way → Runs → Runs → Runs
-way all = Both
-way some = Or
-way one = Either
+-- What a joint does to two sets of runs.
+abbrev joins : Joint → Runs → Runs → Runs
+joins seq = Then
+joins and = Both
+joins or = Or
+joins xor = Either
 
-way-joint : (y : Way) → Joint (way y)
-way-joint all = both-joint
-way-joint some = or-joint
-way-joint one = either-joint
+grouped : (j : Joint) → Groups (joins j)
+grouped seq = then-groups
+grouped and = both-groups
+grouped or = or-groups
+grouped xor = either-groups
 
-whole-join : (y : Way) (p q : Process) → Same (Whole (join y p q)) (way y (Whole p) (Whole q))
+whole-join : (j : Joint) (p q : Process) → Same (Whole (join j p q)) (joins j (Whole p) (Whole q))
 unfolding Whole
-whole-join all p q w = Iff·rfl
-whole-join some p q w = Iff·rfl
-whole-join one p q w = Iff·rfl
+whole-join seq p q w = Iff·rfl
+whole-join and p q w = Iff·rfl
+whole-join or p q w = Iff·rfl
+whole-join xor p q w = Iff·rfl
 
 -- The sentences, the parts being grouped to the right.
 abbrev Nothing : Runs
@@ -48,11 +52,11 @@ both-nothing A w = (
 
 in-order : (p : Process) (ps : List Process) → Same (to-right Then (Whole p) ps) (InOrder (p ∷ ps))
 in-order p [] = then-nothing (Whole p)
-in-order p (q ∷ ps) = then-joint .under (λ w. Iff·rfl) (in-order q ps)
+in-order p (q ∷ ps) = then-groups .under (λ w. Iff·rfl) (in-order q ps)
 
 interleaved : (p : Process) (ps : List Process) → Same (to-right Both (Whole p) ps) (Interleaved (p ∷ ps))
 interleaved p [] = both-nothing (Whole p)
-interleaved p (q ∷ ps) = both-joint .under (λ w. Iff·rfl) (interleaved q ps)
+interleaved p (q ∷ ps) = both-groups .under (λ w. Iff·rfl) (interleaved q ps)
 
 either-none : (A : Runs) → Same A (Either A (λ w. ⊥))
 either-none A w = (inl, only)
@@ -63,7 +67,7 @@ either-none A w = (inl, only)
 
 one-of : (p : Process) (ps : List Process) → Same (to-right Either (Whole p) ps) (OneOf (p ∷ ps))
 one-of p [] = either-none (Whole p)
-one-of p (q ∷ ps) = either-joint .under (λ w. Iff·rfl) (one-of q ps)
+one-of p (q ∷ ps) = either-groups .under (λ w. Iff·rfl) (one-of q ps)
 
 -- a choice from a list takes its first member or leaves it
 abbrev Taken : Process → List Process → List Process → Type 0
@@ -106,29 +110,30 @@ some-of p [] w = (λ h. some-cons p [] w .0 (inl (inl h)), λ h. only (some-cons
     only (inl (inl h)) = h
     only (inl (inr h)) = absurd (empty w h)
     only (inr (u, v, hu, hv, m)) = absurd (empty v hv)
-some-of p (q ∷ ps) w = Iff·trans (or-joint .under {A = Whole p} (λ v. Iff·rfl) (some-of q ps) w) (some-cons p (q ∷ ps) w)
+some-of p (q ∷ ps) w = Iff·trans (or-groups .under {A = Whole p} (λ v. Iff·rfl) (some-of q ps) w) (some-cons p (q ∷ ps) w)
 
-several : (y : Way) (p : Process) (ps : List Process) → Same (to-right (way y) (Whole p) ps) (Several y (p ∷ ps))
+several : (y : Way) (p : Process) (ps : List Process) → Same (to-right (joins (joint y)) (Whole p) ps) (Several y (p ∷ ps))
 several all p ps = interleaved p ps
 several some p ps = some-of p ps
 several one p ps = one-of p ps
 
 -- The process of a diagram joins its parts from the left.
+joined-left : (j : Joint) (p q : Process) (ps : List Process) {A : Runs} → Same A (from-left (joins j) (Whole (join j p q)) ps)
+    → Same A (from-left (joins j) (Whole p) (q ∷ ps))
+joined-left j p q ps s w = Iff·trans (s w) (left-under (joins j) (grouped j) ps (whole-join j p q) w)
+
 children-left : (cs : Children) (vs : List ℕ) (p : Process) (e : ℕ) → Same (Whole (children-process cs vs p e)) (from-left Then (Whole p) (children-parts cs vs e))
-unfolding Whole children-process children-parts
+unfolding children-process children-parts
 children-left none vs p e w = Iff·rfl
-children-left (next c r cs) vs p e w = children-left cs vs (seq p (child-process c vs e)) (e + child-events c) w
+children-left (next c r cs) vs p e w =
+    joined-left seq p (child-process c vs e) (children-parts cs vs (e + child-events c)) (children-left cs vs (join seq p (child-process c vs e)) (e + child-events c)) w
 
-joined-left : (y : Way) (p q : Process) (ps : List Process) {A : Runs} → Same A (from-left (way y) (Whole (join y p q)) ps)
-    → Same A (from-left (way y) (Whole p) (q ∷ ps))
-joined-left y p q ps s w = Iff·trans (s w) (left-under (way y) (way-joint y) ps (whole-join y p q) w)
-
-members-left : (ms : Members) (y : Way) (vs : List ℕ) (p : Process) (e : ℕ)
-    → Same (Whole (members-process ms y vs p e)) (from-left (way y) (Whole p) (members-parts ms vs e))
+members-left : (ms : Members) (j : Joint) (vs : List ℕ) (p : Process) (e : ℕ)
+    → Same (Whole (members-process ms j vs p e)) (from-left (joins j) (Whole p) (members-parts ms vs e))
 unfolding members-process members-parts
-members-left end y vs p e w = Iff·rfl
-members-left (also m ms) y vs p e w =
-    joined-left y p (member-process m vs e) (members-parts ms vs (e + member-events m)) (members-left ms y vs (join y p (member-process m vs e)) (e + member-events m)) w
+members-left end j vs p e w = Iff·rfl
+members-left (also m ms) j vs p e w =
+    joined-left j p (member-process m vs e) (members-parts ms vs (e + member-events m)) (members-left ms j vs (join j p (member-process m vs e)) (e + member-events m)) w
 
 abbrev copy : Member → List ℕ → ℕ → ℕ → Process
 copy m vs e v = member-process m (vs ++ (v ∷ [])) (e + v * member-events m)
@@ -141,18 +146,18 @@ parts-snoc m vs e v (suc n) =
     let z : suc v + n ≡ v + suc n = omega arith in
     ap (λ (l : List Process). copy m vs e v ∷ l) (rw z at (parts-snoc m vs e (suc v) n))
 
-copies-left : (y : Way) (m : Member) (vs : List ℕ) (e n : ℕ)
-    → Same (Whole (copies y (copy m vs e) n)) (from-left (way y) (Whole (copy m vs e 0)) (copies-parts m vs e 1 n))
+copies-left : (j : Joint) (m : Member) (vs : List ℕ) (e n : ℕ)
+    → Same (Whole (copies j (copy m vs e) n)) (from-left (joins j) (Whole (copy m vs e 0)) (copies-parts m vs e 1 n))
 unfolding copies-parts
-copies-left y m vs e zero w = Iff·rfl
-copies-left y m vs e (suc n) w =
+copies-left j m vs e zero w = Iff·rfl
+copies-left j m vs e (suc n) w =
     let A = Whole (copy m vs e 0) in
     let z : 1 + n ≡ suc n = omega arith in
     let k : copies-parts m vs e 1 (suc n) ≡ copies-parts m vs e 1 n ++ (copy m vs e (suc n) ∷ []) = rw z at (parts-snoc m vs e 1 n) in
-    Iff·trans (whole-join y (copies y (copy m vs e) n) (copy m vs e (suc n)) w)
-    (Iff·trans (way-joint y .under (copies-left y m vs e n) (λ v. Iff·rfl) w)
-    (subst (λ (l : List Process). way y (from-left (way y) A (copies-parts m vs e 1 n)) (Whole (copy m vs e (suc n))) w ↔ from-left (way y) A l w) (sym k)
-    (Iff·symm (left-snoc (way y) (way-joint y) A (copies-parts m vs e 1 n) (copy m vs e (suc n)) w))))
+    Iff·trans (whole-join j (copies j (copy m vs e) n) (copy m vs e (suc n)) w)
+    (Iff·trans (grouped j .under (copies-left j m vs e n) (λ v. Iff·rfl) w)
+    (subst (λ (l : List Process). joins j (from-left (joins j) A (copies-parts m vs e 1 n)) (Whole (copy m vs e (suc n))) w ↔ from-left (joins j) A l w) (sym k)
+    (Iff·symm (left-snoc (joins j) (grouped j) A (copies-parts m vs e 1 n) (copy m vs e (suc n)) w))))
 
 -- "A flow gives a whole run of each child, in order."
 pub flow-read : (n : Name) (ps : List Name) (sw : Bool) (c : Child) (r : Bool) (cs : Children) (vs : List ℕ) (e : ℕ)
@@ -161,7 +166,7 @@ unfolding flow-process
 flow-read n ps sw c r cs vs e w =
     let p = child-process c vs e in
     let qs = children-parts cs vs (e + child-events c) in
-    Iff·trans (children-left cs vs p (e + child-events c) w) (Iff·trans (regroup Then then-joint (Whole p) qs w) (in-order p qs w))
+    Iff·trans (children-left cs vs p (e + child-events c) w) (Iff·trans (regroup Then then-groups (Whole p) qs w) (in-order p qs w))
 
 -- "`and`: any interleaving of one run of each member. `or`: the same over any nonempty choice of members. `xor`: a run of one member."
 pub group-read : (y : Way) (a b : Member) (ms : Members) (vs : List ℕ) (e : ℕ)
@@ -173,7 +178,8 @@ group-read y a b ms vs e w =
     let q = member-process b vs (e + member-events a) in
     let f = e + member-events a + member-events b in
     let qs = members-parts ms vs f in
-    Iff·trans (joined-left y p q qs (members-left ms y vs (join y p q) f) w) (Iff·trans (regroup (way y) (way-joint y) (Whole p) (q ∷ qs) w) (several y p (q ∷ qs) w))
+    let j = joint y in
+    Iff·trans (joined-left j p q qs (members-left ms j vs (join j p q) f) w) (Iff·trans (regroup (joins j) (grouped j) (Whole p) (q ∷ qs) w) (several y p (q ∷ qs) w))
 
 -- "`all`, `some`, `one` do so over the copies for each value."
 pub replicator-read : (y : Way) (par : Name) (n : ℕ) (m : Member) (vs : List ℕ) (e : ℕ)
@@ -183,4 +189,4 @@ replicator-read y par n m vs e w =
     let p = copy m vs e 0 in
     let qs = copies-parts m vs e 1 n in
     let z : suc n - 1 ≡ n = omega arith in
-    rw z (Iff·trans (copies-left y m vs e n w) (Iff·trans (regroup (way y) (way-joint y) (Whole p) qs w) (several y p qs w)))
+    rw z (Iff·trans (copies-left (joint y) m vs e n w) (Iff·trans (regroup (joins (joint y)) (grouped (joint y)) (Whole p) qs w) (several y p qs w)))

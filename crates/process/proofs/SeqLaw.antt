@@ -5,11 +5,11 @@ use mathlib.Core.Bool.{Bool, true, false}
 use mathlib.Core.List.{List, [], _∷_, _++_, append-nil, append-assoc, append-cancel-left, head-eq-of-cons-eq}
 use Prim.Native.Nat.{ℕ}
 use Rattle.diagram.proofs.Truth.{cases, clash, is-false}
-use Rattle.process.specs.Process.{Process, seq, owns}
+use Rattle.process.specs.Process.{seq, Process, join, owns}
 use Rattle.process.specs.Runs.{All, Then, Whole, Begins}
 use Rattle.process.specs.Bits.{Bits, clears}
 use Rattle.process.specs.Guards.{begun, complete, enabled}
-use Rattle.process.proofs.Lists.{snoc≢nil, Cut, cut, all-append, all-in-l, all-in-r, Apart, apart-sym, only, _or_}
+use Rattle.process.proofs.Lists.{snoc≢nil, Cut, cut, all-append, all-in-l, all-in-r, Apart, apart-sym, only, union}
 use Rattle.process.proofs.Local.{run-of, inside, begins-inside}
 use Rattle.process.proofs.Seen.{Seen, Good, both-tests, goes-on-alone, begins-nil, begins-whole}
 use Rattle.process.proofs.Parts.{after₂, In, seen-l, seen-r, own-l, own-r, alone, one-more, begins₂}
@@ -36,7 +36,7 @@ module _ (p q : Process) (d : Apart (owns p) (owns q)) where
       let b = own-r p q d u v (inside p u hu) (begins-inside q v hv) in
       rw e (record { cut-at = rw (a, b); turn = inr (rw b hv, rw a hu) })
 
-  pub ordered→ : (w : List ℕ) → Begins (seq p q) w → Ordered w
+  pub ordered→ : (w : List ℕ) → Begins (join seq p q) w → Ordered w
   unfolding Whole
   ordered→ w (x, (a, c, ha, hc, e)) = go (cut w x a c e)
     where
@@ -44,7 +44,7 @@ module _ (p q : Process) (d : Apart (owns p) (owns q)) where
       go (inl (y, i, j)) = first w (y, rw i at ha)
       go (inr (y, i, j)) = second w a y i ha (x, rw j at hc)
 
-  ordered← : (w : List ℕ) → Ordered w → Begins (seq p q) w
+  ordered← : (w : List ℕ) → Ordered w → Begins (join seq p q) w
   unfolding Whole
   ordered← w o = go (o .turn)
     where
@@ -61,7 +61,7 @@ module _ (p q : Process) (d : Apart (owns p) (owns q)) where
           (x ++ r .0, (u ++ x, r .0, h, r .1, ap (λ (l : List ℕ). l ++ (x ++ r .0)) z ∙ sym (append-assoc u x (r .0))))
       go (inr ((x, h), k)) = (x, (u, v ++ x, k, h, ap (λ (l : List ℕ). l ++ x) (o .cut-at) ∙ append-assoc u v x))
 
-  seq-ordered : (w : List ℕ) → Begins (seq p q) w ↔ Ordered w
+  seq-ordered : (w : List ℕ) → Begins (join seq p q) w ↔ Ordered w
   seq-ordered w = (ordered→ w, ordered← w)
 
   module _ (w : List ℕ) (o : Ordered w) where
@@ -86,7 +86,7 @@ module _ (p q : Process) (d : Apart (owns p) (owns q)) where
         go (inr h) = h .0
 
     pub in-both : In p q w
-    in-both = rw (o .cut-at) (all-append (_or_ (owns p) (owns q)) u v (all-in-l (owns p) (owns q) u (begins-inside p u begins-l)) (all-in-r (owns p) (owns q) v (begins-inside q v begins-r)))
+    in-both = rw (o .cut-at) (all-append (union (owns p) (owns q)) u v (all-in-l (owns p) (owns q) u (begins-inside p u begins-l)) (all-in-r (owns p) (owns q) v (begins-inside q v begins-r)))
 
     -- with one event more, of the first or of the second
     ordered-l : (x : ℕ) → owns p x ≡ true → Ordered (w ++ (x ∷ [])) ↔ (Begins p (u ++ (x ∷ [])) × (v ≡ []))
@@ -130,7 +130,7 @@ module _ (p q : Process) (d : Apart (owns p) (owns q)) where
         from : Begins q (v ++ (x ∷ [])) × Whole p u → Ordered (w ++ (x ∷ []))
         from (h, k) = second (w ++ (x ∷ [])) u (v ++ (x ∷ [])) (ap (λ (l : List ℕ). l ++ (x ∷ [])) (o .cut-at) ∙ append-assoc u v (x ∷ [])) k h
 
-    seq-whole : Whole (seq p q) w ↔ (Whole p u × Whole q v)
+    seq-whole : Whole (join seq p q) w ↔ (Whole p u × Whole q v)
     unfolding Whole
     seq-whole = (to, λ k. (u, v, k .0, k .1, o .cut-at))
       where
@@ -150,21 +150,21 @@ module _ (p q : Process) (d : Apart (owns p) (owns q)) where
       own-part-r : Seen q s v
       own-part-r = seen-r p q d H w begins-r
 
-      seq-ends : Whole (seq p q) w ↔ (complete (seq p q) s ≡ true)
+      seq-ends : Whole (join seq p q) w ↔ (complete (join seq p q) s ≡ true)
       unfolding complete
       seq-ends = Iff·trans seq-whole (both-tests (complete p s) (complete q s) (own-part-l .ends) (own-part-r .ends))
 
-      seq-goes-on : (x : ℕ) → _or_ (owns p) (owns q) x ≡ true → Ordered (w ++ (x ∷ [])) ↔ (enabled (seq p q) s x ≡ true)
+      seq-goes-on : (x : ℕ) → union (owns p) (owns q) x ≡ true → Ordered (w ++ (x ∷ [])) ↔ (enabled (join seq p q) s x ≡ true)
       unfolding enabled
       seq-goes-on x i = go (cases (owns p x))
         where
-          go : (owns p x ≡ true) ⊎ (owns p x ≡ false) → Ordered (w ++ (x ∷ [])) ↔ (enabled (seq p q) s x ≡ true)
+          go : (owns p x ≡ true) ⊎ (owns p x ≡ false) → Ordered (w ++ (x ∷ [])) ↔ (enabled (join seq p q) s x ≡ true)
           go (inl j) = rw j (Iff·trans (ordered-l x j) (goes-on-alone p q own-part-l own-part-r x j))
           go (inr j) =
               let r : owns q x ≡ true = rw j at i in
               rw j (Iff·trans (ordered-r x r) (both-tests (enabled q s x) (complete p s) (own-part-r .goes-on x r) (own-part-l .ends)))
 
-  pub seq-good : Good p → Good q → Good (seq p q)
+  pub seq-good : Good p → Good q → Good (join seq p q)
   unfolding owns clears begun complete enabled
   seq-good G H w h =
       let o = ordered→ w h in

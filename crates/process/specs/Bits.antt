@@ -3,7 +3,7 @@ use mathlib.Core.Bool.{Bool, false, not, _&&_, _||_}
 use mathlib.Core.List.{List, [], _∷_}
 use Prim.Native.Nat.{ℕ}
 use lib.Dec.{eqb}
-use Rattle.process.specs.Process.{Process, event, seq, join, again, rounds, owns}
+use Rattle.process.specs.Process.{Process, event, join, again, rounds, owns}
 
 -- The control bits: one for each event.
 abbrev pub Bits : Type 0
@@ -16,8 +16,7 @@ blank = λ i. false
 unfoldable pub clears : Process → ℕ → ℕ → Bool
 unfolding owns
 clears (event n l) x i = false
-clears (seq p q) x i = clears p x i || clears q x i
-clears (join y p q) x i = clears p x i || clears q x i
+clears (join j p q) x i = clears p x i || clears q x i
 clears (again n l) x i = false
 clears (rounds p r l) x i = (eqb r x && owns p i) || clears p x i
 

@@ -1,15 +1,13 @@
 -- What the control bits say of a process: whether it is begun, whether it is complete, and which of its events may be taken next.
 use mathlib.Core.Bool.{Bool, true, not, _&&_, _||_, cond}
 use Prim.Native.Nat.{ℕ}
-use Rattle.diagram.specs.Tree.{all, some, one}
-use Rattle.process.specs.Process.{Process, event, seq, join, again, rounds, owns}
+use Rattle.process.specs.Process.{seq, and, or, xor, Process, event, join, again, rounds, owns}
 use Rattle.process.specs.Bits.{Bits}
 
 -- Has an event of it been taken? A loop just reset has been begun: the reset's own bit is set.
 unfoldable pub begun : Process → Bits → Bool
 begun (event n l) s = s n
-begun (seq p q) s = begun p s || begun q s
-begun (join y p q) s = begun p s || begun q s
+begun (join j p q) s = begun p s || begun q s
 begun (again n l) s = s n
 begun (rounds p r l) s = begun p s || s r
 
@@ -19,12 +17,12 @@ unfolding begun
 -- its bit
 complete (event n l) s = s n
 -- each part
-complete (seq p q) s = complete p s && complete q s
-complete (join all p q) s = complete p s && complete q s
+complete (join seq p q) s = complete p s && complete q s
+complete (join and p q) s = complete p s && complete q s
 -- a part begun, and each part complete or not begun
-complete (join some p q) s = (begun p s || begun q s) && ((complete p s || not (begun p s)) && (complete q s || not (begun q s)))
+complete (join or p q) s = (begun p s || begun q s) && ((complete p s || not (begun p s)) && (complete q s || not (begun q s)))
 -- a part
-complete (join one p q) s = complete p s || complete q s
+complete (join xor p q) s = complete p s || complete q s
 -- always
 complete (again n l) s = true
 -- its body not begun
@@ -36,12 +34,12 @@ unfolding owns begun complete
 -- its bit not set
 enabled (event n l) s x = not (s n)
 -- in the part that has it, those before it complete, those after it not begun
-enabled (seq p q) s x = cond (owns p x) (enabled p s x && not (begun q s)) (enabled q s x && complete p s)
+enabled (join seq p q) s x = cond (owns p x) (enabled p s x && not (begun q s)) (enabled q s x && complete p s)
 -- in the part that has it
-enabled (join all p q) s x = cond (owns p x) (enabled p s x) (enabled q s x)
-enabled (join some p q) s x = cond (owns p x) (enabled p s x) (enabled q s x)
+enabled (join and p q) s x = cond (owns p x) (enabled p s x) (enabled q s x)
+enabled (join or p q) s x = cond (owns p x) (enabled p s x) (enabled q s x)
 -- in the part that has it, no other begun
-enabled (join one p q) s x = cond (owns p x) (enabled p s x && not (begun q s)) (enabled q s x && not (begun p s))
+enabled (join xor p q) s x = cond (owns p x) (enabled p s x && not (begun q s)) (enabled q s x && not (begun p s))
 -- always
 enabled (again n l) s x = true
 -- in its body; the reset where the body is complete

@@ -5,8 +5,7 @@ use mathlib.Core.Bool.{Bool, true}
 use mathlib.Core.List.{List, [], _∷_, _++_}
 use Prim.Native.Nat.{ℕ}
 use lib.Dec.{eqb}
-use Rattle.diagram.specs.Tree.{all, some, one}
-use Rattle.process.specs.Process.{Process, event, seq, join, again, rounds}
+use Rattle.process.specs.Process.{seq, and, or, xor, Process, event, join, again, rounds}
 
 -- A set of lists of event numbers.
 abbrev pub Runs : Type 1
@@ -45,13 +44,13 @@ unfoldable pub Whole : Process → Runs
 -- "a leaf gives that one event"
 Whole (event n l) = λ w. w ≡ n ∷ []
 -- "A flow gives a whole run of each child, in order"
-Whole (seq p q) = Then (Whole p) (Whole q)
+Whole (join seq p q) = Then (Whole p) (Whole q)
 -- "`and`: any interleaving of one run of each member"
-Whole (join all p q) = Both (Whole p) (Whole q)
+Whole (join and p q) = Both (Whole p) (Whole q)
 -- "`or`: the same over any nonempty choice of members"
-Whole (join some p q) = Either (Either (Whole p) (Whole q)) (Both (Whole p) (Whole q))
+Whole (join or p q) = Either (Either (Whole p) (Whole q)) (Both (Whole p) (Whole q))
 -- "`xor`: a run of one member"; "`all`, `some`, `one` do so over the copies for each value"
-Whole (join one p q) = Either (Whole p) (Whole q)
+Whole (join xor p q) = Either (Whole p) (Whole q)
 -- "A loop over a leaf: that event zero or more times"
 Whole (again n l) = All (eqb n)
 -- "A loop over a flow: zero or more rounds, each a run of the flow and then the reset"

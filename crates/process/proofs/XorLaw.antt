@@ -4,17 +4,16 @@ use mathlib.Core.Logic.{_⊎_, inl, inr, _↔_, Iff·trans}
 use mathlib.Core.Bool.{true, false, _||_}
 use mathlib.Core.List.{List, [], _∷_, _++_}
 use Prim.Native.Nat.{ℕ}
-use Rattle.diagram.specs.Tree.{one}
 use Rattle.diagram.proofs.Truth.{cases, or-l, or-r, or-e}
-use Rattle.process.specs.Process.{Process, join, owns}
+use Rattle.process.specs.Process.{xor, Process, join, owns}
 use Rattle.process.specs.Runs.{Either, Whole, Begins}
 use Rattle.process.specs.Bits.{Bits, clears}
 use Rattle.process.specs.Guards.{begun, complete, enabled}
-use Rattle.process.proofs.Lists.{snoc≢nil, all-swap, Apart, apart-sym, only, _or_}
+use Rattle.process.proofs.Lists.{snoc≢nil, all-swap, Apart, apart-sym, only, union}
 use Rattle.process.proofs.Seen.{Seen, Good, Nonempty, goes-on-alone, begins-whole}
 use Rattle.process.proofs.Parts.{after₂, alone, rest, one-more, begins₂}
-use Rattle.process.proofs.AllLaw.{Shared, shared-swap, shared-more, own-part-l, own-part-r}
-use Rattle.process.proofs.SomeLaw.{shared-alone}
+use Rattle.process.proofs.AndLaw.{Shared, shared-swap, shared-more, own-part-l, own-part-r}
+use Rattle.process.proofs.OrLaw.{shared-alone}
 
 -- the list begins a run of one of them, and nothing is taken of the other
 abbrev pub Lone : Process → Process → List ℕ → Type 0
@@ -40,9 +39,9 @@ lone-more p q d w h x j = (to, from)
     from (b, e) = (shared-more p q d w (h .0) x j .1 b, inl (m .1 ∙ e))
 
 module _ (p q : Process) (d : Apart (owns p) (owns q)) where
-  pub one-lone : (w : List ℕ) → Begins (join one p q) w ↔ Lone p q w
+  pub xor-lone : (w : List ℕ) → Begins (join xor p q) w ↔ Lone p q w
   unfolding Whole
-  one-lone w = (to, from)
+  xor-lone w = (to, from)
     where
       to : (x : List ℕ) × Either (Whole p) (Whole q) (w ++ x) → Lone p q w
       to (x, inl h) = (shared-alone p q d w (x, h), inl (alone p q d w (x, h) .1))
@@ -62,9 +61,9 @@ module _ (p q : Process) (d : Apart (owns p) (owns q)) where
     R : Seen q s (only (owns q) w)
     R = own-part-r p q d G H w (h .0)
 
-    one-ends : Whole (join one p q) w ↔ (complete (join one p q) s ≡ true)
+    xor-ends : Whole (join xor p q) w ↔ (complete (join xor p q) s ≡ true)
     unfolding Whole complete
-    one-ends = (to, λ k. from (or-e (complete p s) (complete q s) k) (h .1))
+    xor-ends = (to, λ k. from (or-e (complete p s) (complete q s) k) (h .1))
       where
         to : Either (Whole p) (Whole q) w → (complete p s || complete q s) ≡ true
         to (inl k) = or-l (complete q s) (S .ends .0 (rw (alone p q d w (begins-whole p w k) .0) k))
@@ -76,23 +75,23 @@ module _ (p q : Process) (d : Apart (owns p) (owns q)) where
         from (inr k) (inl e) = absurd (nq (rw e at (R .ends .1 k)))
         from (inr k) (inr e) = inr (rw (rest q p (apart-sym d) w (all-swap (owns p) (owns q) w (h .0 .0)) e) at (R .ends .1 k))
 
-    one-goes-on : (x : ℕ) → _or_ (owns p) (owns q) x ≡ true → Lone p q (w ++ (x ∷ [])) ↔ (enabled (join one p q) s x ≡ true)
+    xor-goes-on : (x : ℕ) → union (owns p) (owns q) x ≡ true → Lone p q (w ++ (x ∷ [])) ↔ (enabled (join xor p q) s x ≡ true)
     unfolding enabled
-    one-goes-on x i = go (cases (owns p x))
+    xor-goes-on x i = go (cases (owns p x))
       where
-        go : (owns p x ≡ true) ⊎ (owns p x ≡ false) → Lone p q (w ++ (x ∷ [])) ↔ (enabled (join one p q) s x ≡ true)
+        go : (owns p x ≡ true) ⊎ (owns p x ≡ false) → Lone p q (w ++ (x ∷ [])) ↔ (enabled (join xor p q) s x ≡ true)
         go (inl j) = rw j (Iff·trans (lone-more p q d w h x j) (goes-on-alone p q S R x j))
         go (inr j) =
             let o : owns q x ≡ true = rw j at i in
             let v = w ++ (x ∷ []) in
             rw j (Iff·trans (lone-swap p q v, lone-swap q p v) (Iff·trans (lone-more q p (apart-sym d) w (lone-swap p q w h) x o) (goes-on-alone q p R S x o)))
 
-  pub one-good : Nonempty p → Nonempty q → Good p → Good q → Good (join one p q)
+  pub xor-good : Nonempty p → Nonempty q → Good p → Good q → Good (join xor p q)
   unfolding owns clears begun complete enabled
-  one-good np nq G H w h =
-      let k = one-lone w .0 h in
+  xor-good np nq G H w h =
+      let k = xor-lone w .0 h in
       record {
         begins = begins₂ p q d w (k .0 .0) (own-part-l p q d G H w (k .0)) (own-part-r p q d G H w (k .0));
-        ends = one-ends np nq G H w k;
-        goes-on = λ x i. Iff·trans (one-lone (w ++ (x ∷ []))) (one-goes-on np nq G H w k x i);
+        ends = xor-ends np nq G H w k;
+        goes-on = λ x i. Iff·trans (xor-lone (w ++ (x ∷ []))) (xor-goes-on np nq G H w k x i);
       }

@@ -4,9 +4,8 @@ use mathlib.Core.Logic.{_⊎_, inl, inr, _↔_, Iff·trans, Iff·rfl}
 use mathlib.Core.Bool.{true, not, _&&_, _||_}
 use mathlib.Core.List.{List, [], _∷_, _++_}
 use Prim.Native.Nat.{ℕ}
-use Rattle.diagram.specs.Tree.{some}
 use Rattle.diagram.proofs.Truth.{clash, or-l, or-r, or-e}
-use Rattle.process.specs.Process.{Process, join, owns}
+use Rattle.process.specs.Process.{or, Process, join, owns}
 use Rattle.process.specs.Runs.{Either, Both, Whole, Begins}
 use Rattle.process.specs.Bits.{Bits, clears}
 use Rattle.process.specs.Guards.{begun, complete, enabled}
@@ -14,7 +13,7 @@ use Rattle.process.proofs.Lists.{filled, all-in-l, all-swap, Apart, apa
 use Rattle.process.proofs.Local.{begins-inside}
 use Rattle.process.proofs.Seen.{Seen, Good, not-begun, both-tests, Nonempty, begins-nil, begins-whole}
 use Rattle.process.proofs.Parts.{after₂, alone, rest, begins₂}
-use Rattle.process.proofs.AllLaw.{Shared, shared-swap, both→, both←, shared→, shared←, own-part-l, own-part-r, shared-goes-on}
+use Rattle.process.proofs.AndLaw.{Shared, shared-swap, both→, both←, shared→, shared←, own-part-l, own-part-r, shared-goes-on}
 
 nonempty-filled : (p : Process) → Nonempty p → (w : List ℕ) → Whole p w → filled w ≡ true
 nonempty-filled p n [] h = absurd (n h)
@@ -42,9 +41,9 @@ shared-alone p q d w h =
     (all-in-l (owns p) (owns q) w (begins-inside p w h), rw (a .0) h, rw (a .1) (begins-nil q))
 
 module _ (p q : Process) (d : Apart (owns p) (owns q)) where
-  pub some-shared : (w : List ℕ) → Begins (join some p q) w ↔ Shared p q w
+  pub or-shared : (w : List ℕ) → Begins (join or p q) w ↔ Shared p q w
   unfolding Whole
-  some-shared w = (to, λ k. let r = shared← p q d w k in (r .0, inr (r .1)))
+  or-shared w = (to, λ k. let r = shared← p q d w k in (r .0, inr (r .1)))
     where
       to : (x : List ℕ) × Either (Either (Whole p) (Whole q)) (Both (Whole p) (Whole q)) (w ++ x) → Shared p q w
       to (x, inl (inl h)) = shared-alone p q d w (x, h)
@@ -62,7 +61,7 @@ module _ (p q : Process) (d : Apart (owns p) (owns q)) where
     R = own-part-r p q d G H w h
 
     -- a run of the choice, by its parts
-    parts→ : Whole (join some p q) w → (filled w ≡ true) × Part p (only (owns p) w) × Part q (only (owns q) w)
+    parts→ : Whole (join or p q) w → (filled w ≡ true) × Part p (only (owns p) w) × Part q (only (owns q) w)
     unfolding Whole
     parts→ (inl (inl k)) =
         let a = alone p q d w (begins-whole p w k) in
@@ -74,25 +73,25 @@ module _ (p q : Process) (d : Apart (owns p) (owns q)) where
         let m = both→ p q d w k in
         (sym (begins₂ p q d w (m .0) S R) ∙ or-l (begun q s) (S .begins ∙ nonempty-filled p np (only (owns p) w) (m .1)), inl (m .1), inl (m .2))
 
-    parts← : filled w ≡ true → Part p (only (owns p) w) → Part q (only (owns q) w) → Whole (join some p q) w
+    parts← : filled w ≡ true → Part p (only (owns p) w) → Part q (only (owns q) w) → Whole (join or p q) w
     unfolding Whole
     parts← f (inl a) (inl b) = inr (both← p q d w (h .0, a, b))
     parts← f (inl a) (inr b) = inl (inl (rw (rest p q d w (h .0) b) at a))
     parts← f (inr a) (inl b) = inl (inr (rw (rest q p (apart-sym d) w (all-swap (owns p) (owns q) w (h .0)) a) at b))
     parts← f (inr a) (inr b) = absurd (clash f (ap filled (sym (rest p q d w (h .0) b) ∙ a)))
 
-    some-ends : Whole (join some p q) w ↔ (complete (join some p q) s ≡ true)
+    or-ends : Whole (join or p q) w ↔ (complete (join or p q) s ≡ true)
     unfolding complete
-    some-ends = Iff·trans (λ k. let m = parts→ k in (m .0, (m .1, m .2)), λ k. parts← (k .0) (k .1 .0) (k .1 .1))
+    or-ends = Iff·trans (λ k. let m = parts→ k in (m .0, (m .1, m .2)), λ k. parts← (k .0) (k .1 .0) (k .1 .1))
         (both-tests (begun p s || begun q s) ((complete p s || not (begun p s)) && (complete q s || not (begun q s))) (rw (← begins₂ p q d w (h .0) S R) Iff·rfl)
         (both-tests (complete p s || not (begun p s)) (complete q s || not (begun q s)) (part-ends p S) (part-ends q R)))
 
-  pub some-good : Nonempty p → Nonempty q → Good p → Good q → Good (join some p q)
+  pub or-good : Nonempty p → Nonempty q → Good p → Good q → Good (join or p q)
   unfolding owns clears begun complete enabled
-  some-good np nq G H w h =
-      let k = some-shared w .0 h in
+  or-good np nq G H w h =
+      let k = or-shared w .0 h in
       record {
         begins = begins₂ p q d w (k .0) (own-part-l p q d G H w k) (own-part-r p q d G H w k);
-        ends = some-ends np nq G H w k;
-        goes-on = λ x i. Iff·trans (some-shared (w ++ (x ∷ []))) (shared-goes-on p q d G H w k x i);
+        ends = or-ends np nq G H w k;
+        goes-on = λ x i. Iff·trans (or-shared (w ++ (x ∷ []))) (shared-goes-on p q d G H w k x i);
       }
