@@ -10,7 +10,7 @@ use borrow.Author.Tests.{eqb-true, eq-eqb, leb-true, leb-false}
 use Rattle.diagram.proofs.Truth.{cases, clash, or-l, or-r, or-e}
 use Rattle.process.specs.Process.{Event, Joint, seq, and, or, xor, Process, event, join, again, rounds, owns}
 use Rattle.process.specs.Runs.{Whole, Begins}
-use Rattle.process.specs.Bits.{Bits, blank, clears, take, run, after}
+use Rattle.process.specs.Bits.{Bits, blank, clears, taking, run, after}
 use Rattle.process.specs.Once.{single, outside, Occurs, times}
 use Rattle.process.proofs.Lists.{snoc≢nil, Apart, only, only-snoc-in}
 use Rattle.process.proofs.Local.{closed, Within, after-only, run-append}
@@ -80,9 +80,9 @@ fresh (rounds p r l) lo x m s u h =
 -- A bit that was set and is not has been cleared on the way.
 was-cleared : (cl : ℕ → ℕ → Bool) (x : ℕ) (v : List ℕ) (s : Bits) → s x ≡ true → run cl s v x ≡ false → (r : ℕ) × Occurs r v × (cl r x ≡ true)
 was-cleared cl x [] s a b = absurd (clash a b)
-was-cleared cl x (y ∷ v) s a b = go (λ k. was-cleared cl x v (take cl s y) k b) (cases (cl y x))
+was-cleared cl x (y ∷ v) s a b = go (λ k. was-cleared cl x v (taking cl s y) k b) (cases (cl y x))
   where
-    go : (take cl s y x ≡ true → (r : ℕ) × Occurs r v × (cl r x ≡ true)) → (cl y x ≡ true) ⊎ (cl y x ≡ false) → (r : ℕ) × Occurs r (y ∷ v) × (cl r x ≡ true)
+    go : (taking cl s y x ≡ true → (r : ℕ) × Occurs r v × (cl r x ≡ true)) → (cl y x ≡ true) ⊎ (cl y x ≡ false) → (r : ℕ) × Occurs r (y ∷ v) × (cl r x ≡ true)
     go ih (inl k) = (y, inl refl, k)
     go ih (inr k) = let i = ih (or-r (eqb y x) (rw k a)) in (i .0, inr (i .1), i .2)
 

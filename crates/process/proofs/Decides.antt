@@ -7,7 +7,7 @@ use Prim.Native.Nat.{ℕ}
 use Rattle.diagram.proofs.Truth.{and-l, and-r, and-i}
 use Rattle.process.specs.Process.{Process, owns}
 use Rattle.process.specs.Runs.{Whole, Begins}
-use Rattle.process.specs.Bits.{blank, clears, take, after}
+use Rattle.process.specs.Bits.{blank, clears, taking, after}
 use Rattle.process.specs.Guards.{complete, enabled}
 use Rattle.process.specs.Decide.{takes, begins?, whole?}
 use Rattle.process.proofs.Lists.{all-right}
@@ -27,8 +27,8 @@ module _ (p : Process) (G : Good p) where
   takes-iff [] u h = (λ k. rw append-nil h, λ k. refl)
   takes-iff (x ∷ v) u h = (
     λ k.
-        let i = next-iff u x h .1 (and-l (owns p x && enabled p (after p u) x) (takes p (take (clears p) (after p u) x) v) k) in
-        let j = and-r (owns p x && enabled p (after p u) x) (takes p (take (clears p) (after p u) x) v) k in
+        let i = next-iff u x h .1 (and-l (owns p x && enabled p (after p u) x) (takes p (taking (clears p) (after p u) x) v) k) in
+        let j = and-r (owns p x && enabled p (after p u) x) (takes p (taking (clears p) (after p u) x) v) k in
         rw append-assoc at (takes-iff v (u ++ (x ∷ [])) i .0 (rw (run-append (clears p) u (x ∷ []) blank) j)),
     λ k.
         let j : Begins p ((u ++ (x ∷ [])) ++ v) = rw append-assoc k in

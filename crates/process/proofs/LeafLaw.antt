@@ -9,7 +9,7 @@ use borrow.Author.Tests.{eqb-true, eq-eqb}
 use Rattle.diagram.proofs.Truth.{clash, or-l, or-r, not-i, not-e}
 use Rattle.process.specs.Process.{Event, event, again, owns}
 use Rattle.process.specs.Runs.{All, Whole}
-use Rattle.process.specs.Bits.{Bits, blank, clears, take, run}
+use Rattle.process.specs.Bits.{Bits, blank, clears, taking, run}
 use Rattle.process.specs.Guards.{begun, complete, enabled}
 use Rattle.process.proofs.Lists.{filled, all-append, all-left}
 use Rattle.process.proofs.Seen.{Good}
@@ -21,12 +21,12 @@ module _ (n : ℕ) where
 
   kept : (w : List ℕ) (s : Bits) → s n ≡ true → bits s w n ≡ true
   kept [] s h = h
-  kept (x ∷ w) s h = kept w (take (λ y i. false) s x) (or-r (eqb x n) h)
+  kept (x ∷ w) s h = kept w (taking (λ y i. false) s x) (or-r (eqb x n) h)
 
   -- the bit of n after n some times
   bit : (w : List ℕ) → All (eqb n) w → bits blank w n ≡ filled w
   bit [] h = refl
-  bit (x ∷ w) h = kept w (take (λ y i. false) blank x) (or-l false (eq-eqb x n (sym (eqb-true n x (h .0)))))
+  bit (x ∷ w) h = kept w (taking (λ y i. false) blank x) (or-l false (eq-eqb x n (sym (eqb-true n x (h .0)))))
 
   -- a list that begins the one run: nothing or all of it
   abbrev Part : List ℕ → Type 0

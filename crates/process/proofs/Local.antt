@@ -9,7 +9,7 @@ use borrow.Author.Tests.{eqb-true, eq-eqb}
 use Rattle.diagram.proofs.Truth.{cases, clash, is-false, or-l, or-r, or-e}
 use Rattle.process.specs.Process.{seq, and, or, xor, Process, event, join, again, rounds, owns}
 use Rattle.process.specs.Runs.{All, Rounds, stop, more, Whole, Begins}
-use Rattle.process.specs.Bits.{Bits, blank, clears, take, run, after}
+use Rattle.process.specs.Bits.{Bits, blank, clears, taking, run, after}
 use Rattle.process.specs.Guards.{begun, complete, enabled}
 use Rattle.process.proofs.Lists.{all-append, all-left, all-in-l, all-in-r, keep, only, union, mix-all, mix-append}
 
@@ -93,7 +93,7 @@ begun-local (join j p q) a = rw (begun-local p (agree-l (owns p) (owns q) a), be
 begun-local (again n l) a = rw (a n (eq-eqb n n refl))
 begun-local (rounds p r l) a = rw (begun-local p (agree-l (owns p) (eqb r) a), a r (or-r (owns p r) (eq-eqb r r refl)))
 
--- all that two joined processes are asked
+-- each of two joined processes
 module _ (p q : Process) {s t : Bits} (a : Agree (union (owns p) (owns q)) s t) where
   begun-l : begun p s ≡ begun p t
   begun-l = begun-local p (agree-l (owns p) (owns q) a)
@@ -154,11 +154,11 @@ abbrev pub Within : Process → (ℕ → ℕ → Bool) → Type 0
 Within p big = (x i : ℕ) → owns p i ≡ true → big x i ≡ clears p x i
 
 module _ (p : Process) (big : ℕ → ℕ → Bool) (same : Within p big) where
-  take-own : {s t : Bits} (x : ℕ) → Agree (owns p) s t → Agree (owns p) (take big s x) (take (clears p) t x)
-  take-own x a i h = rw (same x i h, a i h)
+  taking-own : {s t : Bits} (x : ℕ) → Agree (owns p) s t → Agree (owns p) (taking big s x) (taking (clears p) t x)
+  taking-own x a i h = rw (same x i h, a i h)
 
-  take-other : {s t : Bits} (x : ℕ) → owns p x ≡ false → Agree (owns p) s t → Agree (owns p) (take big s x) t
-  take-other x q a i h =
+  taking-other : {s t : Bits} (x : ℕ) → owns p x ≡ false → Agree (owns p) s t → Agree (owns p) (taking big s x) t
+  taking-other x q a i h =
       let m : eqb x i ≡ false = is-false (eqb x i) (λ k. clash h (sym (ap (owns p) (eqb-true x i k)) ∙ q)) in
       let r : clears p x i ≡ false = is-false (clears p x i) (λ k. clash (closed p x i k .0) q) in
       rw (m, same x i h, r, a i h)
@@ -168,9 +168,9 @@ module _ (p : Process) (big : ℕ → ℕ → Bool) (same : Within p big) where
   run-only (x ∷ w) s t a = go (run-only w) (owns p x) refl
     where
       go : ((s t : Bits) → Agree (owns p) s t → Agree (owns p) (run big s w) (run (clears p) t (only (owns p) w)))
-          → (b : Bool) → owns p x ≡ b → Agree (owns p) (run big (take big s x) w) (run (clears p) t (keep b x (only (owns p) w)))
-      go ih true q = ih (take big s x) (take (clears p) t x) (take-own x a)
-      go ih false q = ih (take big s x) t (take-other x q a)
+          → (b : Bool) → owns p x ≡ b → Agree (owns p) (run big (taking big s x) w) (run (clears p) t (keep b x (only (owns p) w)))
+      go ih true q = ih (taking big s x) (taking (clears p) t x) (taking-own x a)
+      go ih false q = ih (taking big s x) t (taking-other x q a)
 
   -- After a list of events of the larger process, the process's bits are those after its own events of the list.
   pub after-only : (w : List ℕ) → Agree (owns p) (run big blank w) (after p (only (owns p) w))
@@ -178,4 +178,4 @@ module _ (p : Process) (big : ℕ → ℕ → Bool) (same : Within p big) where
 
 pub run-append : (cl : ℕ → ℕ → Bool) (u v : List ℕ) (s : Bits) → run cl s (u ++ v) ≡ run cl (run cl s u) v
 run-append cl [] v s = refl
-run-append cl (x ∷ u) v s = run-append cl u v (take cl s x)
+run-append cl (x ∷ u) v s = run-append cl u v (taking cl s x)

@@ -9,7 +9,7 @@ use borrow.Author.Tests.{eqb-true, eq-eqb}
 use Rattle.diagram.proofs.Truth.{cases, clash, is-false, or-r, not-i, not-e}
 use Rattle.process.specs.Process.{Event, Process, rounds, owns}
 use Rattle.process.specs.Runs.{Runs, All, Rounds, stop, more, Whole, Begins}
-use Rattle.process.specs.Bits.{Bits, blank, clears, take, run, after}
+use Rattle.process.specs.Bits.{Bits, blank, clears, taking, run, after}
 use Rattle.process.specs.Guards.{begun, complete, enabled}
 use Rattle.process.proofs.Lists.{filled, filled-nil, filled-append, filled-snoc, snoc≢nil, Cut, cut, last, snoc-eq, all-right}
 use Rattle.process.proofs.Local.{begins-inside, closed, Agree, begun-local, run-append}
@@ -116,12 +116,12 @@ module _ (p : Process) (r : ℕ) (l : Event) (out : owns p r ≡ false) where
   kept : (w : List ℕ) (s : Bits) → s r ≡ true → run (clears loop) s w r ≡ true
   unfolding clears
   kept [] s h = h
-  kept (x ∷ w) s h = kept w (take (clears loop) s x) (rw (out, no-clear x, and-false (eqb r x)) (or-r (eqb x r) h))
+  kept (x ∷ w) s h = kept w (taking (clears loop) s x) (rw (out, no-clear x, and-false (eqb r x)) (or-r (eqb x r) h))
 
   unset : (w : List ℕ) → All (owns p) w → (s : Bits) → s r ≡ false → run (clears loop) s w r ≡ false
   unfolding clears
   unset [] a s h = h
-  unset (x ∷ w) a s h = unset w (a .1) (take (clears loop) s x) (rw (out, no-clear x, and-false (eqb r x), other′ x (a .0)) h)
+  unset (x ∷ w) a s h = unset w (a .1) (taking (clears loop) s x) (rw (out, no-clear x, and-false (eqb r x), other′ x (a .0)) h)
 
   -- right after the reset no bit of the body is set, and the reset's is
   cleared : (w : List ℕ) → Agree (owns p) (after loop (w ++ (r ∷ []))) blank
@@ -143,7 +143,7 @@ module _ (p : Process) (r : ℕ) (l : Event) (out : owns p r ≡ false) where
   inner : (w : List ℕ) → All (owns p) w → (s t : Bits) → Agree (owns p) s t → Agree (owns p) (run (clears loop) s w) (run (clears p) t w)
   unfolding clears
   inner [] h s t a = a
-  inner (x ∷ w) h s t a = inner w (h .1) (take (clears loop) s x) (take (clears p) t x) (λ i k. rw (other x (h .0), a i k))
+  inner (x ∷ w) h s t a = inner w (h .1) (taking (clears loop) s x) (taking (clears p) t x) (λ i k. rw (other x (h .0), a i k))
 
   module _ (u v : List ℕ) (hu : Rounds (Whole p) r u) (hv : Begins p v) where
     own : All (owns p) v

@@ -21,13 +21,13 @@ clears (again n l) x i = false
 clears (rounds p r l) x i = (eqb r x && owns p i) || clears p x i
 
 -- "Event e has control bit e: set when e is taken." The bits after `x` is taken, by what taking an event clears.
-abbrev pub take : (ℕ → ℕ → Bool) → Bits → ℕ → Bits
-take cl s x = λ i. eqb x i || (not (cl x i) && s i)
+abbrev pub taking : (ℕ → ℕ → Bool) → Bits → ℕ → Bits
+taking cl s x = λ i. eqb x i || (not (cl x i) && s i)
 
 -- The bits after each event of a list is taken, in order.
 abbrev pub run : (ℕ → ℕ → Bool) → Bits → List ℕ → Bits
 run cl s [] = s
-run cl s (x ∷ w) = run cl (take cl s x) w
+run cl s (x ∷ w) = run cl (taking cl s x) w
 
 -- The bits after a list of events, from the blank ones.
 abbrev pub after : Process → List ℕ → Bits
