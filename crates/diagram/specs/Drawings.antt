@@ -21,6 +21,15 @@ U =
     (loop (inner (flow (114 ∷ []) [] true (plain (leaf (97 ∷ []))) false (next (plain (leaf (98 ∷ []))) true none)))) false
     (next (plain (leaf (99 ∷ []))) true none)
 
+-- One replicator inside another: `flow(t,1)(all(p:2)(flow(r,p,1)(all(q:2)(leaf(a))(0)leaf(b)(1)))(0)leaf(c)(1))`.
+abbrev pub nested : Flow
+nested =
+    flow (116 ∷ []) [] true
+    (replicator all (112 ∷ []) 2
+    (inner
+    (flow (114 ∷ []) ((112 ∷ []) ∷ []) true (replicator all (113 ∷ []) 2 (leaf (97 ∷ []))) false (next (plain (leaf (98 ∷ []))) true none))))
+    false (next (plain (leaf (99 ∷ []))) true none)
+
 -- A root with the first child, a number of further children like the given one, and a number of leaves. Names count for nothing here
 -- and are left out.
 abbrev pub several : ℕ → Child → Children → Children

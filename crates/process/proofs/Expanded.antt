@@ -79,8 +79,8 @@ mutual
   child-laid (replicator y par n m) h vs e =
       let g = leb-true 1 n (and-l (leb 1 n) (leb n 16) (and-l (leb 1 n && leb n 16) (member-sized m) h)) in
       let z : suc (n - 1) ≡ n = omega arith in
-      let L = copies-laid (joint y) _ e (member-events m) (λ v. member-laid m (and-r (leb 1 n && leb n 16) (member-sized m) h) (vs ++ (v ∷ [])) (e + v * member-events m)) (n - 1) in
-      laid-to L (ap (λ (i : ℕ). e + i * member-events m) z)
+      laid-to (copies-laid (joint y) _ e (member-events m) (λ v. member-laid m (and-r (leb 1 n && leb n 16) (member-sized m) h) _ _) (n - 1))
+      (ap (λ (i : ℕ). e + i * member-events m) z)
 
   pub loop-laid : (m : Member) → member-sized m ≡ true → (vs : List ℕ) (e : ℕ) → Laid (loop-process m vs e) e (e + loop-events m)
   loop-laid (leaf n) h vs e = laid-leaf e (leaf-copy n vs) .1
@@ -132,6 +132,9 @@ solid-next c r cs p q f (inr h) = go (solid-here c r cs q f h)
     go (inl n) = inl (seq-nonempty p q (inr n))
     go (inr k) = inr k
 
+as-child : {p : Process} {b : Bool} → Fit p → Choices p × (b ≡ true → Nonempty p)
+as-child F = (F .choices, λ z. F .nonempty)
+
 mutual
   unfolding flow-process each-flow
 
@@ -153,17 +156,14 @@ mutual
   -- a child's choices, and that it has no empty run where it may be solid
   pub child-fit : (c : Child) → child-flows c solid ≡ true → (vs : List ℕ) (e : ℕ)
       → Choices (child-process c vs e) × (may-be-solid c ≡ true → Nonempty (child-process c vs e))
-  child-fit (plain m) h vs e = let F = member-fit m h vs e in (F .choices, λ k. F .nonempty)
+  child-fit (plain m) h vs e = as-child (member-fit m h vs e)
   child-fit (loop m) h vs e = (loop-choices m h vs e, λ k. absurd (false≢true k))
   child-fit (group y a b ms) h vs e =
       let k = and-r (member-flows a solid) (member-flows b solid && members-flows ms solid) h in
       let A = member-fit a (and-l (member-flows a solid) (member-flows b solid && members-flows ms solid) h) vs e in
       let B = member-fit b (and-l (member-flows b solid) (members-flows ms solid) k) vs (e + member-events a) in
-      let F = members-fit ms (and-r (member-flows b solid) (members-flows ms solid) k) (joint y) vs _ (e + member-events a + member-events b) (join-fit (joint y) _ _ A B) in
-      (F .choices, λ z. F .nonempty)
-  child-fit (replicator y par n m) h vs e =
-      let F = copies-fit (joint y) _ (λ v. member-fit m h (vs ++ (v ∷ [])) (e + v * member-events m)) (n - 1) in
-      (F .choices, λ z. F .nonempty)
+      as-child (members-fit ms (and-r (member-flows b solid) (members-flows ms solid) k) (joint y) vs _ _ (join-fit (joint y) _ _ A B))
+  child-fit (replicator y par n m) h vs e = as-child (copies-fit (joint y) _ (λ v. member-fit m h _ _) (n - 1))
 
   loop-choices : (m : Member) → member-flows m solid ≡ true → (vs : List ℕ) (e : ℕ) → Choices (loop-process m vs e)
   loop-choices (leaf n) h vs e = again-choices e (leaf-copy n vs)

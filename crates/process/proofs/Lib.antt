@@ -20,4 +20,5 @@ pub mod Between
 pub mod NoSecond
 pub mod Joins
 pub mod Read
+pub mod Listings
 pub mod Starred

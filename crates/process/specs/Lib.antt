@@ -6,4 +6,5 @@ pub mod Guards
 pub mod Decide
 pub mod Once
 pub mod Readings
+pub mod Listed
 pub mod Starred
