@@ -1,3 +1,5 @@
 pub mod Truth
+pub mod Equal
 pub mod Kept
 pub mod Counted
+pub mod Judged

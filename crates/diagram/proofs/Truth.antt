@@ -36,6 +36,10 @@ pub or-e : (a b : Bool) → (a || b) ≡ true → (a ≡ true) ⊎ (b ≡ true)
 or-e true b e = inl refl
 or-e false b e = inr e
 
+pub or-map : {a b : Bool} (c d : Bool) → (a ≡ true → c ≡ true) → (b ≡ true → d ≡ true) → (a ≡ true) ⊎ (b ≡ true) → (c || d) ≡ true
+or-map c d f g (inl k) = or-l d (f k)
+or-map c d f g (inr k) = or-r c (g k)
+
 pub not-i : {a : Bool} → a ≡ false → not a ≡ true
 not-i p = rw p
 

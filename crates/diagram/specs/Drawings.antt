@@ -1,7 +1,7 @@
--- Drawings of document 01, "Drawings worked through", as trees, and what they count.
+-- Drawings of document 01, "Drawings worked through", and one of our own, as trees; and what they count.
 use mathlib.Core.Path.{_≡_}
 use mathlib.Core.Bool.{true, false}
-use mathlib.Core.List.{List, [], _∷_}
+use mathlib.Core.List.{List, [], _∷_, map}
 use Prim.Native.Nat.{ℕ, zero, suc}
 use Rattle.diagram.specs.Tree.{all, one, Flow, flow, Children, none, next, Child, plain, loop, group, replicator, leaf, inner, end}
 use Rattle.diagram.specs.Count.{flow-nodes, flow-copies, flow-events}
@@ -30,8 +30,8 @@ nested =
     (flow (114 ∷ []) ((112 ∷ []) ∷ []) true (replicator all (113 ∷ []) 2 (leaf (97 ∷ []))) false (next (plain (leaf (98 ∷ []))) true none))))
     false (next (plain (leaf (99 ∷ []))) true none)
 
--- A root with the first child, a number of further children like the given one, and a number of leaves. Names count for nothing here
--- and are left out.
+-- A root with the first child, a number of further children like the given one, and a number of leaves. Names and solid marks count for
+-- nothing here: the names are left out, and no child is solid.
 abbrev pub several : ℕ → Child → Children → Children
 several zero c cs = cs
 several (suc n) c cs = next c false (several n c cs)
@@ -67,7 +67,8 @@ counts =
     ∷ record { drawing = wide sixteen-flows 22 sixteen-flows 8; nodes = 78; copies = 768; events = 376 }
     ∷ record { drawing = wide sixteen-flows 22 sixteen-flows 9; nodes = 79; copies = 769; events = 377 } ∷ []
 
+-- Each line's counts are those of its drawing.
 abbrev pub Counted : List Counts → Type 0
-Counted [] = Unit {0}
-Counted (c ∷ cs) =
-    (flow-nodes (c .drawing) ≡ c .nodes) × (flow-copies (c .drawing) ≡ c .copies) × (flow-events (c .drawing) ≡ c .events) × Counted cs
+Counted cs =
+    map (λ (c : Counts). flow-nodes (c .drawing) ∷ flow-copies (c .drawing) ∷ flow-events (c .drawing) ∷ []) cs
+    ≡ map (λ (c : Counts). c .nodes ∷ c .copies ∷ c .events ∷ []) cs

@@ -6,3 +6,4 @@ pub mod Parameters
 pub mod Flows
 pub mod Rules
 pub mod Drawings
+pub mod Verdicts

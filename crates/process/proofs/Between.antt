@@ -1,13 +1,13 @@
 -- A leaf copy that is no loop's member is taken again only after a reset of a loop around it. No rule of the diagram is needed.
 use mathlib.Core.Path.{_≡_, refl, sym, _∙_, ap}
 use mathlib.Core.Logic.{_⊎_, inl, inr}
-use mathlib.Core.Bool.{Bool, true, false, _||_, false≢true}
+use mathlib.Core.Bool.{Bool, true, false, false≢true}
 use mathlib.Core.List.{List, [], _∷_, _++_, append-assoc, tail-eq-of-cons-eq, append-eq-nil-iff}
 use Prim.Native.Nat.{ℕ, _+_, _≤_}
 use native.Mathlib.Omega.{arith}
 use lib.Dec.{eqb, leb}
 use borrow.Author.Tests.{eqb-true, eq-eqb, leb-true, leb-false}
-use Rattle.diagram.proofs.Truth.{cases, clash, or-l, or-r, or-e}
+use Rattle.diagram.proofs.Truth.{cases, clash, or-l, or-r, or-e, or-map}
 use Rattle.process.specs.Process.{Event, Joint, seq, and, or, xor, Process, event, join, again, rounds, owns}
 use Rattle.process.specs.Runs.{Whole, Begins}
 use Rattle.process.specs.Bits.{Bits, blank, clears, taking, run, after}
@@ -33,14 +33,10 @@ parts and p q d w h = let s = and-shared p q d w .0 h in (s .1, s .2)
 parts or p q d w h = let s = or-shared p q d w .0 h in (s .1, s .2)
 parts xor p q d w h = let s = xor-lone p q d w .0 h .0 in (s .1, s .2)
 
-either-owns : {a b : Bool} (c d : Bool) → (a ≡ true → c ≡ true) → (b ≡ true → d ≡ true) → (a ≡ true) ⊎ (b ≡ true) → (c || d) ≡ true
-either-owns c d f g (inl k) = or-l d (f k)
-either-owns c d f g (inr k) = or-r c (g k)
-
 pub single-owns : (p : Process) (x : ℕ) → single p x ≡ true → owns p x ≡ true
 unfolding single owns
 single-owns (event n l) x h = h
-single-owns (join j p q) x h = either-owns (owns p x) (owns q x) (λ k. single-owns p x k) (λ k. single-owns q x k) (or-e (single p x) (single q x) h)
+single-owns (join j p q) x h = or-map (owns p x) (owns q x) (λ k. single-owns p x k) (λ k. single-owns q x k) (or-e (single p x) (single q x) h)
 single-owns (again n l) x h = absurd (false≢true h)
 single-owns (rounds p r l) x h = or-l (eqb r x) (single-owns p x h)
 
@@ -105,7 +101,7 @@ between p lo x m s u v w h =
 outside-single : (p : Process) (x : ℕ) → outside p x ≡ true → single p x ≡ true
 unfolding outside single
 outside-single (event n l) x h = h
-outside-single (join j p q) x h = either-owns (single p x) (single q x) (λ k. outside-single p x k) (λ k. outside-single q x k) (or-e (outside p x) (outside q x) h)
+outside-single (join j p q) x h = or-map (single p x) (single q x) (λ k. outside-single p x k) (λ k. outside-single q x k) (or-e (outside p x) (outside q x) h)
 outside-single (again n l) x h = absurd (false≢true h)
 outside-single (rounds p r l) x h = absurd (false≢true h)
 

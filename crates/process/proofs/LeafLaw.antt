@@ -1,12 +1,12 @@
 -- One event, and one event again and again.
 use mathlib.Core.Path.{_≡_, refl, sym, _∙_, ap}
 use mathlib.Core.Logic.{_⊎_, inl, inr, _↔_}
-use mathlib.Core.Bool.{true, false}
+use mathlib.Core.Bool.{true, false, false≢true}
 use mathlib.Core.List.{List, [], _∷_, _++_, append-nil, cons≢nil, nil≢cons, head-eq-of-cons-eq, tail-eq-of-cons-eq}
 use Prim.Native.Nat.{ℕ}
 use lib.Dec.{eqb}
 use borrow.Author.Tests.{eqb-true, eq-eqb}
-use Rattle.diagram.proofs.Truth.{clash, or-l, or-r, not-i, not-e}
+use Rattle.diagram.proofs.Truth.{clash, or-l, or-r}
 use Rattle.process.specs.Process.{Event, event, again, owns}
 use Rattle.process.specs.Runs.{All, Whole}
 use Rattle.process.specs.Bits.{Bits, blank, clears, taking, run}
@@ -49,10 +49,10 @@ module _ (n : ℕ) where
   part-goes-on : (l : Event) (w : List ℕ) → Part w → (x : ℕ) → eqb n x ≡ true
       → ((v : List ℕ) × ((w ++ (x ∷ [])) ++ v ≡ n ∷ [])) ↔ (enabled (event n l) (bits blank w) x ≡ true)
   unfolding enabled
-  part-goes-on l w (inl h) x i = (λ k. not-i (part-bit w (inl h) ∙ ap filled h), λ k. ([], rw (h, ← eqb-true n x i)))
+  part-goes-on l w (inl h) x i = (λ k. rw (part-bit w (inl h) ∙ ap filled h), λ k. ([], rw (h, ← eqb-true n x i)))
   part-goes-on l w (inr h) x i = (
     λ k. absurd (cons≢nil (tail-eq-of-cons-eq (rw h at (k .1)))),
-    λ k. absurd (clash (part-bit w (inr h) ∙ ap filled h) (not-e (bits blank w n) k)),
+    λ k. absurd (false≢true (rw (part-bit w (inr h) ∙ ap filled h) at k)),
   )
 
   pub event-good : (l : Event) → Good (event n l)

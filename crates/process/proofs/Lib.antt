@@ -17,6 +17,7 @@ pub mod Events
 pub mod Decides
 pub mod Theorem
 pub mod Between
+pub mod Leaves
 pub mod NoSecond
 pub mod Joins
 pub mod Read

@@ -2,7 +2,7 @@
 use mathlib.Core.Path.{_≡_, refl, sym, _∙_, ap, ap₂}
 use mathlib.Core.Logic.{_⊎_, inl, inr}
 use mathlib.Core.Bool.{Bool, true, false, _||_, true≢false, or-comm}
-use mathlib.Core.List.{List, [], _∷_, _++_, append-nil, cons≢nil, head-eq-of-cons-eq, tail-eq-of-cons-eq}
+use mathlib.Core.List.{List, [], _∷_, _++_, append-nil, concat, concat-eq-append, eq-nil-or-concat, cons≢nil, head-eq-of-cons-eq, tail-eq-of-cons-eq}
 use Prim.Native.Nat.{ℕ}
 use Rattle.diagram.proofs.Truth.{cases, is-false, or-l, or-r, or-e}
 use Rattle.process.specs.Runs.{All, Mix, done, left, right}
@@ -18,6 +18,10 @@ filled (x ∷ w) = true
 pub filled-nil : (w : List ℕ) → filled w ≡ false → w ≡ []
 filled-nil [] e = refl
 filled-nil (x ∷ w) e = absurd (true≢false e)
+
+pub filled-of : (w : List ℕ) → (w ≡ [] → ⊥) → filled w ≡ true
+filled-of [] n = absurd (n refl)
+filled-of (x ∷ w) n = refl
 
 pub filled-append : (u v : List ℕ) → filled (u ++ v) ≡ (filled u || filled v)
 filled-append [] v = refl
@@ -49,12 +53,11 @@ cut (y ∷ w) x (z ∷ a) c e = up (cut w x a c (tail-eq-of-cons-eq e))
 
 -- A list is empty or ends in an element.
 pub last : (w : List ℕ) → (w ≡ []) ⊎ ((u : List ℕ) × (e : ℕ) × (w ≡ u ++ (e ∷ [])))
-last [] = inl refl
-last (x ∷ w) = go (last w)
+last w = go (eq-nil-or-concat w)
   where
-    go : (w ≡ []) ⊎ ((u : List ℕ) × (e : ℕ) × (w ≡ u ++ (e ∷ []))) → (x ∷ w ≡ []) ⊎ ((u : List ℕ) × (e : ℕ) × (x ∷ w ≡ u ++ (e ∷ [])))
-    go (inl h) = inr ([], x, ap (λ (l : List ℕ). x ∷ l) h)
-    go (inr h) = inr (x ∷ h .0, h .1, ap (λ (l : List ℕ). x ∷ l) (h .2))
+    go : (w ≡ []) ⊎ ((u : List ℕ) × (e : ℕ) × (w ≡ concat u e)) → (w ≡ []) ⊎ ((u : List ℕ) × (e : ℕ) × (w ≡ u ++ (e ∷ [])))
+    go (inl h) = inl h
+    go (inr (u, e, h)) = inr (u, e, h ∙ concat-eq-append u e)
 
 pub snoc-eq : (u v : List ℕ) (a b : ℕ) → u ++ (a ∷ []) ≡ v ++ (b ∷ []) → (u ≡ v) × (a ≡ b)
 snoc-eq [] [] a b e = (refl, head-eq-of-cons-eq e)

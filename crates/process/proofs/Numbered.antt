@@ -28,21 +28,21 @@ Numbered (join j p q) lo = Numbered p lo × Numbered q (lo + size p)
 Numbered (again n l) lo = n ≡ lo
 Numbered (rounds p r l) lo = Numbered p lo × (r ≡ lo + size p)
 
-abbrev In : ℕ → ℕ → ℕ → Type 0
-In lo n x = (lo ≤ x) × (x < lo + n)
+abbrev Within-bounds : ℕ → ℕ → ℕ → Type 0
+Within-bounds lo n x = (lo ≤ x) × (x < lo + n)
 
-in-either : (a b : Bool) (lo m n x : ℕ) → (a ≡ true) ↔ In lo m x → (b ≡ true) ↔ In (lo + m) n x → ((a || b) ≡ true) ↔ In lo (m + n) x
+in-either : (a b : Bool) (lo m n x : ℕ) → (a ≡ true) ↔ Within-bounds lo m x → (b ≡ true) ↔ Within-bounds (lo + m) n x → ((a || b) ≡ true) ↔ Within-bounds lo (m + n) x
 in-either a b lo m n x f g = (λ h. to (or-e a b h), λ h. from h (cases (ltb x (lo + m))))
   where
-    to : (a ≡ true) ⊎ (b ≡ true) → In lo (m + n) x
+    to : (a ≡ true) ⊎ (b ≡ true) → Within-bounds lo (m + n) x
     to (inl h) = let k = f .0 h in omega arith
     to (inr h) = let k = g .0 h in omega arith
 
-    from : In lo (m + n) x → (ltb x (lo + m) ≡ true) ⊎ (ltb x (lo + m) ≡ false) → (a || b) ≡ true
+    from : Within-bounds lo (m + n) x → (ltb x (lo + m) ≡ true) ⊎ (ltb x (lo + m) ≡ false) → (a || b) ≡ true
     from h (inl t) = let k = ltb-true x (lo + m) t in or-l b (f .1 (omega arith))
     from h (inr t) = let k = ltb-false x (lo + m) t in or-r a (g .1 (omega arith))
 
-in-one : (n lo x : ℕ) → n ≡ lo → (eqb n x ≡ true) ↔ In lo 1 x
+in-one : (n lo x : ℕ) → n ≡ lo → (eqb n x ≡ true) ↔ Within-bounds lo 1 x
 in-one n lo x e = (λ h. let k = eqb-true n x h in omega arith, λ h. eq-eqb n x (omega arith))
 
 -- A process owns exactly the numbers of its interval.

@@ -1,5 +1,5 @@
 -- A nonempty choice of two processes, neither of which has an empty run.
-use mathlib.Core.Path.{_≡_, refl, sym, _∙_, ap}
+use mathlib.Core.Path.{_≡_, sym, _∙_, ap}
 use mathlib.Core.Logic.{_⊎_, inl, inr, _↔_, Iff·trans, Iff·rfl}
 use mathlib.Core.Bool.{true, not, _&&_, _||_}
 use mathlib.Core.List.{List, [], _∷_, _++_}
@@ -9,15 +9,14 @@ use Rattle.process.specs.Process.{or, Process, join, owns}
 use Rattle.process.specs.Runs.{Either, Both, Whole, Begins}
 use Rattle.process.specs.Bits.{Bits, clears}
 use Rattle.process.specs.Guards.{begun, complete, enabled}
-use Rattle.process.proofs.Lists.{filled, all-in-l, all-swap, Apart, apart-sym, only}
+use Rattle.process.proofs.Lists.{filled, filled-of, all-in-l, all-swap, Apart, apart-sym, only}
 use Rattle.process.proofs.Local.{begins-inside}
 use Rattle.process.proofs.Seen.{Seen, Good, not-begun, both-tests, Nonempty, begins-nil, begins-whole}
 use Rattle.process.proofs.Parts.{after₂, alone, rest, begins₂}
 use Rattle.process.proofs.AndLaw.{Shared, shared-swap, both→, both←, shared→, shared←, own-part-l, own-part-r, shared-goes-on}
 
 nonempty-filled : (p : Process) → Nonempty p → (w : List ℕ) → Whole p w → filled w ≡ true
-nonempty-filled p n [] h = absurd (n h)
-nonempty-filled p n (x ∷ w) h = refl
+nonempty-filled p n w h = filled-of w (λ e. n (rw e at h))
 
 -- A process of the choice: its part of the list is a run, or nothing was taken of it.
 abbrev Part : Process → List ℕ → Type 0

@@ -6,14 +6,14 @@ use mathlib.Core.List.{List, [], _∷_, _++_, append-nil, append-assoc, cons≢n
 use Prim.Native.Nat.{ℕ}
 use lib.Dec.{eqb}
 use borrow.Author.Tests.{eqb-true, eq-eqb}
-use Rattle.diagram.proofs.Truth.{cases, clash, is-false, or-r, not-i, not-e}
+use Rattle.diagram.proofs.Truth.{cases, clash, is-false, or-r, not-i}
 use Rattle.process.specs.Process.{Event, Process, rounds, owns}
 use Rattle.process.specs.Runs.{Runs, All, Rounds, stop, more, Whole, Begins}
 use Rattle.process.specs.Bits.{Bits, blank, clears, taking, run, after}
 use Rattle.process.specs.Guards.{begun, complete, enabled}
-use Rattle.process.proofs.Lists.{filled, filled-nil, filled-append, filled-snoc, snoc≢nil, Cut, cut, last, snoc-eq, all-right}
+use Rattle.process.proofs.Lists.{filled, filled-append, filled-snoc, snoc≢nil, Cut, cut, last, snoc-eq, all-right}
 use Rattle.process.proofs.Local.{begins-inside, closed, Agree, begun-local, run-append}
-use Rattle.process.proofs.Seen.{Seen, Good, seen-local, begins-nil, begins-whole, begins-shorter}
+use Rattle.process.proofs.Seen.{Seen, Good, seen-local, not-begun, begins-nil, begins-whole, begins-shorter}
 
 -- Lists of rounds
 module _ (A : Runs) (r : ℕ) where
@@ -176,7 +176,7 @@ module _ (p : Process) (r : ℕ) (l : Event) (out : owns p r ≡ false) where
         from : not (begun p (after loop w)) ≡ true → Rounds (Whole p) r w
         from h =
             let k : not (begun p (after loop (t .u ++ t .v))) ≡ true = rw (t .cut-at) at h in
-            let z : t .v ≡ [] = filled-nil (t .v) (sym (seen (t .u) (t .v) (t .turns) (t .rest) .begins) ∙ not-e (begun p (after loop (t .u ++ t .v))) k) in
+            let z : t .v ≡ [] = not-begun p (seen (t .u) (t .v) (t .turns) (t .rest)) .1 k in
             rw (t .cut-at, z, append-nil) (t .turns)
 
     goes→ : (w : List ℕ) (x : ℕ) → Ahead p r w x → enabled loop (after loop w) x ≡ true

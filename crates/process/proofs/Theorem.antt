@@ -1,23 +1,23 @@
 -- The core theorem, for every diagram that keeps the rules: the control bits decide which lists of events begin a whole run, and
 -- which are one.
-use mathlib.Core.Path.{_≡_, refl, _∙_, ap}
-use mathlib.Core.Logic.{_↔_}
+use mathlib.Core.Path.{_≡_, _∙_, ap}
+use mathlib.Core.Logic.{_↔_, Iff·trans, Iff·symm, Iff·rfl}
 use mathlib.Core.Bool.{true}
 use mathlib.Core.List.{List, [], _∷_, _++_}
 use Prim.Native.Nat.{ℕ, _<_}
 use Rattle.diagram.specs.Tree.{Flow}
 use Rattle.diagram.specs.Count.{flow-events}
 use Rattle.diagram.specs.Rules.{Keeps}
-use Rattle.diagram.proofs.Truth.{clash, and-l, and-r, and-i}
+use Rattle.diagram.proofs.Truth.{clash}
 use Rattle.process.specs.Process.{owns}
 use Rattle.process.specs.Expand.{expand}
 use Rattle.process.specs.Runs.{Whole, Begins}
 use Rattle.process.specs.Bits.{after}
 use Rattle.process.specs.Guards.{begun, complete, enabled}
 use Rattle.process.specs.Decide.{begins?, whole?}
-use Rattle.process.proofs.Lists.{filled}
+use Rattle.process.proofs.Lists.{filled, filled-of}
 use Rattle.process.proofs.Local.{run-of}
-use Rattle.process.proofs.Seen.{Good}
+use Rattle.process.proofs.Seen.{Good, both-tests}
 use Rattle.process.proofs.Choices.{good}
 use Rattle.process.proofs.Expanded.{flow-fit}
 use Rattle.process.proofs.Events.{expand-laid, expand-events}
@@ -25,10 +25,6 @@ use Rattle.process.proofs.Decides.{next-iff, begins?-iff, whole?-iff}
 
 pub expand-good : (d : Flow) → Keeps d → Good (expand d)
 expand-good d k = good (expand d) 0 (expand-laid d (k .sizes) .numbered) (flow-fit d (k .solids) [] 0 .choices)
-
-filled-of : (w : List ℕ) → (w ≡ [] → ⊥) → filled w ≡ true
-filled-of [] n = absurd (n refl)
-filled-of (x ∷ w) n = refl
 
 -- A whole run exists.
 pub run-exists : (d : Flow) → (w : List ℕ) × Whole (expand d) w
@@ -43,13 +39,8 @@ module _ (d : Flow) (k : Keeps d) where
   pub next-iff-enabled : (w : List ℕ) (e : ℕ) → Begins (expand d) w
       → Begins (expand d) (w ++ (e ∷ [])) ↔ ((e < flow-events d) × (enabled (expand d) (after (expand d) w) e ≡ true))
   next-iff-enabled w e h =
-      let n = next-iff (expand d) (expand-good d k) w e h in
-      let i = expand-events d (k .sizes) e in (
-        λ b.
-            let t = n .0 b in
-            (i .0 (and-l (owns (expand d) e) (enabled (expand d) (after (expand d) w) e) t), and-r (owns (expand d) e) (enabled (expand d) (after (expand d) w) e) t),
-        λ b. n .1 (and-i (i .1 (b .0)) (b .1)),
-      )
+      Iff·trans (next-iff (expand d) (expand-good d k) w e h)
+      (Iff·symm (both-tests (owns (expand d) e) (enabled (expand d) (after (expand d) w) e) (Iff·symm (expand-events d (k .sizes) e)) Iff·rfl))
 
   -- and w has an event exactly if `begun` says so.
   pub begun-iff-nonempty : (w : List ℕ) → Begins (expand d) w → (begun (expand d) (after (expand d) w) ≡ true) ↔ (w ≡ [] → ⊥)
