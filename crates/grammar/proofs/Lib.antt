@@ -1,0 +1,16 @@
+pub mod Codes
+pub mod Stack
+pub mod Nodes
+pub mod Steps
+pub mod LimitedFrom
+pub mod Levels
+pub mod Limited
+pub mod LimitedTrees
+pub mod Lexed
+pub mod Rendered
+pub mod Goods
+pub mod Runs
+pub mod Grammar
+pub mod Printing
+pub mod Once
+pub mod Few

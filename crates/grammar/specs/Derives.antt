@@ -1,0 +1,34 @@
+-- What a text derives, and which beginnings some grammatical text has.
+use mathlib.Core.Path.{_≡_}
+use mathlib.Core.Bool.{Bool, true, false, not, _&&_}
+use mathlib.Core.List.{List, [], _∷_, _++_}
+use Rattle.diagram.specs.Tree.{Name, Flow}
+use Rattle.diagram.specs.Sizes.{flow-sized}
+use Rattle.lexer.specs.Classes.{worded, blank}
+use Rattle.lexer.specs.Words.{every}
+use Rattle.grammar.specs.Named.{flow-named}
+use Rattle.grammar.specs.Tokens.{flow-tokens}
+
+-- A diagram of the grammar: its names are names, and its sizes are 1 to 16.
+pub record Grammatical (d : Flow) : Type 0 where
+  pub names : flow-named d ≡ true
+  pub sizes : flow-sized d ≡ true
+
+-- The diagram derives these tokens.
+pub record Derives (ts : List Name) (d : Flow) : Type 0 where
+  pub proper : Grammatical d
+  pub told : ts ≡ flow-tokens d []
+
+-- Some grammatical text starts with these tokens.
+abbrev pub Viable : List Name → Type 0
+Viable ts = (d : Flow) × (rest : List Name) × Derives (ts ++ rest) d
+
+-- What a token can be: a word, or one byte that is no blank.
+abbrev pub token : Name → Bool
+token [] = false
+token (b ∷ []) = not (blank b)
+token (b ∷ c ∷ w) = every worded (b ∷ c ∷ w)
+
+abbrev pub all-tokens : List Name → Bool
+all-tokens [] = true
+all-tokens (t ∷ ts) = token t && all-tokens ts

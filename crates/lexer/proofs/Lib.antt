@@ -1,0 +1,9 @@
+mod Table
+pub mod Front
+pub mod Between
+mod Slices
+mod Ways
+pub mod Steps
+pub mod Spans
+pub mod Filled
+mod Answer

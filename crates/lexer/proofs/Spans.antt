@@ -1,0 +1,190 @@
+-- What the tokens of a text are, token by token: as many numbers and places as tokens, each a part of the text; and a token's number is
+-- 6 exactly where it is a name.
+use mathlib.Core.Path.{_≡_, refl, sym, ap, _∙_, subst}
+use mathlib.Core.Bool.{Bool, true, false, _&&_, cond}
+use mathlib.Core.List.{List, [], _∷_}
+use Prim.Native.Nat.{ℕ, zero, suc, _+_, _-_, _≤_, _<_}
+use native.Mathlib.Omega.{arith}
+use lib.Dec.{eqb, ltb}
+use lib.ListN.{length, take, drop, getD, length-drop, length-map, List·getD-map}
+use lib.Seq.{drop-drop, getD-take}
+use borrow.Author.Tests.{eq-eqb, eqb-true, ltb-false}
+use Rattle.diagram.specs.Tree.{Name}
+use Rattle.diagram.specs.Names.{same}
+use Rattle.diagram.proofs.Truth.{and-l, and-r, and-i, clash}
+use Rattle.lexer.specs.Classes.{between, class-of, letter, worded}
+use Rattle.lexer.specs.Words.{front, blanks, word-at, place-in, keywords, keyword, short, every, lettered, named, numeral, word-code, code}
+use Rattle.lexer.specs.Spans.{Span, width, cut, spans, spans-of, tokens, codes, places}
+use Rattle.lexer.proofs.Between.{between-in, between-from, between-to}
+use Rattle.lexer.proofs.Front.{front-every}
+use Rattle.lexer.proofs.Ways.{lettered-first}
+use Rattle.lexer.proofs.Steps.{width-some}
+
+pub tokens-length : (text : List ℕ) → length (tokens text) ≡ length (spans-of text)
+unfolding tokens
+tokens-length text = length-map (spans-of text) (λ (s : Span). s .bytes)
+
+pub codes-length : (text : List ℕ) → length (codes text) ≡ length (spans-of text)
+unfolding codes
+codes-length text = length-map (tokens text) code ∙ tokens-length text
+
+pub places-length : (text : List ℕ) → length (places text) ≡ length (spans-of text)
+unfolding places
+places-length text = length-map (spans-of text) (λ (s : Span). s .place)
+
+-- What stands past the last token.
+abbrev pub no-span : Span
+no-span = record { place = 0; bytes = [] }
+
+pub token-at : (text : List ℕ) (k : ℕ) → getD (tokens text) k [] ≡ getD (spans-of text) k no-span .bytes
+unfolding tokens
+token-at text k = List·getD-map (λ (s : Span). s .bytes) (spans-of text) k no-span
+
+pub code-at : (text : List ℕ) (k : ℕ) → getD (codes text) k 0 ≡ code (getD (tokens text) k [])
+unfolding codes code class-of
+code-at text k = List·getD-map code (tokens text) k []
+
+pub place-at : (text : List ℕ) (k : ℕ) → getD (places text) k 0 ≡ getD (spans-of text) k no-span .place
+unfolding places
+place-at text k = List·getD-map (λ (s : Span). s .place) (spans-of text) k no-span
+
+-- There are no more tokens than bytes.
+cut-length : (r : ℕ → List ℕ → List Span) (f at : ℕ) (l : List ℕ) → ((p : ℕ) (m : List ℕ) → length (r p m) ≤ f) → length (cut r at l) ≤ suc f
+cut-length r f at [] h = omega arith
+cut-length r f at (b ∷ bs) h = omega (arith, h (at + width (b ∷ bs)) (drop (width (b ∷ bs)) (b ∷ bs)))
+
+spans-length : (f at : ℕ) (l : List ℕ) → length (spans f at l) ≤ f
+unfolding spans
+spans-length zero at l = omega arith
+spans-length (suc f) at l = cut-length (λ at bs. spans f at bs) f (at + blanks l) (drop (blanks l) l) (λ p m. spans-length f p m)
+
+pub tokens-bounded : (text : List ℕ) → length (spans-of text) ≤ length text
+unfolding spans-of
+tokens-bounded text = spans-length (length text) 0 text
+
+-- A token is what stands at its place in the text.
+pub record Stands (text : List ℕ) (s : Span) : Type 0 where
+  pub below : s .place < length text
+  pub is : s .bytes ≡ take (width (drop (s .place) text)) (drop (s .place) text)
+
+module _ (text : List ℕ) (r : ℕ → List ℕ → List Span) (i : ℕ)
+    (rest : (p k : ℕ) → k < length (r p (drop p text)) → Stands text (getD (r p (drop p text)) k no-span)) where
+  cut-stands : (k : ℕ) (l : List ℕ) → l ≡ drop i text → k < length (cut r i l) → Stands text (getD (cut r i l) k no-span)
+  cut-stands k [] e h = let z : ⊥ = omega arith in absurd z
+  cut-stands zero (b ∷ bs) e h = record {
+    below = omega (arith, ap length e ∙ length-drop i text);
+    is = ap (λ (l : List ℕ). take (width l) l) e;
+  }
+  cut-stands (suc k) (b ∷ bs) e h =
+      let w = width (b ∷ bs) in
+      let q : drop w (b ∷ bs) ≡ drop (i + w) text = ap (λ (l : List ℕ). drop w l) e ∙ drop-drop w i text in
+      subst (λ (m : List ℕ). k < length (r (i + w) m) → Stands text (getD (r (i + w) m) k no-span)) (sym q) (rest (i + w) k) (omega arith)
+
+spans-stand : (text : List ℕ) (f at k : ℕ) → k < length (spans f at (drop at text)) → Stands text (getD (spans f at (drop at text)) k no-span)
+unfolding spans
+spans-stand text zero at k h = let z : ⊥ = omega arith in absurd z
+spans-stand text (suc f) at k h =
+    cut-stands text (λ at bs. spans f at bs) (at + blanks (drop at text)) (λ p k h. spans-stand text f p k h) k
+    (drop (blanks (drop at text)) (drop at text)) (drop-drop (blanks (drop at text)) at text) h
+
+pub stands : (text : List ℕ) (k : ℕ) → k < length (tokens text) → Stands text (getD (spans-of text) k no-span)
+unfolding spans-of
+stands text k h = spans-stand text (length text) 0 k (omega (arith, tokens-length text))
+
+pub places-below : (text : List ℕ) (k : ℕ) → k < length (tokens text) → getD (places text) k 0 < length text
+places-below text k h = rw (place-at text k) (stands text k h .below)
+
+-- A token whose first byte is a word's is the word that starts at its place.
+first-of : (l : List ℕ) → getD (take (width l) l) 0 0 ≡ getD l 0 0
+unfolding width
+first-of [] = refl
+first-of (b ∷ bs) = getD-take (width (b ∷ bs)) (b ∷ bs) 0 0 (width-some (b ∷ bs) (omega arith))
+
+width-worded : (l : List ℕ) → worded (getD l 0 0) ≡ true → width l ≡ front worded l
+unfolding width front
+width-worded [] h = refl
+width-worded (b ∷ bs) h = rw h
+
+whole-word : (text : List ℕ) (s : Span) → Stands text s → worded (getD (s .bytes) 0 0) ≡ true → word-at text (s .place) ≡ s .bytes
+whole-word text s t h =
+    let d = drop (s .place) text in
+    let w = ap (λ (l : List ℕ). worded (getD l 0 0)) (t .is) ∙ ap worded (first-of d) in
+    sym (t .is ∙ ap (λ (n : ℕ). take n d) (width-worded d (sym w ∙ h)))
+
+pub token-word : (text : List ℕ) (k : ℕ) → k < length (tokens text) → worded (getD (getD (tokens text) k []) 0 0) ≡ true
+    → word-at text (getD (places text) k 0) ≡ getD (tokens text) k []
+token-word text k h e = rw (place-at text k, token-at text k) (whole-word text (getD (spans-of text) k no-span) (stands text k h) (rw (token-at text k) at e))
+
+pub token-worded : (text : List ℕ) (k : ℕ) → k < length (tokens text) → worded (getD (getD (tokens text) k []) 0 0) ≡ true
+    → every worded (getD (tokens text) k []) ≡ true
+token-worded text k h e = rw (← token-word text k h e) (front-every worded (drop (getD (places text) k 0) text))
+
+-- The number 6.
+worded-if : (v : Bool) (c n : ℕ) → between 5 7 c ≡ v → cond v n c ≡ 6 → v ≡ true
+worded-if true c n e h = refl
+worded-if false c n e h = absurd (clash (between-in 5 7 c (omega arith) (omega arith)) e)
+
+pub code-worded : (w : Name) → code w ≡ 6 → worded (getD w 0 0) ≡ true
+unfolding code
+code-worded w h = worded-if (worded (getD w 0 0)) (class-of (getD w 0 0)) (word-code w) refl h
+
+pub word-of : (text : List ℕ) (k : ℕ) → k < length (tokens text) → getD (codes text) k 0 ≡ 6
+    → word-at text (getD (places text) k 0) ≡ getD (tokens text) k []
+word-of text k h e = token-word text k h (code-worded (getD (tokens text) k []) (sym (code-at text k) ∙ e))
+
+placed-if : (b : Bool) (k n : ℕ) → 7 ≤ k → (n ≡ 6 → ⊥) → cond b k n ≡ 6 → ⊥
+placed-if true k n h f e = omega arith
+placed-if false k n h f e = f e
+
+placed : (ns : List Name) (k : ℕ) (w : Name) → 7 ≤ k → place-in ns k w ≡ 6 → ⊥
+placed [] k w h e = omega arith
+placed (n ∷ ns) k w h e = placed-if (same w n) k (place-in ns (suc k) w) h (placed ns (suc k) w (omega arith)) e
+
+keyword-not : (w : Name) → keyword w ≡ 6 → ⊥
+unfolding keyword
+keyword-not w e = placed keywords 7 w (omega arith) e
+
+counted-if : (a b x d : ℕ) (v : Bool) → between a b x ≡ v → d + 7 ≤ a → cond v (x - d) 5 ≡ 6 → ⊥
+counted-if a b x d true e h q = let l = between-from a b x e in omega arith
+counted-if a b x d false e h q = omega arith
+
+teen-if : (t : Bool) (y : ℕ) → cond (t && between 48 54 y) (y - 22) 5 ≡ 6 → ⊥
+teen-if true y q = counted-if 48 54 y 22 (between 48 54 y) refl (omega arith) q
+teen-if false y q = omega arith
+
+numeral-not : (w : Name) → numeral w ≡ 6 → ⊥
+unfolding numeral
+numeral-not [] q = omega arith
+numeral-not (x ∷ []) q = counted-if 48 57 x 32 (between 48 57 x) refl (omega arith) q
+numeral-not (x ∷ y ∷ []) q = teen-if (eqb x 49) y q
+numeral-not (x ∷ y ∷ z ∷ w) q = omega arith
+
+named-if : (b l s : Bool) (k n : ℕ) → ltb 0 k ≡ b → (k ≡ 6 → ⊥) → (n ≡ 6 → ⊥) → cond b k (cond l (cond s 6 5) n) ≡ 6
+    → (k ≡ 0) × (l ≡ true) × (s ≡ true)
+named-if true l s k n e f g h = absurd (f h)
+named-if false true true k n e f g h = let z = ltb-false 0 k e in (omega arith, refl, refl)
+named-if false true false k n e f g h = let z : ⊥ = omega arith in absurd z
+named-if false false s k n e f g h = absurd (g h)
+
+pub code-name : (w : Name) → code w ≡ 6 → every worded w ≡ true → named w ≡ true
+unfolding code word-code named
+code-name w h e =
+    let v = code-worded w h in
+    let p = named-if (ltb 0 (keyword w)) (lettered w) (short w) (keyword w) (numeral w) refl (keyword-not w) (numeral-not w) (rw v at h) in
+    and-i (and-i (p .1) e) (and-i (p .2) (eq-eqb (keyword w) 0 (p .0)))
+
+letter-worded : (b : ℕ) → letter b ≡ true → worded b ≡ true
+letter-worded b e =
+    let h = between-from 5 5 (class-of b) e in
+    let l = between-to 5 5 (class-of b) e in
+    between-in 5 7 (class-of b) h (omega arith)
+
+pub name-code : (w : Name) → named w ≡ true → code w ≡ 6
+unfolding code word-code named
+name-code w h =
+    let a = and-l (lettered w && every worded w) (short w && eqb (keyword w) 0) h in
+    let b = and-r (lettered w && every worded w) (short w && eqb (keyword w) 0) h in
+    let l = and-l (lettered w) (every worded w) a in
+    let v = letter-worded (getD w 0 0) (sym (lettered-first w) ∙ l) in
+    let k : keyword w ≡ 0 = eqb-true (keyword w) 0 (and-r (short w) (eqb (keyword w) 0) b) in
+    rw (v, k, l, and-l (short w) (eqb (keyword w) 0) b)

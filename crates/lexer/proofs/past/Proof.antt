@@ -1,0 +1,70 @@
+-- `lexer::past` meets its contract. The loop's invariant: the same place is reached from `at` and from `i`.
+use borrow.Author.Needs.{needs}
+use Prim.Native.Nat.{_+_, _-_}
+use mathlib.Core.Path.{_≡_, refl, sym, _∙_}
+use lib.ListN.{length, drop}
+use Rattle.lexer.specs.Classes.{within}
+use Rattle.lexer.specs.Words.{front}
+use Rattle.lexer.proofs.Front.{front-end, front-stop, front-more}
+use Rattle.lexer.proofs.Between.{between-in, between-low, between-high}
+use Rattle.lexer.proofs.past.Statement.{statement}
+use Rattle.lexer.proofs.past.Tie as tie
+
+abbrev Inv-loop : tie.InvT-loop
+Inv-loop text at low high i₀ i = at + front (within low high) (drop at text) ≡ i + front (within low high) (drop i text)
+
+abbrev μ-loop : tie.MeasureT-loop
+μ-loop text at low high i₀ i = length text - i
+
+loop-holds : tie.Need-loop-holds Inv-loop μ-loop
+loop-holds c = refl
+
+shared-slice-read-class : tie.Need-shared-slice-read-class Inv-loop μ-loop
+shared-slice-read-class c = search needs
+
+class-requires : tie.Need-class-requires Inv-loop μ-loop
+class-requires c κs = search needs
+
+returns : tie.Need-returns Inv-loop μ-loop
+returns c =
+    let b = c .before .before .before in
+    let l = b .before .loop in
+    sym (l .inv ∙ front-stop _ _ (l .i) (b .loop-test .taken) (between-low _ _ _ (rw (c .before .class .ensures) at (c .if1 .taken))))
+
+returns-2 : tie.Need-returns-2 Inv-loop μ-loop
+returns-2 c =
+    let b = c .before .before .before .before in
+    let l = b .before .loop in
+    sym (l .inv ∙ front-stop _ _ (l .i) (b .loop-test .taken) (between-high _ _ _ (rw (c .before .before .class .ensures) at (c .if2 .taken))))
+
+add-i : tie.Need-add-i Inv-loop μ-loop
+add-i c = search needs
+
+loop-less : tie.Need-loop-less Inv-loop μ-loop
+loop-less c = search needs
+
+loop-again : tie.Need-loop-again Inv-loop μ-loop
+loop-again c =
+    let b = c .before .before .before .before in
+    let l = b .before .loop in
+    let e = c .before .before .class .ensures in
+    l .inv ∙ front-more _ _ (l .i) (b .loop-test .taken) (between-in _ _ _ (rw e at (c .before .if1 .left)) (rw e at (c .if2 .left)))
+
+returns-3 : tie.Need-returns-3 Inv-loop μ-loop
+returns-3 c = sym (c .before .loop .inv ∙ front-end _ _ (c .before .loop .i) (c .loop-test .left))
+
+pub past-spec : {M : Type 1} → statement M
+past-spec =
+    tie.close
+    (tie.spec
+    Inv-loop
+    μ-loop
+    loop-holds
+    shared-slice-read-class
+    class-requires
+    returns
+    returns-2
+    add-i
+    loop-less
+    loop-again
+    returns-3)

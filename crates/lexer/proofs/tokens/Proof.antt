@@ -1,0 +1,80 @@
+-- `lexer::tokens` meets its contract. The loop's invariant: n tokens are written, and those from `at` on are left.
+use Prim.Native.Nat.{_-_}
+use mathlib.Core.Path.{ap, _∙_}
+use lib.ListN.{length}
+use Rattle.lexer.proofs.Filled.{end-after, less-left, fill-length, Midway, midway-start, midway-again, midway-end}
+use borrow.Author.Needs.{needs}
+use native.Mathlib.Omega.{arith}
+use Rattle.lexer.proofs.tokens.Statement.{statement}
+use Rattle.lexer.proofs.tokens.Tie as tie
+
+abbrev Inv-loop : tie.InvT-loop
+Inv-loop text codes₀ starts₀ n₀ at₀ codes starts n at = Midway text codes₀ starts₀ codes starts n at
+
+abbrev μ-loop : tie.MeasureT-loop
+μ-loop text codes₀ starts₀ n₀ at₀ codes starts n at = length text - at
+
+skip-requires : tie.Need-skip-requires Inv-loop μ-loop
+skip-requires c κs = search needs
+
+loop-holds : tie.Need-loop-holds Inv-loop μ-loop
+loop-holds c = midway-start _ _ _ _ (c .skip .ensures)
+
+token-end-requires : tie.Need-token-end-requires Inv-loop μ-loop
+token-end-requires c κs = search needs
+
+code-requires : tie.Need-code-requires Inv-loop μ-loop
+code-requires c κs = end-after _ _ _ (c .before .loop-test .taken) (c .token-end .ensures)
+
+put-code-requires : tie.Need-put-code-requires Inv-loop μ-loop
+put-code-requires c κs = search needs
+
+cast-put-start : tie.Need-cast-put-start Inv-loop μ-loop
+cast-put-start c = let h = c .before .before .before .before .before .before .before .loop-test .taken in let p = c .before .before .before .before .before .before .before .before .before .before .before .before .before .pre in omega arith
+
+put-start-requires : tie.Need-put-start-requires Inv-loop μ-loop
+put-start-requires c κs = search needs
+
+add-n : tie.Need-add-n Inv-loop μ-loop
+add-n c = let h = c .before .before .before .before .before .before .before .before .before .before .loop-test .taken in let f = c .before .before .before .before .before .before .before .before .before .before .before .loop .inv .few in search needs
+
+skip-requires-2 : tie.Need-skip-requires-2 Inv-loop μ-loop
+skip-requires-2 c κs = search needs
+
+loop-less : tie.Need-loop-less Inv-loop μ-loop
+loop-less c = less-left _ _ _ _ (c .before .before .before .before .before .before .before .before .before .before .before .loop-test .taken) (c .before .before .before .before .before .before .before .before .before .before .token-end .ensures) (c .skip2 .ensures)
+
+loop-again : tie.Need-loop-again Inv-loop μ-loop
+loop-again c =
+    let l = c .before .before .before .before .before .before .before .before .before .before .before in
+    midway-again _ _ _ _ _ _ _ (l .before .loop .inv) _ (l .loop-test .taken) (c .before .before .before .before .before .before .before .before .before .before .token-end .ensures) _ _ _ _ (c .before .before .before .before .before .before .before .before .before .code .ensures) (c .before .before .before .before .before .before .before .put-code .ensures) (c .before .before .before .put-start .ensures) (c .skip2 .ensures)
+
+same-length : tie.Need-same-length Inv-loop μ-loop
+same-length c = ap length (c .before .loop .inv .coded) ∙ fill-length _ _
+
+same-length-2 : tie.Need-same-length-2 Inv-loop μ-loop
+same-length-2 c = ap length (c .before .loop .inv .placed) ∙ fill-length _ _
+
+returns : tie.Need-returns Inv-loop μ-loop
+returns c = midway-end _ _ _ _ _ _ _ (c .before .loop .inv) (c .loop-test .left)
+
+pub tokens-spec : {M : Type 1} → statement M
+tokens-spec =
+    tie.close
+    (tie.spec
+    Inv-loop
+    μ-loop
+    skip-requires
+    loop-holds
+    token-end-requires
+    code-requires
+    put-code-requires
+    cast-put-start
+    put-start-requires
+    add-n
+    skip-requires-2
+    loop-less
+    loop-again
+    same-length
+    same-length-2
+    returns)

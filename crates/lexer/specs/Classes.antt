@@ -1,0 +1,37 @@
+-- Document 01, "The text": "Each of the 256 byte values has one class: letter (A to Z, a to z), digit, underscore, one of
+-- ( ) , : , blank (32 or 10), or foreign."
+use mathlib.Core.Bool.{Bool, _&&_, _||_, cond}
+use Prim.Native.Nat.{ℕ}
+use lib.Dec.{eqb, leb}
+
+abbrev pub between : ℕ → ℕ → ℕ → Bool
+between a b x = leb a x && leb x b
+
+-- The classes by number: 0 foreign, 1 to 4 the signs ( ) , : in this order, 5 letter, 6 digit, 7 underscore, 8 blank.
+unfoldable pub class-of : ℕ → ℕ
+class-of b =
+    cond (eqb b 40) 1
+    (cond (eqb b 41) 2
+    (cond (eqb b 44) 3
+    (cond (eqb b 58) 4
+    (cond (between 65 90 b || between 97 122 b) 5
+    (cond (between 48 57 b) 6
+    (cond (eqb b 95) 7
+    (cond (eqb b 32 || eqb b 10) 8 0)))))))
+
+-- The byte's class is one of those from a to b.
+abbrev pub within : ℕ → ℕ → ℕ → Bool
+within a b x = between a b (class-of x)
+
+abbrev pub foreign : ℕ → Bool
+foreign = within 0 0
+
+abbrev pub letter : ℕ → Bool
+letter = within 5 5
+
+-- "letters, digits and underscores": what a word is made of.
+abbrev pub worded : ℕ → Bool
+worded = within 5 7
+
+abbrev pub blank : ℕ → Bool
+blank = within 8 8
