@@ -9,7 +9,7 @@ use lib.Dec.{eqb, ltb, leb}
 use borrow.Author.Tests.{leb-false}
 use Rattle.diagram.proofs.Truth.{cases}
 use Rattle.lexer.specs.Classes.{between}
-use Rattle.grammar.specs.Machine.{Want, sign, number, params, param, node, more, others, Move, off, big, push, Outcome, whole, stop, begin, expand, proceed, run, outcome, full, parts, child, member, ref}
+use Rattle.grammar.specs.Machine.{Want, sign, number, params, param, node, more, others, Move, off, big, push, Outcome, whole, stop, begin, expand, proceed, run, outcome, full, parts, root, depths, child, member, ref}
 use Rattle.grammar.proofs.Codes.{chosen}
 
 -- A move keeps the number of nodes within the limit.
@@ -66,4 +66,4 @@ run-within (w ∷ ws) n k (c ∷ cs) h =
 
 pub whole-few : (cs : List ℕ) (n : ℕ) → outcome cs ≡ whole n → n ≤ 256
 unfolding outcome
-whole-few cs n e = subst (λ (o : Outcome). Within o) e (run-within (node 7 12 ∷ []) 0 0 cs (omega arith))
+whole-few cs n e = subst (λ (o : Outcome). Within o) e (run-within (node root depths ∷ []) 0 0 cs (omega arith))

@@ -15,7 +15,7 @@ use Rattle.diagram.proofs.Truth.{cases}
 use Rattle.lexer.specs.Words.{code}
 use Rattle.grammar.specs.Tokens.{child-tokens, member-tokens}
 use Rattle.grammar.specs.Named.{child-named, member-named}
-use Rattle.grammar.specs.Machine.{Want, node, Outcome, whole, stop, root, outcome}
+use Rattle.grammar.specs.Machine.{Want, node, Outcome, whole, stop, root, outcome, depths}
 use Rattle.grammar.specs.Derives.{Derives, Viable, all-tokens}
 use Rattle.grammar.proofs.Stack.{Node, SpellsAll, place, shape}
 use Rattle.grammar.proofs.Goods.{good-root}
@@ -23,7 +23,7 @@ use Rattle.grammar.proofs.Runs.{Off, Big, Told, told}
 pub use Rattle.grammar.proofs.Once.{derived-once}
 
 abbrev first : List Want
-first = node root 12 ∷ []
+first = node root depths ∷ []
 
 -- The first entry spells the texts that derive a diagram.
 spelled : (ts : List Name) (d : Flow) → Derives ts d → SpellsAll first ts []
@@ -74,7 +74,7 @@ pub data Answered (ts : List Name) : Type 0 where
 module _ (ts : List Name) (h : all-tokens ts ≡ true) where
   tells : (o : Outcome) → answer ts ≡ o → Told first ts 0 o
   unfolding outcome
-  tells o e = subst (Told first ts 0) e (told ts h first (good-root 12, tt) 0 0)
+  tells o e = subst (Told first ts 0) e (told ts h first (good-root depths, tt) 0 0)
 
   off-told : (k : ℕ) → answer ts ≡ stop 5 k → Off first ts k
   off-told k e = let r = tells (stop 5 k) e in ⊎-elim (λ q. subst (Off first ts) (omega (arith, r .1)) (q .1)) (λ q. let z : ⊥ = omega (arith, q .0) in absurd z) (r .2)

@@ -6,7 +6,7 @@ use mathlib.Core.List.{List, [], _∷_, _++_}
 use Prim.Native.Nat.{ℕ, zero, suc, _+_, _≤_, _<_}
 use native.Mathlib.Omega.{arith}
 use lib.ListN.{length}
-use Rattle.grammar.specs.Machine.{Want, node, root, Move, off, big, push, Outcome, whole, stop, expand, proceed, run, outcome}
+use Rattle.grammar.specs.Machine.{Want, node, root, Move, off, big, push, Outcome, whole, stop, expand, proceed, run, outcome, depths}
 use Rattle.grammar.specs.Limits.{nodes-in, count-of, too-big}
 use Rattle.grammar.proofs.LimitedFrom.{keys, opens, closes, big-at, big-in, big-here, big-later, big-nil, too-big-in, nodes-cons, Safe, safe-cons}
 use Rattle.grammar.proofs.Levels.{Turns, Level, turns-append, Moves, expand-moves}
@@ -60,7 +60,7 @@ told (c ∷ cs) (w ∷ ws) n p k l =
 
 outcome-told : (cs : List ℕ) → Told 0 0 0 cs (outcome cs)
 unfolding outcome
-outcome-told cs = told cs (node root 12 ∷ []) 0 0 0 (0, omega arith, refl)
+outcome-told cs = told cs (node root depths ∷ []) 0 0 0 (0, omega arith, refl)
 
 -- Why the token k is refused with the number c, by the tokens alone.
 abbrev Known : List ℕ → ℕ → ℕ → Type 0

@@ -19,7 +19,7 @@ use Rattle.grammar.proofs.Codes.{in-range}
 use Rattle.grammar.proofs.Lexed.{stops, pieces, cut-is-token, front-stop, worded-no-blank}
 use Rattle.grammar.proofs.Rendered.{usual, proper, all-proper}
 
-printed-front : (bs : List ℕ) → printed (drop (blanks bs) bs) ≡ printed bs
+pub printed-front : (bs : List ℕ) → printed (drop (blanks bs) bs) ≡ printed bs
 unfolding printed front
 printed-front [] = refl
 printed-front (b ∷ bs) = ⊎-elim (λ e. rw e (printed-front bs)) (λ e. rw e (rw e)) (cases (blank b))

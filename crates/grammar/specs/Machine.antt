@@ -85,6 +85,10 @@ run [] n k (c ∷ cs) = stop 5 k
 run (w ∷ ws) n k [] = stop 5 k
 run (w ∷ ws) n k (c ∷ cs) = proceed (expand w n c) k (λ u vs. run (vs ++ ws) (n + u) (suc k) cs)
 
--- "The text is one flow, the root", at most 12 deep.
+-- A node at depth 13 is too deep.
+abbrev pub depths : ℕ
+depths = 12
+
+-- "The text is one flow, the root."
 unfoldable pub outcome : List ℕ → Outcome
-outcome cs = run (node root 12 ∷ []) 0 0 cs
+outcome cs = run (node root depths ∷ []) 0 0 cs

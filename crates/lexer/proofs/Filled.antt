@@ -65,8 +65,23 @@ fill-length [] vs = refl
 fill-length (x ∷ xs) [] = refl
 fill-length (x ∷ xs) (v ∷ vs) = ap suc (fill-length xs vs)
 
+-- What was written over the front of a list that is long enough, and what stands past it.
+pub fill-front : (xs vs : List ℕ) → length vs ≤ length xs → take (length vs) (fill xs vs) ≡ vs
+unfolding fill
+fill-front [] [] h = refl
+fill-front [] (v ∷ vs) h = let z : ⊥ = omega arith in absurd z
+fill-front (x ∷ xs) [] h = refl
+fill-front (x ∷ xs) (v ∷ vs) h = ap (λ (l : List ℕ). v ∷ l) (fill-front xs vs (omega arith))
+
+pub fill-past : (xs vs : List ℕ) → drop (length vs) (fill xs vs) ≡ drop (length vs) xs
+unfolding fill
+fill-past [] [] = refl
+fill-past [] (v ∷ vs) = refl
+fill-past (x ∷ xs) [] = refl
+fill-past (x ∷ xs) (v ∷ vs) = fill-past xs vs
+
 -- Writing one value more over the front of a lent list.
-fill-none : (xs : List ℕ) → fill xs [] ≡ xs
+pub fill-none : (xs : List ℕ) → fill xs [] ≡ xs
 unfolding fill
 fill-none [] = refl
 fill-none (x ∷ xs) = refl

@@ -477,14 +477,14 @@ fn long_word(text: &[u8]) -> usize
     text.len()
 }
 
-// A store that does nothing past the end of what is lent, for each of the two lists.
-fn put_code(codes: &mut [u8], n: usize, c: u8)
-    ensures { λ r. ⌜ now (codes .exit) ≡ set (now (codes .entry)) n c ⌝ }
+// A store that does nothing past the end of what is lent; for bytes, and for places.
+pub fn put_byte(bytes: &mut [u8], n: usize, b: u8)
+    ensures { λ r. ⌜ now (bytes .exit) ≡ set (now (bytes .entry)) n b ⌝ }
 {
-    if codes.len() <= n {
+    if bytes.len() <= n {
         return;
     }
-    codes[n] = c;
+    bytes[n] = b;
 }
 
 fn put_start(starts: &mut [u16], n: usize, at: u16)
@@ -508,7 +508,7 @@ fn tokens(text: &[u8], codes: &mut [u8], starts: &mut [u16]) -> usize
     while at < text.len() {
         let e = token_end(text, at);
         let c = code(text, at, e);
-        put_code(codes, n, c);
+        put_byte(codes, n, c);
         put_start(starts, n, at as u16);
         n += 1;
         at = skip(text, e);

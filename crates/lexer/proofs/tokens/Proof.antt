@@ -26,8 +26,8 @@ token-end-requires c κs = search needs
 code-requires : tie.Need-code-requires Inv-loop μ-loop
 code-requires c κs = end-after _ _ _ (c .before .loop-test .taken) (c .token-end .ensures)
 
-put-code-requires : tie.Need-put-code-requires Inv-loop μ-loop
-put-code-requires c κs = search needs
+put-byte-requires : tie.Need-put-byte-requires Inv-loop μ-loop
+put-byte-requires c κs = search needs
 
 cast-put-start : tie.Need-cast-put-start Inv-loop μ-loop
 cast-put-start c = let h = c .before .before .before .before .before .before .before .loop-test .taken in let p = c .before .before .before .before .before .before .before .before .before .before .before .before .before .pre in omega arith
@@ -47,7 +47,7 @@ loop-less c = less-left _ _ _ _ (c .before .before .before .before .before .befo
 loop-again : tie.Need-loop-again Inv-loop μ-loop
 loop-again c =
     let l = c .before .before .before .before .before .before .before .before .before .before .before in
-    midway-again _ _ _ _ _ _ _ (l .before .loop .inv) _ (l .loop-test .taken) (c .before .before .before .before .before .before .before .before .before .before .token-end .ensures) _ _ _ _ (c .before .before .before .before .before .before .before .before .before .code .ensures) (c .before .before .before .before .before .before .before .put-code .ensures) (c .before .before .before .put-start .ensures) (c .skip2 .ensures)
+    midway-again _ _ _ _ _ _ _ (l .before .loop .inv) _ (l .loop-test .taken) (c .before .before .before .before .before .before .before .before .before .before .token-end .ensures) _ _ _ _ (c .before .before .before .before .before .before .before .before .before .code .ensures) (c .before .before .before .before .before .before .before .put-byte .ensures) (c .before .before .before .put-start .ensures) (c .skip2 .ensures)
 
 same-length : tie.Need-same-length Inv-loop μ-loop
 same-length c = ap length (c .before .loop .inv .coded) ∙ fill-length _ _
@@ -68,7 +68,7 @@ tokens-spec =
     loop-holds
     token-end-requires
     code-requires
-    put-code-requires
+    put-byte-requires
     cast-put-start
     put-start-requires
     add-n

@@ -1,0 +1,53 @@
+-- Property 2, printing: "printing and reading again yields that diagram; two accepted texts print alike exactly if their diagrams are equal."
+use mathlib.Core.Path.{_≡_, refl, sym, _∙_, ap, subst}
+use mathlib.Core.Logic.{_⊎_, ⊎-elim, _↔_}
+use mathlib.Core.Bool.{Bool, true, false, cond}
+use mathlib.Core.List.{List, [], _∷_, flatten}
+use Prim.Native.Nat.{ℕ, suc, _≤_}
+use native.Mathlib.Omega.{arith}
+use lib.ListN.{length}
+use Rattle.diagram.specs.Tree.{Name, Flow}
+use Rattle.diagram.proofs.Truth.{cases}
+use Rattle.lexer.specs.Classes.{blank}
+use Rattle.lexer.specs.Spans.{tokens}
+use Rattle.grammar.specs.Tokens.{flow-tokens}
+use Rattle.grammar.specs.Printed.{printed}
+use Rattle.grammar.specs.Derives.{Derives}
+use Rattle.grammar.proofs.Rendered.{rendered}
+use Rattle.grammar.proofs.Printing.{printed-tokens}
+use Rattle.grammar.proofs.Grammar.{derived-once}
+use Rattle.reader.specs.Accepted.{Accepted}
+
+pub printed-shorter : (bs : List ℕ) → length (printed bs) ≤ length bs
+unfolding printed
+printed-shorter [] = omega arith
+printed-shorter (b ∷ bs) =
+    let h = printed-shorter bs in ⊎-elim (λ e. rw e (omega arith)) (λ e. rw e (omega arith)) (cases (blank b))
+
+-- A derived text prints as its diagram's tokens, one after the other.
+derived-printed : (text : List ℕ) (d : Flow) → Derives (tokens text) d → printed text ≡ flatten (flow-tokens d [])
+derived-printed text d g = sym (printed-tokens text) ∙ ap flatten (g .told)
+
+printed-derives : (text : List ℕ) (d : Flow) → Derives (tokens text) d → Derives (tokens (printed text)) d
+printed-derives text d g =
+    record { proper = g .proper; told = ap tokens (derived-printed text d g) ∙ rendered d (g .proper) }
+
+-- "printing and reading again yields that diagram"
+pub printed-accepted : (text : List ℕ) (d : Flow) → Accepted text d → Accepted (printed text) d
+printed-accepted text d a =
+    record {
+      short = let h = printed-shorter text in let k = a .short in omega arith;
+      derived = printed-derives text d (a .derived);
+      keeps = a .keeps;
+      nodes = a .nodes;
+      depth = a .depth;
+      copies = a .copies;
+      events = a .events;
+    }
+
+-- "two accepted texts print alike exactly if their diagrams are equal"
+pub print-alike : (s t : List ℕ) (d e : Flow) → Accepted s d → Accepted t e → (printed s ≡ printed t) ↔ (d ≡ e)
+print-alike s t d e a b = (
+  λ q. derived-once (tokens (printed s)) d e (printed-derives s d (a .derived)) (subst (λ (l : List ℕ). Derives (tokens l) e) (sym q) (printed-derives t e (b .derived))),
+  λ q. derived-printed s d (a .derived) ∙ (ap (λ (f : Flow). flatten (flow-tokens f [])) q ∙ sym (derived-printed t e (b .derived))),
+)

@@ -1,0 +1,39 @@
+-- The ways out of printing.
+use mathlib.Core.Path.{_≡_, refl, sym, _∙_, ap, subst}
+use mathlib.Core.Bool.{true, false}
+use mathlib.Core.List.{List}
+use Prim.Native.Nat.{ℕ, _≤_, _<_}
+use lib.Dec.{ltb}
+use lib.ListN.{length}
+use borrow.Author.Tests.{lt-ltb, le-ltb}
+use Rattle.lexer.specs.Fill.{fill}
+use Rattle.grammar.specs.Printed.{printed}
+use Rattle.reader.specs.Answers.{read-of}
+use Rattle.reader.specs.declared.Answer.{Answer}
+use Rattle.reader.specs.declared.Answer.the-variants.{Done, Refused as Unread}
+use Rattle.reader.specs.declared.Out.{Out}
+use Rattle.printer.specs.Prints.{print-answer, print-of, left-by}
+use Rattle.printer.specs.declared.Printed.{Printed}
+use Rattle.printer.specs.declared.Printed.the-variants.{Bytes, Refused}
+
+-- An answer, and what the lent bytes hold after it.
+abbrev pub Answers : List ℕ → List ℕ → Printed → List ℕ → Printed → Type 0
+Answers text lent p out q = (q ≡ p) × (out ≡ left-by text lent p)
+
+pub done-answers : (text lent out : List ℕ) (a : Answer) (n : ℕ) → a ≡ Done → n ≡ length (printed text) → out ≡ fill lent (printed text)
+  → Answers text lent (print-answer text a) out (Bytes n)
+done-answers text lent out a n e h k =
+    subst (λ (b : Answer). Answers text lent (print-answer text b) out (Bytes n)) (sym e) (ap Bytes h, k)
+
+pub refused-answers : (text lent : List ℕ) (a : Answer) (c k : ℕ) → a ≡ Unread c k → Answers text lent (print-answer text a) lent (Refused c k)
+refused-answers text lent a c k e = subst (λ (b : Answer). Answers text lent (print-answer text b) lent (Refused c k)) (sym e) (refl, refl)
+
+pub short-answers : (text lent : List ℕ) → length lent < 16384 → Answers text lent (print-of text lent) lent (Refused 1 0)
+unfolding print-of
+short-answers text lent h = rw (lt-ltb (length lent) 16384 h) (refl, refl)
+
+pub long-answers : (text lent out : List ℕ) (o : Out) (p : Printed) → 16384 ≤ length lent → o ≡ read-of text
+  → Answers text lent (print-answer text (o .answer)) out p → Answers text lent (print-of text lent) out p
+unfolding print-of
+long-answers text lent out o p h e k =
+    rw (le-ltb (length lent) 16384 h) (subst (λ (q : Out). Answers text lent (print-answer text (q .answer)) out p) e k)

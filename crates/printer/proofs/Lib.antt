@@ -1,0 +1,4 @@
+pub mod Alike
+pub mod Copied
+pub mod Answered
+pub mod Bounds

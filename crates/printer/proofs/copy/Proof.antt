@@ -1,0 +1,78 @@
+use mathlib.Core.Path.{_≡_, refl, _∙_}
+use Prim.Native.Nat.{_-_}
+use lib.ListN.{length}
+use Rattle.printer.proofs.Copied.{Copied, copied-start, copied-more, copied-all, copied-out}
+use borrow.Author.Needs.{needs}
+use native.Mathlib.Omega.{arith}
+use Rattle.printer.proofs.copy.Statement.{statement}
+use Rattle.printer.proofs.copy.Tie as tie
+use Rattle.printer.proofs.copy.Reads as reads
+use Rattle.printer.proofs.copy.Lts as lts
+use Rattle.lexer.proofs.put_byte.Reads as put-byte-reads
+use Rattle.lexer.proofs.skip.Reads as skip-reads
+
+abbrev Inv-loop : tie.InvT-loop
+Inv-loop text out₀ n₀ at₀ out n at = (length out ≡ length out₀) × Copied text out₀ out n at
+
+abbrev μ-loop : tie.MeasureT-loop
+μ-loop text out₀ n₀ at₀ out n at = length text - at
+
+skip-requires : tie.Need-skip-requires Inv-loop μ-loop
+skip-requires c κs = search needs
+
+loop-holds : tie.Need-loop-holds Inv-loop μ-loop
+loop-holds c = (refl, copied-start (c .before .before .before .args .text .now) (c .before .before .before .args .out .now) (c .skip .result) (c .skip .ensures))
+
+shared-slice-read-put-byte : tie.Need-shared-slice-read-put-byte Inv-loop μ-loop
+shared-slice-read-put-byte c = search needs
+
+put-byte-requires : tie.Need-put-byte-requires Inv-loop μ-loop
+put-byte-requires c κs = search needs
+
+add-n : tie.Need-add-n Inv-loop μ-loop
+add-n c = let l = c .before .before .before .before .before .before .loop in omega (arith, l .inv .1 .few)
+
+add-skip : tie.Need-add-skip Inv-loop μ-loop
+add-skip c = search needs
+
+skip-requires-2 : tie.Need-skip-requires-2 Inv-loop μ-loop
+skip-requires-2 c κs = search needs
+
+loop-less : tie.Need-loop-less Inv-loop μ-loop
+loop-less c = omega (arith, c .skip2 .ensures, c .before .before .before .before .before .before .loop-test .taken)
+
+loop-again : tie.Need-loop-again Inv-loop μ-loop
+loop-again c =
+    let l = c .before .before .before .before .before .before .before .loop in
+    let a = c .before .before .before .before .before .before .before .before .before .before .before .args in
+    let put = c .before .before .before .put-byte in
+    (put .kept .0 ∙ l .inv .0,
+    copied-more (a .text .now) (a .out .now) (l .out) (l .n) (l .at) (l .inv .1) (c .before .before .before .before .before .before .loop-test .taken) (put .last .0) (c .skip2 .result) (put .ensures) (c .skip2 .ensures))
+
+same-length : tie.Need-same-length Inv-loop μ-loop
+same-length c = c .before .loop .inv .0
+
+returns : tie.Need-returns Inv-loop μ-loop
+returns c =
+    let l = c .before .loop in
+    let a = c .before .before .before .before .before .args in
+    (copied-all (a .text .now) (a .out .now) (l .out) (l .n) (l .at) (l .inv .1) (c .loop-test .left),
+    copied-out (a .text .now) (a .out .now) (l .out) (l .n) (l .at) (l .inv .1) (c .loop-test .left))
+
+pub copy-spec : {M : Type 1} → statement M
+copy-spec =
+    tie.close
+    (tie.spec
+    Inv-loop
+    μ-loop
+    skip-requires
+    loop-holds
+    shared-slice-read-put-byte
+    put-byte-requires
+    add-n
+    add-skip
+    skip-requires-2
+    loop-less
+    loop-again
+    same-length
+    returns)

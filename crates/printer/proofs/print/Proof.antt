@@ -1,0 +1,31 @@
+use Rattle.printer.proofs.Answered.{short-answers, long-answers}
+use borrow.Author.Needs.{needs}
+use Rattle.printer.proofs.print.Statement.{statement}
+use Rattle.printer.proofs.print.Tie as tie
+use Rattle.printer.proofs.print.Reads as reads
+use Rattle.printer.proofs.print.Lts as lts
+use Rattle.printer.proofs.print_read.Reads as print-read-reads
+use Rattle.reader.proofs.read.Reads as read-reads
+
+returns : tie.Need-returns
+returns c =
+    let a = c .before .before .before .args in
+    short-answers (a .text .now) (a .out .now) (c .if1 .taken)
+
+read-requires : tie.Need-read-requires
+read-requires c κs = search needs
+
+print-read-requires : tie.Need-print-read-requires
+print-read-requires c κs = search needs
+
+same-length : tie.Need-same-length
+same-length c = search needs
+
+returns-2 : tie.Need-returns-2
+returns-2 c =
+    let a = c .before .before .before .before .before .before .before .before .args in
+    let p = c .before .before .print-read in
+    long-answers (a .text .now) (a .out .now) (p .last .1 .0) _ (p .result) (c .before .before .before .before .before .if1 .left) (c .before .before .before .before .read .ensures) (p .ensures)
+
+pub print-spec : {M : Type 1} → statement M
+print-spec = tie.close (tie.spec returns read-requires print-read-requires same-length returns-2)

@@ -1,0 +1,80 @@
+-- Property 1, for reading.
+use mathlib.Core.Path.{_≡_, refl, sym, ap, subst}
+use mathlib.Core.Logic.{⊎-elim}
+use mathlib.Core.Bool.{true, false}
+use mathlib.Core.List.{List, [], _∷_}
+use Prim.Native.Nat.{ℕ, suc, _+_, _≤_, _<_}
+use native.Mathlib.Omega.{arith}
+use lib.Dec.{ltb}
+use lib.ListN.{length, getD, List·getD-eq-default}
+use borrow.Author.Tests.{ltb-true, ltb-false}
+use Rattle.diagram.specs.Tree.{Flow}
+use Rattle.diagram.proofs.Truth.{cases}
+use Rattle.lexer.specs.Spans.{tokens, places}
+use Rattle.lexer.proofs.Spans.{tokens-length, places-length, places-below}
+use Rattle.reader.specs.Answers.{place-of, read-of}
+use Rattle.reader.specs.Accepted.{Accepted}
+use Rattle.reader.specs.Refused.{Derived, Turned, long, foreign-byte, long-word, off-grammar, too-large, name-twice, parameter, solid-line, weak, copies as many}
+use Rattle.reader.specs.Bounds.{Result, Refusal, Bounded, result, refusal}
+use Rattle.reader.specs.Views.{Shows}
+use Rattle.reader.proofs.Laws.{same-inside}
+use Rattle.reader.proofs.Exact.{accepted-read, turned-read, Fate, taken, turned, fate}
+use Rattle.reader.proofs.Shown.{accepted-shown}
+
+-- A token's place is in the text, and what stands for no place is at most the text's length.
+place-near : (text : List ℕ) (k none : ℕ) → none ≤ length text → getD (places text) k none ≤ length text
+place-near text k none h = ⊎-elim inside outside (cases (ltb k (length (places text))))
+  where
+    inside : ltb k (length (places text)) ≡ true → getD (places text) k none ≤ length text
+    inside q =
+        let l : k < length (places text) = ltb-true k (length (places text)) q in
+        let b = places-below text k (omega (arith, tokens-length text, places-length text)) in
+        subst (λ (n : ℕ). n ≤ length text) (same-inside (places text) k none l) (omega arith)
+
+    outside : ltb k (length (places text)) ≡ false → getD (places text) k none ≤ length text
+    outside q = rw (List·getD-eq-default (places text) none (ltb-false k (length (places text)) q)) h
+
+-- The numbers and places of the table.
+record Near (text : List ℕ) (c at : ℕ) : Type 0 where
+  low : 2 ≤ c
+  high : c ≤ 11
+  close : at ≤ 16384
+
+near : (text : List ℕ) (c at : ℕ) (n : ℕ) → c ≡ n → 2 ≤ n → n ≤ 11 → at ≤ 16384 → Near text c at
+near text c at n e l h k = record { low = omega arith; high = omega arith; close = k }
+
+derived-near : (text : List ℕ) (d : Flow) (at k : ℕ) → Derived text d → at ≡ getD (places text) k 0 → at ≤ 16384
+derived-near text d at k g e = omega (arith, g .size, place-near text k 0 (omega arith))
+
+turned-near : (text : List ℕ) (c at : ℕ) → Turned text c at → Near text c at
+turned-near text c at (long e h) = near text c at 2 e (omega arith) (omega arith) (omega (arith, h .place))
+turned-near text c at (foreign-byte e h) = near text c at 3 e (omega arith) (omega arith) (omega (arith, h .inside, h .size))
+turned-near text c at (long-word e h) =
+    near text c at 4 e (omega arith) (omega arith) (omega (arith, h .place, h .size, place-near text (h .token) 0 (omega arith)))
+turned-near text c at (off-grammar e h) =
+    near text c at 5 e (omega arith) (omega arith) (omega (arith, h .place, h .clean .size, place-near text (h .token) (length text) (omega arith)))
+turned-near text c at (too-large e h) =
+    near text c at 6 e (omega arith) (omega arith) (omega (arith, h .place, h .clean .size, place-near text (h .token) (length text) (omega arith)))
+turned-near text c at (name-twice e d h) = near text c at 7 e (omega arith) (omega arith) (derived-near text d at (h .token + 2) (h .derived) (h .place))
+turned-near text c at (parameter e d h) = near text c at 8 e (omega arith) (omega arith) (derived-near text d at (h .token) (h .derived) (h .place))
+turned-near text c at (solid-line e d h) = near text c at 9 e (omega arith) (omega arith) (derived-near text d at (h .token) (h .derived) (h .place))
+turned-near text c at (weak e d h) = near text c at 10 e (omega arith) (omega arith) (derived-near text d at (h .token) (h .derived) (h .place))
+turned-near text c at (many e d h) = near text c at 11 e (omega arith) (omega arith) (omega (arith, h .place))
+
+-- "Every answer is a result within the limits or one numbered refusal with its place."
+pub read-bounded : (text : List ℕ) → Bounded (read-of text)
+read-bounded text = go (fate text)
+  where
+    go : Fate text → Bounded (read-of text)
+    go (taken d a) =
+        let s = accepted-shown text d a in
+        result
+        record {
+          done = ap (λ o. o .answer) (accepted-read text d a);
+          nodes = omega (arith, s .count, a .nodes);
+          copies = omega (arith, s .copies, a .copies);
+          events = omega (arith, s .events, a .events);
+        }
+    go (turned c at t) =
+        let n = turned-near text c at t in
+        refusal record { number = c; place = at; is = turned-read text c at t; low = n .low; high = n .high; near = n .close }

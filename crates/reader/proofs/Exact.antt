@@ -1,0 +1,259 @@
+-- Property 2, reading: which texts are read, with which diagram, and which are turned away, with which number and place.
+use mathlib.Core.Path.{_≡_, refl, sym, _∙_, ap, subst}
+use mathlib.Core.Logic.{_⊎_, inl, inr, ⊎-elim, _↔_}
+use mathlib.Core.Bool.{Bool, true, false, true≢false}
+use mathlib.Core.List.{List, [], _∷_, map}
+use Prim.Native.Nat.{ℕ, suc, _+_, _≤_, _<_}
+use native.Mathlib.Nat.{add-zero}
+use native.Mathlib.Omega.{arith}
+use lib.Dec.{eqb, ltb}
+use lib.ListN.{length, getD, take}
+use borrow.Author.Tests.{ltb-true, ltb-false, eqb-true, eqb-false}
+use Rattle.diagram.specs.Tree.{Name, Flow}
+use Rattle.diagram.specs.Count.{flow-copies, flow-events}
+use Rattle.diagram.specs.Names.{flow-names, differ}
+use Rattle.diagram.specs.Parameters.{flow-parameters}
+use Rattle.diagram.specs.Flows.{each-flow, solid, strong}
+use Rattle.diagram.specs.Rules.{Keeps}
+use Rattle.diagram.proofs.Truth.{cases}
+use Rattle.lexer.specs.Words.{code}
+use Rattle.lexer.specs.Spans.{tokens, codes, places}
+use Rattle.lexer.specs.Scanned.{scan-of}
+use Rattle.lexer.specs.Spans.{spans-of}
+use Rattle.lexer.specs.declared.Scan.{Scan}
+use Rattle.lexer.specs.declared.Scan.the-variants.{Tokens, Refused as Unscanned}
+use Rattle.grammar.specs.Machine.{Outcome, whole, stop, outcome}
+use Rattle.grammar.specs.Limits.{too-big}
+use Rattle.grammar.specs.Derives.{Derives, Viable, all-tokens}
+use Rattle.grammar.proofs.Lexed.{text-tokens}
+use Rattle.grammar.proofs.Grammar.{Answered, read, strayed, outgrown, answered, off-viable, off-token, off-end, off-only, big-viable, shorter, derived-once}
+use Rattle.grammar.proofs.Limited.{big-too-big, off-none-big, whole-none-big}
+use Rattle.rules.specs.Judged.{refuse, counted}
+use Rattle.rules.specs.Counted.{capped}
+use Rattle.rules.specs.declared.Found.{Found}
+use Rattle.rules.specs.declared.Found.the-variants.{At, Nothing}
+use Rattle.rules.specs.declared.Verdict.{Verdict}
+use Rattle.rules.specs.declared.Verdict.the-variants.{Kept, Refused as Unkept}
+use Rattle.rules.proofs.Trees.{flow-heads}
+use Rattle.rules.proofs.NamesKept.{names-kept-iff}
+use Rattle.rules.proofs.ParametersKept.{parameters-kept-iff}
+use Rattle.rules.proofs.SolidsKept.{solids-kept-iff}
+use Rattle.rules.proofs.StrongsKept.{strongs-kept-iff}
+use Rattle.reader.specs.Nodes.{stored}
+use Rattle.reader.specs.Answers.{refused, place-of, judged, parsed, scanned, read-of}
+use Rattle.reader.specs.Accepted.{Accepted}
+use Rattle.reader.specs.Refused.{Clean, Off, Big, Derived, Twice, Misplaced, Unsolid, Weak, Many, Turned, long, foreign-byte, long-word, off-grammar, too-large, name-twice, parameter, solid-line, weak as weakly, copies as many}
+use Rattle.reader.specs.declared.Answer.{Answer}
+use Rattle.reader.specs.declared.Answer.the-variants.{Done, Refused}
+use Rattle.reader.specs.declared.Out.{Out}
+use Rattle.reader.proofs.Scans.{scan-turned, scan-clean, long-scan, foreign-scan, wordy-scan, clean-scan}
+use Rattle.reader.proofs.Verdicts.{twice, misplaced, unsolid, weak, tree-verdict, counted-few, counted-many, few-or-many}
+use Rattle.reader.proofs.Told.{whole-derived, derived-answer}
+
+-- What reading a derived text answers, by the rules' verdict.
+abbrev done : List ℕ → Flow → Out
+done text d = record { answer = Done; diagram = stored (places text) (flow-heads d false 1 0 []) (flow-copies d) (flow-events d) }
+
+by-verdict : (text : List ℕ) (d : Flow) (v : Verdict) → Derived text d → tree-verdict (places text) d ≡ v
+  → read-of text ≡ judged (places text) (flow-heads d false 1 0 []) v
+by-verdict text d v g e = derived-answer text d g ∙ ap (judged (places text) (flow-heads d false 1 0 [])) e
+
+-- The texts that are read.
+accepted-derived : (text : List ℕ) (d : Flow) → Accepted text d → Derived text d
+accepted-derived text d a = record { size = a .short; derives = a .derived; nodes = a .nodes; depth = a .depth }
+
+pub accepted-read : (text : List ℕ) (d : Flow) → Accepted text d → read-of text ≡ done text d
+accepted-read text d a =
+    by-verdict text d (Kept (flow-copies d) (flow-events d)) (accepted-derived text d a)
+    (rw (names-kept-iff d .1 (a .keeps .names), parameters-kept-iff d .1 (a .keeps .parameters), solids-kept-iff d .1 (a .keeps .solids),
+    strongs-kept-iff d .1 (a .keeps .strongs), counted-few (flow-copies d) (flow-events d) (a .copies) (a .events)))
+
+-- The texts that are turned away.
+scanned-as : (text : List ℕ) (s : Scan) → scan-of text ≡ s → read-of text ≡ scanned text (codes text) (places text) s
+unfolding read-of
+scanned-as text s e = ap (scanned text (codes text) (places text)) e
+
+stopped : (text : List ℕ) (c k : ℕ) → Clean text → outcome (codes text) ≡ stop c k → read-of text ≡ refused c (place-of text (places text) k)
+stopped text c k h e = scanned-as text (Tokens (length (spans-of text))) (clean-scan text h) ∙ rw e
+
+off-stops : (text : List ℕ) (at : ℕ) (o : Off text at) → outcome (codes text) ≡ stop 5 (o .token)
+unfolding codes
+off-stops text at o =
+    ⊎-elim (λ r. absurd (true≢false (sym (big-too-big (map code (tokens text)) (r .0) (r .1) .1) ∙ o .small (r .0) (r .2)))) (λ r. r)
+    (off-only (tokens text) (text-tokens text) (o .token) (o .before) (o .here) (o .early) (o .inside))
+
+big-stops : (text : List ℕ) (at : ℕ) (b : Big text at) → outcome (codes text) ≡ stop 6 (b .token)
+unfolding codes
+big-stops text at b = go (answered ts tk)
+  where
+    ts : List Name
+    ts = tokens text
+
+    tk : all-tokens (tokens text) ≡ true
+    tk = text-tokens text
+
+    cs : List ℕ
+    cs = map code (tokens text)
+
+    clash : {A : Type 0} → too-big cs (b .token) ≡ false → A
+    clash q = absurd (true≢false (sym (b .here) ∙ q))
+
+    strays : (k : ℕ) → outcome cs ≡ stop 5 k → (x : Bool) → ltb (b .token) k ≡ x → outcome cs ≡ stop 6 (b .token)
+    strays k e true q = clash (off-none-big cs k e (b .token) (ltb-true (b .token) k q))
+    strays k e false q =
+        let l : k ≤ b .token = ltb-false (b .token) k q in
+        absurd (off-token ts tk k e (omega (arith, b .inside)) (shorter (suc k) (suc (b .token)) ts (omega arith) (b .viable)))
+
+    meets : (k : ℕ) → outcome cs ≡ stop 6 k → (x y : Bool) → ltb (b .token) k ≡ x → ltb k (b .token) ≡ y → outcome cs ≡ stop 6 (b .token)
+    meets k e true y p q = clash (big-too-big cs k e .2 (b .token) (ltb-true (b .token) k p))
+    meets k e false true p q = absurd (true≢false (sym (big-too-big cs k e .1) ∙ b .first k (ltb-true k (b .token) q)))
+    meets k e false false p q = let z : k ≡ b .token = omega (arith, ltb-false (b .token) k p, ltb-false k (b .token) q) in e ∙ ap (stop 6) z
+
+    go : Answered ts → outcome cs ≡ stop 6 (b .token)
+    go (read n e) = clash (whole-none-big cs n e .1 (b .token))
+    go (strayed k e) = strays k e (ltb (b .token) k) refl
+    go (outgrown k e) = meets k e (ltb (b .token) k) (ltb k (b .token)) refl refl
+
+numbered : (text : List ℕ) {c at : ℕ} (n p : ℕ) → c ≡ n → at ≡ p → read-of text ≡ refused n p → read-of text ≡ refused c at
+numbered text n p e q r = rw (e, q) r
+
+pub turned-read : (text : List ℕ) (c at : ℕ) → Turned text c at → read-of text ≡ refused c at
+turned-read text c at (long e h) = numbered text 2 at e refl (scanned-as text (Unscanned 2 at) (long-scan text at h))
+turned-read text c at (foreign-byte e h) = numbered text 3 at e refl (scanned-as text (Unscanned 3 at) (foreign-scan text at h))
+turned-read text c at (long-word e h) = numbered text 4 at e refl (scanned-as text (Unscanned 4 at) (wordy-scan text at h))
+turned-read text c at (off-grammar e h) =
+    numbered text 5 (place-of text (places text) (h .token)) e (h .place) (stopped text 5 (h .token) (h .clean) (off-stops text at h))
+turned-read text c at (too-large e h) =
+    numbered text 6 (place-of text (places text) (h .token)) e (h .place) (stopped text 6 (h .token) (h .clean) (big-stops text at h))
+turned-read text c at (name-twice e d h) =
+    numbered text 7 (getD (places text) (h .token + 2) 0) e (h .place)
+    (by-verdict text d (Unkept 7 (getD (places text) (h .token + 2) 0)) (h .derived) (rw (h .here)))
+turned-read text c at (parameter e d h) =
+    numbered text 8 (getD (places text) (h .token) 0) e (h .place)
+    (by-verdict text d (Unkept 8 (getD (places text) (h .token) 0)) (h .derived) (rw (names-kept-iff d .1 (h .names), h .here, add-zero (h .token))))
+turned-read text c at (solid-line e d h) =
+    numbered text 9 (getD (places text) (h .token) 0) e (h .place)
+    (by-verdict text d (Unkept 9 (getD (places text) (h .token) 0)) (h .derived)
+    (rw (names-kept-iff d .1 (h .names), parameters-kept-iff d .1 (h .parameters), h .here, add-zero (h .token))))
+turned-read text c at (weakly e d h) =
+    numbered text 10 (getD (places text) (h .token) 0) e (h .place)
+    (by-verdict text d (Unkept 10 (getD (places text) (h .token) 0)) (h .derived)
+    (rw (names-kept-iff d .1 (h .names), parameters-kept-iff d .1 (h .parameters), solids-kept-iff d .1 (h .solids), h .here, add-zero (h .token))))
+turned-read text c at (many e d h) =
+    numbered text 11 0 e (h .place)
+    (by-verdict text d (Unkept 11 0) (h .derived)
+    (rw (names-kept-iff d .1 (h .names), parameters-kept-iff d .1 (h .parameters), solids-kept-iff d .1 (h .solids), strongs-kept-iff d .1 (h .strongs),
+    counted-many (flow-copies d) (flow-events d) (h .over))))
+
+-- Every text is read with a diagram, or turned away with one number and place.
+pub data Fate (text : List ℕ) : Type 0 where
+  taken : (d : Flow) → Accepted text d → Fate text
+  turned : (c at : ℕ) → Turned text c at → Fate text
+
+at-rest : (k : ℕ) (places : List ℕ) → getD places (k + 0) 0 ≡ getD places k 0
+at-rest k places = rw (add-zero k)
+
+-- The rules, one after the other, where a diagram within the limits derives the text.
+derived-fate : (text : List ℕ) (d : Flow) → Derived text d → Fate text
+derived-fate text d g = names (twice d) refl
+  where
+    ps : List ℕ
+    ps = places text
+
+    counts : differ (flow-names d []) ≡ true → flow-parameters d [] ≡ true → each-flow d solid ≡ true → each-flow d strong ≡ true
+      → ((flow-copies d ≤ 768) × (flow-events d ≤ 512)) ⊎ ((768 < flow-copies d) ⊎ (512 < flow-events d)) → Fate text
+    counts a b c e (inl q) =
+        taken d
+        record {
+          short = g .size;
+          derived = g .derives;
+          keeps = record { sizes = g .derives .proper .sizes; names = a; parameters = b; solids = c; strongs = e };
+          nodes = g .nodes;
+          depth = g .depth;
+          copies = q .0;
+          events = q .1;
+        }
+    counts a b c e (inr q) = turned 11 0 (many refl d record { derived = g; names = a; parameters = b; solids = c; strongs = e; over = q; place = refl })
+
+    strongs : differ (flow-names d []) ≡ true → flow-parameters d [] ≡ true → each-flow d solid ≡ true → (f : Found) → weak d ≡ f → Fate text
+    strongs a b c (At k) e =
+        turned 10 (getD ps k 0) (weakly refl d record { derived = g; names = a; parameters = b; solids = c; token = k; here = e; place = refl })
+    strongs a b c Nothing e = counts a b c (strongs-kept-iff d .0 e) (few-or-many (flow-copies d) (flow-events d))
+
+    solids : differ (flow-names d []) ≡ true → flow-parameters d [] ≡ true → (f : Found) → unsolid d ≡ f → Fate text
+    solids a b (At k) e = turned 9 (getD ps k 0) (solid-line refl d record { derived = g; names = a; parameters = b; token = k; here = e; place = refl })
+    solids a b Nothing e = strongs a b (solids-kept-iff d .0 e) (weak d) refl
+
+    parameters : differ (flow-names d []) ≡ true → (f : Found) → misplaced d ≡ f → Fate text
+    parameters a (At k) e = turned 8 (getD ps k 0) (parameter refl d record { derived = g; names = a; token = k; here = e; place = refl })
+    parameters a Nothing e = solids a (parameters-kept-iff d .0 e) (unsolid d) refl
+
+    names : (f : Found) → twice d ≡ f → Fate text
+    names (At k) e = turned 7 (getD ps (k + 2) 0) (name-twice refl d record { derived = g; token = k; here = e; place = refl })
+    names Nothing e = parameters (names-kept-iff d .0 e) (misplaced d) refl
+
+clean-fate : (text : List ℕ) → Clean text → Fate text
+unfolding codes
+clean-fate text h = go (answered (tokens text) (text-tokens text))
+  where
+    go : Answered (tokens text) → Fate text
+    go (read n e) = let r = whole-derived text n (h .size) e in derived-fate text (r .0) (r .1)
+    go (strayed k e) =
+        let v = off-viable (tokens text) (text-tokens text) k e in
+        turned 5 (place-of text (places text) k)
+        (off-grammar refl
+        record {
+          clean = h;
+          token = k;
+          inside = v .0;
+          before = v .1;
+          here = off-token (tokens text) (text-tokens text) k e;
+          early = off-end (tokens text) (text-tokens text) k e;
+          small = off-none-big (map code (tokens text)) k e;
+          place = refl;
+        })
+    go (outgrown k e) =
+        let v = big-viable (tokens text) (text-tokens text) k e in
+        let b = big-too-big (map code (tokens text)) k e in
+        turned 6 (place-of text (places text) k)
+        (too-large refl record { clean = h; token = k; inside = v .0; viable = v .1; here = b .1; first = b .2; place = refl })
+
+pub fate : (text : List ℕ) → Fate text
+fate text = go (scan-of text) refl
+  where
+    go : (s : Scan) → scan-of text ≡ s → Fate text
+    go (Tokens n) e = clean-fate text (scan-clean text n e)
+    go (Unscanned c at) e =
+        ⊎-elim (λ r. turned c at (long (r .0) (r .1)))
+        (λ q. ⊎-elim (λ r. turned c at (foreign-byte (r .0) (r .1))) (λ r. turned c at (long-word (r .0) (r .1))) q)
+        (scan-turned text c at e)
+
+done-refused : {A : Type 0} {c at : ℕ} → _≡_ {A = Answer} Done (Refused c at) → A
+done-refused e = let z : _≡_ {A = ℕ} 0 1 = cc in let y : ⊥ = omega arith in absurd y
+
+answer-of : (text : List ℕ) {o : Out} {a : Answer} → read-of text ≡ o → read-of text .answer ≡ a → o .answer ≡ a
+answer-of text e q = sym (ap (λ (o : Out). o .answer) e) ∙ q
+
+-- "A text is accepted exactly if the grammar with its rules and limits derives it."
+pub accepted-exactly : (text : List ℕ) → (read-of text .answer ≡ Done) ↔ ((d : Flow) × Accepted text d)
+accepted-exactly text = (λ e. go (fate text) e, λ a. ap (λ (o : Out). o .answer) (accepted-read text (a .0) (a .1)))
+  where
+    go : Fate text → read-of text .answer ≡ Done → (d : Flow) × Accepted text d
+    go (taken d a) e = (d, a)
+    go (turned c at t) e = done-refused (sym (answer-of text (turned-read text c at t) e))
+
+-- A text is turned away with a number and a place exactly by the sentence of that number.
+pub refused-exactly : (text : List ℕ) (c at : ℕ) → (read-of text .answer ≡ Refused c at) ↔ Turned text c at
+refused-exactly text c at = (λ e. go (fate text) e, λ t. ap (λ (o : Out). o .answer) (turned-read text c at t))
+  where
+    go : Fate text → read-of text .answer ≡ Refused c at → Turned text c at
+    go (taken d a) e = done-refused (answer-of text (accepted-read text d a) e)
+    go (turned b p t) e =
+        let q : Refused b p ≡ Refused c at = answer-of text (turned-read text b p t) e in
+        let x : b ≡ c = cc in
+        let y : p ≡ at = cc in
+        subst (λ (n : ℕ). Turned text n at) x (subst (λ (n : ℕ). Turned text b n) y t)
+
+-- "its diagram is the one derived": there is no other.
+pub accepted-once : (text : List ℕ) (d e : Flow) → Accepted text d → Accepted text e → d ≡ e
+accepted-once text d e a b = derived-once (tokens text) d e (a .derived) (b .derived)

@@ -1,0 +1,85 @@
+-- What the reader's own functions are held to, one law for each way out.
+use mathlib.Core.Path.{_≡_, refl, sym, _∙_, ap}
+use mathlib.Core.Bool.{Bool, true, false, _&&_, _||_, cond}
+use mathlib.Core.List.{List, [], _∷_}
+use Prim.Native.Nat.{ℕ, zero, suc, _+_, _-_, _≤_, _<_}
+use native.Mathlib.Nat.{add-zero, le-of-suc-le-suc}
+use native.Mathlib.Omega.{arith}
+use lib.Dec.{eqb, leb}
+use lib.ListN.{length, getD, drop, List·getD-eq-default}
+use lib.Seq.{getD-drop}
+use Rattle.lexer.specs.Classes.{between}
+use Rattle.diagram.specs.Tree.{Name}
+use Rattle.diagram.specs.declared.Kind.{Kind}
+use Rattle.diagram.specs.declared.Node.{Node}
+use Rattle.rules.specs.Heads.{flowing, leafy, copying, solid-of, head}
+use Rattle.reader.specs.Nodes.{kind-of, size-of, name-place, node-of}
+
+pub name-either : (c : ℕ) (ps : List ℕ) (key : ℕ) → (eqb c 7 || eqb c 8) ≡ true → name-place c ps key ≡ getD ps (key + 2) 0
+unfolding name-place
+name-either c ps key h = go (eqb c 7) (eqb c 8) h
+  where
+    go : (a b : Bool) → (a || b) ≡ true → cond (a || (b || copying c)) (getD ps (key + 2) 0) 0 ≡ getD ps (key + 2) 0
+    go true b e = refl
+    go false true e = refl
+    go false false e = let z : _≡_ {A = ℕ} 0 1 = cc in let y : ⊥ = omega arith in absurd y
+
+pub name-other : (c : ℕ) (ps : List ℕ) (key : ℕ) → (eqb c 7 || eqb c 8) ≡ false → name-place c ps key ≡ cond (copying c) (getD ps (key + 2) 0) 0
+unfolding name-place
+name-other c ps key h = go (eqb c 7) (eqb c 8) h
+  where
+    go : (a b : Bool) → (a || b) ≡ false → cond (a || (b || copying c)) (getD ps (key + 2) 0) 0 ≡ cond (copying c) (getD ps (key + 2) 0) 0
+    go true b e = let z : _≡_ {A = ℕ} 0 1 = cc in let y : ⊥ = omega arith in absurd y
+    go false true e = let z : _≡_ {A = ℕ} 0 1 = cc in let y : ⊥ = omega arith in absurd y
+    go false false e = refl
+
+-- The first token of what starts at the keyword.
+pub first-token : (cs : List ℕ) (key c : ℕ) → c ≡ getD cs (key + 0) 0 → getD (drop key cs) 0 0 ≡ c
+first-token cs key c e = getD-drop key cs 0 0 ∙ sym e
+
+pub size-at : (cs : List ℕ) (key c : ℕ) (b : Bool) → c ≡ getD cs (key + 0) 0 → b ≡ copying c → size-of (drop key cs) ≡ cond b (getD cs (key + 4) 0 - 16) 0
+unfolding size-of
+size-at cs key c b e q = rw (first-token cs key c e, getD-drop key cs 4 0, q)
+
+pub size-some : (cs : List ℕ) (key c r : ℕ) (b : Bool) → c ≡ getD cs (key + 0) 0 → b ≡ copying c → b ≡ true → r ≡ getD cs (key + 4) 0 - 16 → r ≡ size-of (drop key cs)
+size-some cs key c r b e q t h = h ∙ sym (size-at cs key c b e q ∙ rw t)
+
+pub size-none : (cs : List ℕ) (key c : ℕ) (b : Bool) → c ≡ getD cs (key + 0) 0 → b ≡ copying c → b ≡ false → 0 ≡ size-of (drop key cs)
+size-none cs key c b e q t = sym (size-at cs key c b e q ∙ rw t)
+
+-- The three ways to a node's name.
+pub name-first : (cs ps : List ℕ) (key c r : ℕ) (b : Bool) → c ≡ getD cs (key + 0) 0 → b ≡ (eqb c 7 || eqb c 8) → b ≡ true → r ≡ getD ps (key + 2) 0
+  → r ≡ name-place (getD (drop key cs) 0 0) ps key
+name-first cs ps key c r b e q t h = h ∙ sym (ap (λ (x : ℕ). name-place x ps key) (first-token cs key c e) ∙ name-either c ps key (sym q ∙ t))
+
+name-later : (cs ps : List ℕ) (key c : ℕ) (a b : Bool) → c ≡ getD cs (key + 0) 0 → a ≡ (eqb c 7 || eqb c 8) → a ≡ false → b ≡ copying c
+  → name-place (getD (drop key cs) 0 0) ps key ≡ cond b (getD ps (key + 2) 0) 0
+name-later cs ps key c a b e q t h =
+    ap (λ (x : ℕ). name-place x ps key) (first-token cs key c e) ∙ (name-other c ps key (sym q ∙ t) ∙ ap (λ (x : Bool). cond x (getD ps (key + 2) 0) 0) (sym h))
+
+pub name-second : (cs ps : List ℕ) (key c r : ℕ) (a b : Bool) → c ≡ getD cs (key + 0) 0 → a ≡ (eqb c 7 || eqb c 8) → a ≡ false → b ≡ copying c → b ≡ true
+  → r ≡ getD ps (key + 2) 0 → r ≡ name-place (getD (drop key cs) 0 0) ps key
+name-second cs ps key c r a b e q t h u k = k ∙ sym (name-later cs ps key c a b e q t h ∙ rw u)
+
+pub name-none : (cs ps : List ℕ) (key c : ℕ) (a b : Bool) → c ≡ getD cs (key + 0) 0 → a ≡ (eqb c 7 || eqb c 8) → a ≡ false → b ≡ copying c → b ≡ false
+  → 0 ≡ name-place (getD (drop key cs) 0 0) ps key
+name-none cs ps key c a b e q t h u = sym (name-later cs ps key c a b e q t h ∙ rw u)
+
+-- A node by its parts.
+pub node-made : (cs ps : List ℕ) (nm : ℕ → Name) (d key c s at n : ℕ) (k : Kind) (b : Bool) → c ≡ getD cs (key + 0) 0 → s ≡ size-of (drop key cs) → k ≡ kind-of c s
+  → b ≡ solid-of (drop key cs) → at ≡ getD ps (key + 0) 0 → n ≡ name-place (getD (drop key cs) 0 0) ps key
+  → record { kind = k; solid = b; depth = d; at = at; name = n } ≡ node-of ps (head nm d key (drop key cs))
+unfolding node-of head size-of
+node-made cs ps nm d key c s at n k b e f g h i j = rw (g, f, e, h, i, j, getD-drop key cs 0 0, add-zero key)
+
+-- A token's place, and the text's length past the last.
+pub same-inside : (ps : List ℕ) (k none : ℕ) → k < length ps → getD ps k 0 ≡ getD ps k none
+same-inside [] k none h = let z : ⊥ = omega arith in absurd z
+same-inside (p ∷ ps) zero none h = refl
+same-inside (p ∷ ps) (suc k) none h = same-inside ps k none (le-of-suc-le-suc h)
+
+pub place-inside : (ps : List ℕ) (k none : ℕ) → k < length ps → getD ps (k + 0) 0 ≡ getD ps k none
+place-inside ps k none h = rw (add-zero k) (same-inside ps k none h)
+
+pub place-past : (ps : List ℕ) (k none : ℕ) → length ps ≤ k → none ≡ getD ps k none
+place-past ps k none h = sym (List·getD-eq-default ps none h)

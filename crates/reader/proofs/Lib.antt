@@ -1,0 +1,9 @@
+pub mod Verdicts
+pub mod Scans
+pub mod Told
+pub mod Exact
+pub mod Shown
+pub mod Laws
+pub mod Rows
+pub mod Stages
+pub mod Bounds

@@ -1,0 +1,180 @@
+-- The diagram of an accepted text is the one derived.
+use mathlib.Core.Path.{_≡_, refl, sym, _∙_, ap, subst}
+use mathlib.Core.Logic.{_⊎_, inl, inr, ⊎-elim}
+use mathlib.Core.Bool.{Bool, true, false, _&&_, _||_, cond}
+use mathlib.Core.List.{List, [], _∷_, _++_, map, reverse}
+use Prim.Native.Nat.{ℕ, suc, _+_, _*_, _-_, _≤_}
+use native.Mathlib.Omega.{arith}
+use lib.Dec.{eqb, leb}
+use lib.ListN.{length, getD, take, replicate, length-map}
+use lib.Seq.{take-at}
+use borrow.Author.Tests.{eqb-true, eqb-false, ne-eqb}
+use Rattle.diagram.specs.Tree.{Name, Way, all, some, one, Flow, flow, Children, none, next, Child, plain, loop, group, replicator, Member, leaf, inner, Members, end, also}
+use Rattle.diagram.specs.Count.{flow-nodes, flow-copies, flow-events}
+use Rattle.diagram.specs.Stored.{blank-node}
+use Rattle.diagram.specs.declared.Kind.the-variants.{Flow as FlowKind, Leaf, Loop}
+use Rattle.diagram.specs.declared.Node.{Node}
+use Rattle.diagram.specs.declared.Diagram.{Diagram}
+use Rattle.diagram.proofs.Truth.{cases, is-false}
+use Rattle.lexer.specs.Words.{word-at, code}
+use Rattle.lexer.specs.Spans.{tokens, codes, places}
+use Rattle.grammar.proofs.Codes.{in-range}
+use Rattle.grammar.specs.Tokens.{child-tokens, member-tokens}
+use Rattle.grammar.specs.Limits.{keyed, count-of, nodes-in}
+use Rattle.grammar.specs.Derives.{Derives}
+use Rattle.grammar.proofs.LimitedTrees.{nodes-counted}
+use Rattle.rules.specs.Heads.{Head, flowing, leafy, copying, solid-of, head, heads, name-in, opened}
+use Rattle.rules.proofs.Trees.{simple, group-code, replicator-code, flow-heads, children-heads, child-heads, member-heads, members-heads}
+use Rattle.reader.specs.Nodes.{kind-of, name-place, node-of, stored}
+use Rattle.reader.specs.Answers.{read-of}
+use Rattle.reader.specs.Accepted.{Accepted}
+use Rattle.reader.specs.Views.{View, Shows, shown, has-name, group-kind, replicator-kind, view, views, flow-views, children-views, child-views, member-views, members-views}
+use Rattle.reader.specs.declared.Out.{Out}
+use Rattle.reader.proofs.Told.{derived-heads}
+use Rattle.reader.proofs.Exact.{accepted-read}
+
+-- Which kinds have a name, by the keyword's number.
+abbrev titled : ℕ → Bool
+titled c = flowing c || (leafy c || copying c)
+
+abbrev Named : ℕ → ℕ → Type 0
+Named s c = has-name (kind-of c s) ≡ titled c
+
+-- One keyword after the other.
+keyword-or : (s c k : ℕ) → Named s k → (eqb c k ≡ false → Named s c) → Named s c
+keyword-or s c k h g = ⊎-elim (λ e. subst (Named s) (sym (eqb-true c k e)) h) g (cases (eqb c k))
+
+no-keyword : (s c : ℕ) → (c ≡ 12 → ⊥) → (c ≡ 13 → ⊥) → (c ≡ 14 → ⊥) → copying c ≡ false
+no-keyword s c a b d =
+    is-false (copying c) (λ h. let r = in-range 12 14 c h in ⊎-elim (λ e. a e) (λ q. ⊎-elim (λ e. b e) (λ e. d e) q) (which c (r .0) (r .1)))
+  where
+    which : (c : ℕ) → 12 ≤ c → c ≤ 14 → (c ≡ 12) ⊎ ((c ≡ 13) ⊎ (c ≡ 14))
+    which c l u =
+        ⊎-elim (λ e. inl (eqb-true c 12 e))
+        (λ e. ⊎-elim (λ q. inr (inl (eqb-true c 13 q))) (λ q. inr (inr (omega (arith, eqb-false c 12 e, eqb-false c 13 q)))) (cases (eqb c 13)))
+        (cases (eqb c 12))
+
+kind-named : (c s : ℕ) → Named s c
+unfolding kind-of
+kind-named c s =
+    keyword-or s c 7 refl (λ a. keyword-or s c 8 refl (λ b. keyword-or s c 9 refl (λ d. keyword-or s c 10 refl (λ e. keyword-or s c 11 refl (λ f.
+    keyword-or s c 12 refl (λ g. keyword-or s c 13 refl (λ h. keyword-or s c 14 refl (λ i.
+    rw (a, b, d, e, f, g, h, i, no-keyword s c (eqb-false c 12 g) (eqb-false c 13 h) (eqb-false c 14 i))))))))))
+
+head-view : Head → View
+head-view h = shown (kind-of (h .code) (h .size)) (h .solid) (h .depth) (h .name)
+
+-- A node is told by its place as its tokens have it.
+name-shown : (text ps : List ℕ) (c s k : ℕ) (b : Bool) → titled c ≡ b → has-name (kind-of c s) ≡ b
+  → cond (has-name (kind-of c s)) (word-at text (cond (titled c) (getD ps (k + 2) 0) 0)) [] ≡ cond (titled c) (word-at text (getD ps (k + 2) 0)) []
+name-shown text ps c s k true e f = rw (e, f)
+name-shown text ps c s k false e f = rw (e, f)
+
+head-shown : (text ps : List ℕ) (d k : ℕ) (cs : List ℕ) → view text (node-of ps (head (name-in text ps) d k cs)) ≡ head-view (head (name-in text ps) d k cs)
+unfolding view node-of name-place head head-view
+head-shown text ps d k cs =
+    let c = getD cs 0 0 in
+    let s = cond (copying c) (getD cs 4 0 - 16) 0 in
+    ap (shown (kind-of c s) (solid-of cs) d) (name-shown text ps c s k (titled c) refl (kind-named c s))
+
+heads-shown : (text ps : List ℕ) (p k : ℕ) (cs : List ℕ)
+  → map (view text) (map (node-of ps) (heads (name-in text ps) p k cs)) ≡ map head-view (heads (name-in text ps) p k cs)
+unfolding heads
+heads-shown text ps p k [] = refl
+heads-shown text ps p k (c ∷ cs) =
+    ⊎-elim
+    (λ e. rw e (rw (head-shown text ps (suc p) k (c ∷ cs), heads-shown text ps p (suc k) cs)))
+    (λ e. rw e (heads-shown text ps (opened p c) (suc k) cs))
+    (cases (keyed c))
+
+-- The nodes of a tree as they are shown.
+record Same (hs : List Head) (vs : List View) : Type 0 where
+  law : map head-view hs ≡ vs
+
+before : {hs : List Head} {vs : List View} (h : Head) (v : View) → head-view h ≡ v → Same hs vs → Same (h ∷ hs) (v ∷ vs)
+before h v p q = record { law = rw (p, q .law) }
+
+group-shown : (y : Way) (b : Bool) (d k : ℕ) → head-view (simple k d (group-code y) [] b) ≡ shown (group-kind y) b d []
+unfolding head-view kind-of
+group-shown all b d k = refl
+group-shown some b d k = refl
+group-shown one b d k = refl
+
+replicator-shown : (y : Way) (b : Bool) (d k : ℕ) (par : Name) (size : ℕ)
+  → head-view (record { key = k; depth = d; code = replicator-code y; name = par; size = size; pars = []; strong = false; solid = b })
+  ≡ shown (replicator-kind y size) b d par
+unfolding head-view kind-of
+replicator-shown all b d k par size = refl
+replicator-shown some b d k par size = refl
+replicator-shown one b d k par size = refl
+
+mutual
+  unfolding flow-heads flow-views head-view kind-of
+  flow-shown : (f : Flow) (b : Bool) (d k : ℕ) {hs : List Head} {vs : List View} → Same hs vs → Same (flow-heads f b d k hs) (flow-views f b d vs)
+  flow-shown (flow n ps sw c r cs) b d k h =
+      before (record { key = k; depth = d; code = 7; name = n; size = 0; pars = reverse ps; strong = sw; solid = b }) (shown FlowKind b d n) refl
+      (child-shown c r (suc d) (k + (7 + 2 * length ps)) (children-shown cs (suc d) (k + (7 + 2 * length ps) + (length (child-tokens c []) + 3)) h))
+
+  children-shown : (cs : Children) (d k : ℕ) {hs : List Head} {vs : List View} → Same hs vs → Same (children-heads cs d k hs) (children-views cs d vs)
+  children-shown none d k h = h
+  children-shown (next c r cs) d k h = child-shown c r d k (children-shown cs d (k + (length (child-tokens c []) + 3)) h)
+
+  child-shown : (c : Child) (b : Bool) (d k : ℕ) {hs : List Head} {vs : List View} → Same hs vs → Same (child-heads c b d k hs) (child-views c b d vs)
+  child-shown (plain m) b d k h = member-shown m b d k h
+  child-shown (loop m) b d k h = before (simple k d 15 [] b) (shown Loop b d []) refl (member-shown m false (suc d) (k + 2) h)
+  child-shown (group y m e ms) b d k h =
+      before (simple k d (group-code y) [] b) (shown (group-kind y) b d []) (group-shown y b d k)
+      (member-shown m false (suc d) (k + 2)
+      (member-shown e false (suc d) (k + 2 + length (member-tokens m []))
+      (members-shown ms (suc d) (k + 2 + length (member-tokens m []) + length (member-tokens e [])) h)))
+  child-shown (replicator y par size m) b d k h =
+      before (record { key = k; depth = d; code = replicator-code y; name = par; size = size; pars = []; strong = false; solid = b })
+      (shown (replicator-kind y size) b d par) (replicator-shown y b d k par size) (member-shown m false (suc d) (k + 7) h)
+
+  member-shown : (m : Member) (b : Bool) (d k : ℕ) {hs : List Head} {vs : List View} → Same hs vs → Same (member-heads m b d k hs) (member-views m b d vs)
+  member-shown (leaf n) b d k h = before (simple k d 8 n b) (shown Leaf b d n) refl h
+  member-shown (inner f) b d k h = flow-shown f b d k h
+
+  members-shown : (ms : Members) (d k : ℕ) {hs : List Head} {vs : List View} → Same hs vs → Same (members-heads ms d k hs) (members-views ms d vs)
+  members-shown end d k h = h
+  members-shown (also m ms) d k h = member-shown m false d k (members-shown ms d (k + length (member-tokens m [])) h)
+
+stored-shown : (text : List ℕ) (hs : List Head) (x y : ℕ) → views text (stored (places text) hs x y) ≡ map (view text) (map (node-of (places text)) hs)
+unfolding views stored
+stored-shown text hs x y =
+    ap (map (view text))
+    (take-at (map (node-of (places text)) hs) (replicate (256 - length hs) blank-node) (length hs) (length-map hs (node-of (places text))))
+
+nothing : Same [] []
+nothing = record { law = refl }
+
+-- A node for each keyword.
+heads-count : (nm : ℕ → Name) (p k : ℕ) (cs : List ℕ) → length (heads nm p k cs) ≡ nodes-in cs
+unfolding heads count-of
+heads-count nm p k [] = refl
+heads-count nm p k (c ∷ cs) =
+    ⊎-elim (λ e. rw e (ap suc (heads-count nm p (suc k) cs))) (λ e. rw e (heads-count nm (opened p c) (suc k) cs)) (cases (keyed c))
+
+nodes-held : (text : List ℕ) (d : Flow) → Derives (tokens text) d → length (flow-heads d false 1 0 []) ≡ flow-nodes d
+unfolding codes
+nodes-held text d g =
+    ap length (sym (derived-heads text d g))
+    ∙ (heads-count (name-in text (places text)) 0 0 (codes text)
+    ∙ (ap (λ (ts : List Name). nodes-in (map code ts)) (g .told) ∙ nodes-counted d (g .proper)))
+
+pub accepted-shown : (text : List ℕ) (d : Flow) → Accepted text d → Shows text d (read-of text .diagram)
+unfolding stored
+accepted-shown text d a =
+    let e = accepted-read text d a in
+    let hs = flow-heads d false 1 0 [] in
+    subst (λ (o : Out). Shows text d (o .diagram)) (sym e)
+    record {
+      nodes =
+        stored-shown text hs (flow-copies d) (flow-events d)
+        ∙ (subst (λ (l : List Head). map (view text) (map (node-of (places text)) l) ≡ map head-view l) (derived-heads text d (a .derived))
+        (heads-shown text (places text) 0 0 (codes text))
+        ∙ flow-shown d false 1 0 nothing .law);
+      count = nodes-held text d (a .derived);
+      copies = refl;
+      events = refl;
+    }

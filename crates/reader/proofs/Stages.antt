@@ -1,0 +1,128 @@
+-- How one stage of reading leads to the next.
+use mathlib.Core.Path.{_≡_, refl, sym, _∙_, ap, ap₂, subst}
+use mathlib.Core.Bool.{true, false}
+use mathlib.Core.List.{List, [], _∷_}
+use Prim.Native.Nat.{ℕ, zero, suc, _+_, _≤_, _<_}
+use native.Mathlib.Omega.{arith}
+use lib.ListN.{length, getD, take, replicate, length-replicate}
+use lib.Seq.{length-take-le}
+use Rattle.diagram.specs.Tree.{Name}
+use Rattle.lexer.specs.Spans.{spans-of, tokens, codes, places}
+use Rattle.lexer.specs.Fill.{fill}
+use Rattle.lexer.specs.Scanned.{scan-of, written}
+use Rattle.lexer.specs.declared.Scan.{Scan}
+use Rattle.lexer.specs.declared.Scan.the-variants.{Tokens, Refused as Unscanned}
+use Rattle.lexer.proofs.Filled.{fill-length, fill-front}
+use Rattle.lexer.proofs.Spans.{codes-length, places-length, tokens-bounded}
+use Rattle.grammar.specs.Machine.{Outcome, whole, stop, outcome}
+use Rattle.grammar.proofs.Limited.{whole-none-big}
+use Rattle.grammar.proofs.Few.{whole-few}
+use Rattle.parser.specs.declared.Step.{Step}
+use Rattle.parser.specs.declared.Step.the-variants.{Go, Stop}
+use Rattle.parser.specs.Parsed.{parsed as step-of}
+use Rattle.rules.specs.Heads.{Head, heads, keys, depths, by-columns, name-in}
+use Rattle.rules.specs.Judged.{verdict}
+use Rattle.rules.specs.declared.Verdict.{Verdict}
+use Rattle.rules.specs.declared.Verdict.the-variants.{Kept, Refused as Unkept}
+use Rattle.diagram.specs.declared.Diagram.{Diagram}
+use Rattle.reader.specs.Nodes.{stored}
+use Rattle.reader.specs.declared.Answer.the-variants.{Done}
+use Rattle.rules.proofs.HeadedColumns.{columns-heads, keys-count, depths-count}
+use Rattle.reader.specs.Answers.{away, scan-answer, parse-answer, verdict-answer, judged, parsed, scanned, read-of}
+use Rattle.reader.specs.declared.Out.{Out}
+use Rattle.reader.proofs.Scans.{scan-clean, clean-scan}
+
+-- A list of m numbers over whose front the first n are known to be vs.
+pub record Front (m n : ℕ) (xs vs : List ℕ) : Type 0 where
+  pub room : n ≤ length xs
+  pub exact : n ≡ length (take n xs)
+  pub is : take n xs ≡ vs
+
+front : (m n : ℕ) (lent xs vs : List ℕ) → length lent ≡ m → n ≡ length vs → n ≤ m → xs ≡ fill lent vs → Front m n xs vs
+front m n lent xs vs l e h q =
+    let r : n ≤ length xs = omega (arith, ap length q, fill-length lent vs) in
+    record {
+      room = r;
+      exact = sym (length-take-le n xs r);
+      is = ap₂ (λ (k : ℕ) (ys : List ℕ). take k ys) e q ∙ fill-front lent vs (omega arith);
+    }
+
+-- From the tokens to the columns of nodes.
+pub record Columns (cs ks ds : List ℕ) (n m : ℕ) : Type 0 where
+  pub read : outcome cs ≡ whole m
+  pub few : n ≤ 256
+  pub first : Front 256 n ks (keys 0 cs)
+  pub second : Front 256 n ds (depths 0 cs)
+
+read-whole : (cs : List ℕ) (o : Outcome) (len : ℕ) (r : Step) (x y : ℕ) → outcome cs ≡ o → r ≡ step-of len o → r ≡ Go x y → outcome cs ≡ whole y
+read-whole cs (whole n) len r x y q e g = let z : n ≡ y = cc in q ∙ ap whole z
+read-whole cs (stop c k) len r x y q e g = let z : _≡_ {A = ℕ} 0 1 = cc in let w : ⊥ = omega arith in absurd w
+
+pub columns : (cs ks ds lent owed : List ℕ) (n len : ℕ) (r : Step) (x y : ℕ) → r ≡ step-of len (outcome cs) → r ≡ Go x y → length lent ≡ 256 → length owed ≡ 256
+  → n ≡ length (keys 0 cs) → ks ≡ fill lent (keys 0 cs) → ds ≡ fill owed (depths 0 cs) → Columns cs ks ds n y
+columns cs ks ds lent owed n len r x y e g l o q a b =
+    let w = read-whole cs (outcome cs) len r x y refl e g in
+    let h : n ≤ 256 = omega (arith, keys-count 0 cs, whole-none-big cs y w .0, whole-few cs y w) in
+    record {
+      read = w;
+      few = h;
+      first = front 256 n lent ks (keys 0 cs) l q h a;
+      second = front 256 n owed ds (depths 0 cs) o (omega (arith, keys-count 0 cs, depths-count 0 cs)) h b;
+    }
+
+pub stopped-away : (text ps : List ℕ) (hs : List Head) (len : ℕ) (o : Outcome) (r : Step) (c k : ℕ) → r ≡ step-of len o → r ≡ Stop c k
+  → away (parse-answer text ps r) ≡ parsed text ps hs o
+stopped-away text ps hs len (whole n) r c k e g = let z : _≡_ {A = ℕ} 0 1 = cc in let w : ⊥ = omega arith in absurd w
+stopped-away text ps hs len (stop d j) r c k e g = rw e
+
+pub whole-judged : (text ps cs ks ds : List ℕ) (n m : ℕ) (o : Out) → Columns cs ks ds n m
+  → o ≡ judged ps (by-columns (name-in text ps) cs (take n ks) (take n ds)) (verdict ps (by-columns (name-in text ps) cs (take n ks) (take n ds)))
+  → o ≡ parsed text ps (heads (name-in text ps) 0 0 cs) (outcome cs)
+whole-judged text ps cs ks ds n m o w e =
+    let h = ap₂ (by-columns (name-in text ps) cs) (w .first .is) (w .second .is) ∙ columns-heads (name-in text ps) cs in
+    e ∙ (ap (λ (l : List Head). judged ps l (verdict ps l)) h ∙ sym (ap (parsed text ps (heads (name-in text ps) 0 0 cs)) (w .read)))
+
+-- From the columns to the diagram.
+pub verdict-away : (ps : List ℕ) (hs : List Head) (w v : Verdict) (c k : ℕ) → v ≡ w → v ≡ Unkept c k → away (verdict-answer v) ≡ judged ps hs w
+verdict-away ps hs (Kept x y) v c k e g = let z : _≡_ {A = ℕ} 0 1 = cc in let w : ⊥ = omega arith in absurd w
+verdict-away ps hs (Unkept d j) v c k e g = rw e
+
+pub kept-done : (ps : List ℕ) (hs : List Head) (w v : Verdict) (x y : ℕ) (d : Diagram) → v ≡ w → v ≡ Kept x y → d ≡ stored ps hs x y
+  → record { answer = Done; diagram = d } ≡ judged ps hs w
+kept-done ps hs (Kept a b) v x y d e g q = let p : x ≡ a = cc in let r : y ≡ b = cc in rw (q, p, r)
+kept-done ps hs (Unkept c k) v x y d e g q = let z : _≡_ {A = ℕ} 0 1 = cc in let w : ⊥ = omega arith in absurd w
+
+-- From the text to its tokens.
+pub record Tokened (text cs ps : List ℕ) (n : ℕ) : Type 0 where
+  pub scanned : scan-of text ≡ Tokens n
+  pub first : Front 16384 n cs (codes text)
+  pub second : Front 16384 n ps (places text)
+
+pub tokened : (text cs ps lent owed : List ℕ) (n : ℕ) (r : Scan) → r ≡ scan-of text → r ≡ Tokens n → length lent ≡ 16384 → length owed ≡ 16384
+  → cs ≡ written (scan-of text) (codes text) lent → ps ≡ written (scan-of text) (places text) owed → Tokened text cs ps n
+tokened text cs ps lent owed n r e g l o a b =
+    let s : scan-of text ≡ Tokens n = sym e ∙ g in
+    let c = scan-clean text n s in
+    let k : Tokens n ≡ Tokens (length (spans-of text)) = sym s ∙ clean-scan text c in
+    let q : n ≡ length (spans-of text) = cc in
+    let h : n ≤ 16384 = omega (arith, tokens-bounded text, c .size) in
+    record {
+      scanned = s;
+      first = front 16384 n lent cs (codes text) l (omega (arith, codes-length text)) h (rw s at a);
+      second = front 16384 n owed ps (places text) o (omega (arith, places-length text)) h (rw s at b);
+    }
+
+pub scanned-away : (text : List ℕ) (s r : Scan) (c k : ℕ) → r ≡ s → r ≡ Unscanned c k → away (scan-answer r) ≡ scanned text (codes text) (places text) s
+scanned-away text (Tokens n) r c k e g = let z : _≡_ {A = ℕ} 0 1 = cc in let w : ⊥ = omega arith in absurd w
+scanned-away text (Unscanned d j) r c k e g = rw e
+
+pub unscanned : (text : List ℕ) (r : Scan) (c k : ℕ) → r ≡ scan-of text → r ≡ Unscanned c k → away (scan-answer r) ≡ read-of text
+unfolding read-of
+unscanned text r c k e g = scanned-away text (scan-of text) r c k e g
+
+pub tokened-read : (text cs ps : List ℕ) (n : ℕ) (o : Out) → Tokened text cs ps n
+  → o ≡ parsed text (take n ps) (heads (name-in text (take n ps)) 0 0 (take n cs)) (outcome (take n cs)) → o ≡ read-of text
+unfolding read-of
+tokened-read text cs ps n o w e =
+    e ∙ (ap₂ (λ (c p : List ℕ). parsed text p (heads (name-in text p) 0 0 c) (outcome c)) (w .first .is) (w .second .is)
+    ∙ sym (ap (scanned text (codes text) (places text)) (w .scanned)))

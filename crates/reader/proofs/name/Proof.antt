@@ -1,0 +1,57 @@
+use Rattle.reader.proofs.Laws.{name-first, name-second, name-none}
+use borrow.Author.Needs.{needs}
+use Rattle.reader.proofs.name.Statement.{statement}
+use Rattle.reader.proofs.name.Tie as tie
+use Rattle.reader.proofs.name.Reads as reads
+use Rattle.reader.proofs.name.Lts as lts
+use Rattle.rules.proofs.either.Reads as either-reads
+use Rattle.rules.proofs.place.Reads as place-reads
+use Rattle.rules.proofs.token.Reads as token-reads
+use Rattle.rules.proofs.within.Reads as within-reads
+
+token-requires : tie.Need-token-requires
+token-requires c κs = search needs
+
+either-requires : tie.Need-either-requires
+either-requires c κs = search needs
+
+place-requires : tie.Need-place-requires
+place-requires c κs = search needs
+
+returns : tie.Need-returns
+returns c =
+    let a = c .before .before .before .before .before .before .args in
+    name-first (a .codes .now) (a .starts .now) (a .key) _ _ _ (c .before .before .before .token .ensures) (c .before .before .either .ensures)
+    (c .before .if1 .taken) (c .place .ensures)
+
+within-requires : tie.Need-within-requires
+within-requires c κs = search needs
+
+place-requires-2 : tie.Need-place-requires-2
+place-requires-2 c κs = search needs
+
+returns-2 : tie.Need-returns-2
+returns-2 c =
+    let a = c .before .before .before .before .before .before .before .before .args in
+    name-second (a .codes .now) (a .starts .now) (a .key) _ _ _ _ (c .before .before .before .before .before .token .ensures)
+    (c .before .before .before .before .either .ensures) (c .before .before .before .if1 .left) (c .before .before .within .ensures) (c .before .if2 .taken)
+    (c .place2 .ensures)
+
+returns-3 : tie.Need-returns-3
+returns-3 c =
+    let a = c .before .before .before .before .before .before .before .args in
+    name-none (a .codes .now) (a .starts .now) (a .key) _ _ _ (c .before .before .before .before .token .ensures) (c .before .before .before .either .ensures)
+    (c .before .before .if1 .left) (c .before .within .ensures) (c .if2 .left)
+
+pub name-spec : {M : Type 1} → statement M
+name-spec =
+    tie.close
+    (tie.spec
+    token-requires
+    either-requires
+    place-requires
+    returns
+    within-requires
+    place-requires-2
+    returns-2
+    returns-3)

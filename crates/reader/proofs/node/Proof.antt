@@ -1,0 +1,50 @@
+use Rattle.reader.proofs.Laws.{node-made}
+use borrow.Author.Needs.{needs}
+use Rattle.reader.proofs.node.Statement.{statement}
+use Rattle.reader.proofs.node.Tie as tie
+use Rattle.reader.proofs.node.Reads as reads
+use Rattle.reader.proofs.node.Lts as lts
+use Rattle.reader.proofs.kind.Reads as kind-reads
+use Rattle.reader.proofs.name.Reads as name-reads
+use Rattle.reader.proofs.size.Reads as size-reads
+use Rattle.rules.proofs.place.Reads as place-reads
+use Rattle.rules.proofs.solid.Reads as solid-reads
+use Rattle.rules.proofs.token.Reads as token-reads
+
+token-requires : tie.Need-token-requires
+token-requires c κs = search needs
+
+size-requires : tie.Need-size-requires
+size-requires c κs = search needs
+
+kind-requires : tie.Need-kind-requires
+kind-requires c κs = search needs
+
+solid-requires : tie.Need-solid-requires
+solid-requires c κs = search needs
+
+place-requires : tie.Need-place-requires
+place-requires c κs = search needs
+
+name-requires : tie.Need-name-requires
+name-requires c κs = search needs
+
+returns : tie.Need-returns
+returns c =
+    let a = c .before .before .before .before .before .before .before .before .args in
+    λ nm.
+    node-made (a .codes .now) (a .starts .now) nm (a .depth) (a .key) _ _ _ _ _ _ (c .before .before .before .before .before .token .ensures)
+    (c .before .before .before .before .size .ensures) (c .before .before .before .kind .ensures) (c .before .before .solid .ensures) (c .before .place .ensures)
+    (c .name .ensures)
+
+pub node-spec : {M : Type 1} → statement M
+node-spec =
+    tie.close
+    (tie.spec
+    token-requires
+    size-requires
+    kind-requires
+    solid-requires
+    place-requires
+    name-requires
+    returns)

@@ -1,0 +1,107 @@
+use mathlib.Core.Path.{_≡_, sym, _∙_, ap}
+use Prim.Native.Nat.{ℕ, _≤_}
+use lib.ListN.{length, replicate, length-replicate}
+use Rattle.reader.proofs.Stages.{Columns, columns, stopped-away, whole-judged}
+use Rattle.reader.specs.Answers.{away}
+use Rattle.grammar.specs.Machine.{outcome}
+use Rattle.rules.specs.Heads.{heads, name-in}
+use native.Mathlib.Omega.{arith}
+use borrow.Author.Needs.{needs}
+use Rattle.reader.proofs.read_tokens.Statement.{statement}
+use Rattle.reader.proofs.read_tokens.Tie as tie
+use Rattle.reader.proofs.read_tokens.Reads as reads
+use Rattle.reader.proofs.read_tokens.Lts as lts
+use Rattle.parser.proofs.parse.Reads as parse-reads
+use Rattle.reader.proofs.judge.Reads as judge-reads
+use Rattle.reader.proofs.parse_answer.Reads as parse-answer-reads
+use Rattle.reader.proofs.turned_away.Reads as turned-away-reads
+use Rattle.rules.proofs.nodes.Reads as nodes-reads
+
+-- What is known once the columns are there.
+abbrev Found : tie.After-nodes → Type 0
+Found c =
+    Columns (c .before .before .before .before .before .before .before .before .before .args .codes .now) (c .nodes .last .1 .0) (c .nodes .last .1 .1 .0)
+    (c .nodes .result) (c .before .before .before .enum-told .given .0 .1 .0)
+
+found : (c : tie.After-nodes) → Found c
+found c =
+    let told = c .before .before .before .enum-told .given in
+    let parse = c .before .before .before .before .before .parse in
+    columns (c .before .before .before .before .before .before .before .before .before .args .codes .now) (c .nodes .last .1 .0) (c .nodes .last .1 .1 .0)
+    (replicate 256 0) (replicate 256 0) (c .nodes .result)
+    (length (c .before .before .before .before .before .before .before .before .before .args .codes .now)) (parse .result) (told .0 .0) (told .0 .1 .0)
+    (parse .ensures) (told .1) (length-replicate {A = ℕ} 256 0) (length-replicate {A = ℕ} 256 0) (c .nodes .ensures .0) (c .nodes .ensures .1 .0) (c .nodes .ensures .1 .1)
+
+parse-requires : tie.Need-parse-requires
+parse-requires c κs = search needs
+
+enum-told : tie.Need-enum-told
+enum-told c = search needs
+
+enum-told-2 : tie.Need-enum-told-2
+enum-told-2 c = search needs
+
+parse-answer-requires : tie.Need-parse-answer-requires
+parse-answer-requires c κs = search needs
+
+turned-away-requires : tie.Need-turned-away-requires
+turned-away-requires c κs = search needs
+
+returns : tie.Need-returns
+returns c =
+    let a = c .before .before .before .before .before .before .before .before .args in
+    c .turned-away .ensures
+    ∙ (ap away (c .before .parse-answer .ensures)
+    ∙ stopped-away (a .text .now) (a .starts .now) (heads (name-in (a .text .now) (a .starts .now)) 0 0 (a .codes .now)) (length (a .codes .now)) (outcome (a .codes .now)) _ _ _
+    (c .before .before .before .before .parse .ensures) (c .before .before .enum-told2 .given .1))
+
+slice-aggregate-nodes : tie.Need-slice-aggregate-nodes
+slice-aggregate-nodes c = search needs
+
+slice-aggregate-nodes-2 : tie.Need-slice-aggregate-nodes-2
+slice-aggregate-nodes-2 c = search needs
+
+nodes-requires : tie.Need-nodes-requires
+nodes-requires c κs = search needs
+
+array-share-prefix-keys : tie.Need-array-share-prefix-keys
+array-share-prefix-keys c = found (c .before .before) .first .room
+
+slice-aggregate-judge : tie.Need-slice-aggregate-judge
+slice-aggregate-judge c = found (c .before .before .before) .first .exact
+
+array-share-prefix-depths : tie.Need-array-share-prefix-depths
+array-share-prefix-depths c = found (c .before .before .before) .second .room
+
+slice-aggregate-judge-2 : tie.Need-slice-aggregate-judge-2
+slice-aggregate-judge-2 c = found (c .before .before .before .before) .second .exact
+
+judge-requires : tie.Need-judge-requires
+judge-requires c κs =
+    let f = found (c .before .before .before .before) in
+    (omega (arith, f .few, f .first .exact), sym (f .second .exact) ∙ f .first .exact)
+
+returns-2 : tie.Need-returns-2
+returns-2 c =
+    let a = c .before .before .before .before .before .before .before .before .before .before .before .before .before .before .args in
+    whole-judged (a .text .now) (a .starts .now) (a .codes .now) _ _ _ _ _ (found (c .before .before .before .before .before)) (c .judge .ensures)
+
+pub read-tokens-spec : {M : Type 1} → statement M
+read-tokens-spec =
+    tie.close
+    (tie.spec
+    parse-requires
+    enum-told
+    enum-told-2
+    parse-answer-requires
+    turned-away-requires
+    returns
+    slice-aggregate-nodes
+    slice-aggregate-nodes-2
+    nodes-requires
+    array-share-prefix-keys
+    slice-aggregate-judge
+    array-share-prefix-depths
+    slice-aggregate-judge-2
+    judge-requires
+    returns-2)

@@ -1,0 +1,6 @@
+pub mod Nodes
+pub mod Answers
+pub mod Accepted
+pub mod Refused
+pub mod Views
+pub mod Bounds

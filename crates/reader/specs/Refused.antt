@@ -1,0 +1,138 @@
+-- Document 01, "Numbers for what is turned away", numbers 2 to 11: the condition of each, with its place, where none before it holds.
+use mathlib.Core.Path.{_≡_}
+use mathlib.Core.Logic.{_⊎_}
+use mathlib.Core.Bool.{true, false}
+use mathlib.Core.List.{List, []}
+use Prim.Native.Nat.{ℕ, suc, _+_, _≤_, _<_}
+use lib.ListN.{length, getD, take}
+use Rattle.diagram.specs.Tree.{Flow}
+use Rattle.diagram.specs.Count.{flow-nodes, flow-copies, flow-events}
+use Rattle.diagram.specs.Depth.{flow-depth}
+use Rattle.diagram.specs.Names.{flow-names, differ}
+use Rattle.diagram.specs.Parameters.{flow-parameters}
+use Rattle.diagram.specs.Flows.{each-flow, solid, strong}
+use Rattle.lexer.specs.Classes.{foreign}
+use Rattle.lexer.specs.Spans.{tokens, codes, places}
+use Rattle.grammar.specs.Limits.{too-big}
+use Rattle.grammar.specs.Derives.{Derives, Viable}
+use Rattle.rules.specs.Sites.{flow-sites, first-twice, first-broken}
+use Rattle.rules.specs.declared.Found.the-variants.{At}
+use Rattle.reader.specs.Answers.{place-of}
+
+-- 2: "text over 16,384 bytes", at 16,384.
+pub record Long (text : List ℕ) (at : ℕ) : Type 0 where
+  pub over : 16384 < length text
+  pub place : at ≡ 16384
+
+-- 3: a foreign byte, at the "first such byte".
+pub record Foreign (text : List ℕ) (at : ℕ) : Type 0 where
+  pub size : length text ≤ 16384
+  pub inside : at < length text
+  pub here : foreign (getD text at 0) ≡ true
+  pub first : (j : ℕ) → j < at → foreign (getD text j 0) ≡ false
+
+-- The text has no foreign byte.
+abbrev pub Usual : List ℕ → Type 0
+Usual text = (j : ℕ) → j < length text → foreign (getD text j 0) ≡ false
+
+-- 4: a word "over 24 bytes", at the "first byte of the first such word". Only a word has more than one byte.
+pub record Wordy (text : List ℕ) (at : ℕ) : Type 0 where
+  pub size : length text ≤ 16384
+  pub usual : Usual text
+  pub token : ℕ
+  pub inside : token < length (tokens text)
+  pub over : 24 < length (getD (tokens text) token [])
+  pub first : (j : ℕ) → j < token → length (getD (tokens text) j []) ≤ 24
+  pub place : at ≡ getD (places text) token 0
+
+-- The text is not refused for any of these.
+pub record Clean (text : List ℕ) : Type 0 where
+  pub size : length text ≤ 16384
+  pub usual : Usual text
+  pub words : (j : ℕ) → j < length (tokens text) → length (getD (tokens text) j []) ≤ 24
+
+-- 5: "no grammatical text starts with the tokens up to here, or the text ends early", at "that token, or text length". No token before it
+-- is refused with 6.
+pub record Off (text : List ℕ) (at : ℕ) : Type 0 where
+  pub clean : Clean text
+  pub token : ℕ
+  pub inside : token ≤ length (tokens text)
+  pub before : Viable (take token (tokens text))
+  pub here : token < length (tokens text) → Viable (take (suc token) (tokens text)) → ⊥
+  pub early : token ≡ length (tokens text) → (d : Flow) → Derives (tokens text) d → ⊥
+  pub small : (j : ℕ) → j < token → too-big (codes text) j ≡ false
+  pub place : at ≡ place-of text (places text) token
+
+-- 6: "node 257, or a node at depth 13", at "its keyword". That token and those before it are not off grammar, and it is the first such.
+pub record Big (text : List ℕ) (at : ℕ) : Type 0 where
+  pub clean : Clean text
+  pub token : ℕ
+  pub inside : token < length (tokens text)
+  pub viable : Viable (take (suc token) (tokens text))
+  pub here : too-big (codes text) token ≡ true
+  pub first : (j : ℕ) → j < token → too-big (codes text) j ≡ false
+  pub place : at ≡ place-of text (places text) token
+
+-- The text is not refused for its tokens: a diagram of at most 256 nodes and 12 depths derives it.
+pub record Derived (text : List ℕ) (d : Flow) : Type 0 where
+  pub size : length text ≤ 16384
+  pub derives : Derives (tokens text) d
+  pub nodes : flow-nodes d ≤ 256
+  pub depth : flow-depth d ≤ 12
+
+-- 7: a name that "equals an earlier leaf or flow name", at "the first such name", two tokens after its node's keyword.
+pub record Twice (text : List ℕ) (at : ℕ) (d : Flow) : Type 0 where
+  pub derived : Derived text d
+  pub token : ℕ
+  pub here : first-twice [] (flow-sites d [] 0 []) ≡ At token
+  pub place : at ≡ getD (places text) (token + 2) 0
+
+-- 8: "a parameter rule broken", at the "keyword of the first such node".
+pub record Misplaced (text : List ℕ) (at : ℕ) (d : Flow) : Type 0 where
+  pub derived : Derived text d
+  pub names : differ (flow-names d []) ≡ true
+  pub token : ℕ
+  pub here : first-broken (λ s. s .parameters) (flow-sites d [] 0 []) ≡ At token
+  pub place : at ≡ getD (places text) token 0
+
+-- 9: "solid child rule broken", at the "keyword of the first such flow".
+pub record Unsolid (text : List ℕ) (at : ℕ) (d : Flow) : Type 0 where
+  pub derived : Derived text d
+  pub names : differ (flow-names d []) ≡ true
+  pub parameters : flow-parameters d [] ≡ true
+  pub token : ℕ
+  pub here : first-broken (λ s. s .solids) (flow-sites d [] 0 []) ≡ At token
+  pub place : at ≡ getD (places text) token 0
+
+-- 10: "sw 0", at the "keyword of the first such flow".
+pub record Weak (text : List ℕ) (at : ℕ) (d : Flow) : Type 0 where
+  pub derived : Derived text d
+  pub names : differ (flow-names d []) ≡ true
+  pub parameters : flow-parameters d [] ≡ true
+  pub solids : each-flow d solid ≡ true
+  pub token : ℕ
+  pub here : first-broken (λ s. s .strongs) (flow-sites d [] 0 []) ≡ At token
+  pub place : at ≡ getD (places text) token 0
+
+-- 11: "over 768 node copies or 512 events", at 0.
+pub record Many (text : List ℕ) (at : ℕ) (d : Flow) : Type 0 where
+  pub derived : Derived text d
+  pub names : differ (flow-names d []) ≡ true
+  pub parameters : flow-parameters d [] ≡ true
+  pub solids : each-flow d solid ≡ true
+  pub strongs : each-flow d strong ≡ true
+  pub over : (768 < flow-copies d) ⊎ (512 < flow-events d)
+  pub place : at ≡ 0
+
+-- A text is turned away with this number at this place.
+pub data Turned (text : List ℕ) (number at : ℕ) : Type 0 where
+  long : number ≡ 2 → Long text at → Turned text number at
+  foreign-byte : number ≡ 3 → Foreign text at → Turned text number at
+  long-word : number ≡ 4 → Wordy text at → Turned text number at
+  off-grammar : number ≡ 5 → Off text at → Turned text number at
+  too-large : number ≡ 6 → Big text at → Turned text number at
+  name-twice : number ≡ 7 → (d : Flow) → Twice text at d → Turned text number at
+  parameter : number ≡ 8 → (d : Flow) → Misplaced text at d → Turned text number at
+  solid-line : number ≡ 9 → (d : Flow) → Unsolid text at d → Turned text number at
+  weak : number ≡ 10 → (d : Flow) → Weak text at d → Turned text number at
+  copies : number ≡ 11 → (d : Flow) → Many text at d → Turned text number at

@@ -1,0 +1,83 @@
+-- Property 2: "its diagram is the one derived". The nodes that the diagram holds, with their names as they stand in the text, and the nodes
+-- of a tree in the order of the text.
+use mathlib.Core.Path.{_≡_}
+use mathlib.Core.Bool.{Bool, true, false, cond}
+use mathlib.Core.List.{List, [], _∷_, map}
+use Prim.Native.Nat.{ℕ, suc}
+use lib.ListN.{take}
+use Rattle.diagram.specs.Tree.{Name, Way, all, some, one, Flow, flow, Children, none, next, Child, plain, loop, group, replicator, Member, leaf, inner, Members, end, also}
+use Rattle.diagram.specs.Count.{flow-nodes, flow-copies, flow-events}
+use Rattle.diagram.specs.declared.Kind.{Kind}
+use Rattle.diagram.specs.declared.Kind.the-variants.{Flow as FlowNode, Leaf, And, Or, Xor, All, Some, One, Loop}
+use Rattle.diagram.specs.declared.Node.{Node}
+use Rattle.diagram.specs.declared.Diagram.{Diagram}
+use Rattle.lexer.specs.Words.{word-at}
+
+-- A node's kind, with its size where it has one; its solid mark; its depth; and the name of a leaf or flow or the par of a replicator.
+pub record View : Type 0 where
+  pub kind : Kind
+  pub solid : Bool
+  pub depth : ℕ
+  pub name : Name
+
+abbrev pub shown : Kind → Bool → ℕ → Name → View
+shown k b d n = record { kind = k; solid = b; depth = d; name = n }
+
+abbrev pub has-name : Kind → Bool
+has-name FlowNode = true
+has-name Leaf = true
+has-name And = false
+has-name Or = false
+has-name Xor = false
+has-name (All size) = true
+has-name (Some size) = true
+has-name (One size) = true
+has-name Loop = false
+
+unfoldable pub view : List ℕ → Node → View
+view text n = shown (n .kind) (n .solid) (n .depth) (cond (has-name (n .kind)) (word-at text (n .name)) [])
+
+-- The nodes that count.
+unfoldable pub views : List ℕ → Diagram → List View
+views text d = map (view text) (take (d .count) (d .nodes))
+
+abbrev pub group-kind : Way → Kind
+group-kind all = And
+group-kind some = Or
+group-kind one = Xor
+
+abbrev pub replicator-kind : Way → ℕ → Kind
+replicator-kind all size = All size
+replicator-kind some size = Some size
+replicator-kind one size = One size
+
+-- The nodes of a tree, of which the first is at depth d and is a solid child or not, and then those given.
+unfoldable mutual
+  pub flow-views : Flow → Bool → ℕ → List View → List View
+  flow-views (flow n ps sw c r cs) b d vs = shown FlowNode b d n ∷ child-views c r (suc d) (children-views cs (suc d) vs)
+
+  pub children-views : Children → ℕ → List View → List View
+  children-views none d vs = vs
+  children-views (next c r cs) d vs = child-views c r d (children-views cs d vs)
+
+  pub child-views : Child → Bool → ℕ → List View → List View
+  child-views (plain m) b d vs = member-views m b d vs
+  child-views (loop m) b d vs = shown Loop b d [] ∷ member-views m false (suc d) vs
+  child-views (group y m e ms) b d vs =
+      shown (group-kind y) b d [] ∷ member-views m false (suc d) (member-views e false (suc d) (members-views ms (suc d) vs))
+  child-views (replicator y par size m) b d vs = shown (replicator-kind y size) b d par ∷ member-views m false (suc d) vs
+
+  pub member-views : Member → Bool → ℕ → List View → List View
+  member-views (leaf n) b d vs = shown Leaf b d n ∷ vs
+  member-views (inner f) b d vs = flow-views f b d vs
+
+  pub members-views : Members → ℕ → List View → List View
+  members-views end d vs = vs
+  members-views (also m ms) d vs = member-views m false d (members-views ms d vs)
+
+-- The diagram holds the nodes of the tree, with their number and how many node copies and events they have.
+pub record Shows (text : List ℕ) (d : Flow) (g : Diagram) : Type 0 where
+  pub nodes : views text g ≡ flow-views d false 1 []
+  pub count : g .count ≡ flow-nodes d
+  pub copies : g .copies ≡ flow-copies d
+  pub events : g .events ≡ flow-events d

@@ -1,0 +1,221 @@
+ghost use mathlib.Core.Path.{_≡_};
+ghost use Prim.Native.Nat.{ℕ, _+_, _-_, _≤_};
+ghost use lib.ListN.{length, getD, drop};
+ghost use Rattle.diagram.specs.Tree.{Name};
+ghost use Rattle.rules.specs.Heads.{head, heads, by-columns, name-in};
+ghost use Rattle.grammar.specs.Machine.{outcome};
+ghost use Rattle.rules.specs.Judged.{verdict};
+ghost use Rattle.reader.specs.Nodes.{kind-of, size-of, name-place, node-of, stored};
+ghost use Rattle.reader.specs.Answers.{away, scan-answer, parse-answer, verdict-answer, place-of, judged as judged-of, parsed, read-of};
+
+use diagram::Diagram;
+use diagram::Kind;
+use diagram::Node;
+use lexer::Scan;
+use parser::Step;
+use rules::Verdict;
+
+// Whether a text was read, or the refusal with its number and place.
+pub enum Answer {
+    Done,
+    Refused(u8, usize),
+}
+
+// What reading answers. Where the text is refused, the diagram is empty and all counts are 0.
+pub struct Out {
+    pub answer: Answer,
+    pub diagram: Diagram,
+}
+
+// An answer that carries no diagram.
+fn turned_away(answer: Answer) -> Out
+    ensures { λ r. ⌜ r ≡ away answer ⌝ }
+{
+    let diagram = diagram::empty();
+    Out { answer, diagram }
+}
+
+// The answer of a stage that refused.
+fn scan_answer(s: Scan) -> Answer
+    ensures { λ r. ⌜ r ≡ scan-answer s ⌝ }
+{
+    match s {
+        Scan::Tokens(_) => Answer::Done,
+        Scan::Refused(number, place) => Answer::Refused(number, place),
+    }
+}
+
+fn verdict_answer(v: Verdict) -> Answer
+    ensures { λ r. ⌜ r ≡ verdict-answer v ⌝ }
+{
+    match v {
+        Verdict::Kept(_, _) => Answer::Done,
+        Verdict::Refused(number, place) => Answer::Refused(number, place),
+    }
+}
+
+// The place of a token in the text, or the text's length where the text ends.
+fn place(text: &[u8], starts: &[u16], k: usize) -> usize
+    ensures { λ r. ⌜ r ≡ place-of (now (text .entry)) (now (starts .entry)) k ⌝ }
+{
+    if k < starts.len() {
+        return rules::place(starts, k, 0);
+    }
+    text.len()
+}
+
+// The parser refuses at a token, whose place is answered.
+fn parse_answer(text: &[u8], starts: &[u16], s: Step) -> Answer
+    ensures { λ r. ⌜ r ≡ parse-answer (now (text .entry)) (now (starts .entry)) s ⌝ }
+{
+    let Step::Stop(number, k) = s else {
+        return Answer::Done;
+    };
+    Answer::Refused(number, place(text, starts, k))
+}
+
+// The kind for a keyword's number and a size.
+fn kind(c: u8, size: u8) -> Kind
+    ensures { λ r. ⌜ r ≡ kind-of c size ⌝ }
+{
+    if c == 7 {
+        return Kind::Flow;
+    }
+    if c == 8 {
+        return Kind::Leaf;
+    }
+    if c == 9 {
+        return Kind::And;
+    }
+    if c == 10 {
+        return Kind::Or;
+    }
+    if c == 11 {
+        return Kind::Xor;
+    }
+    if c == 12 {
+        return Kind::All(size);
+    }
+    if c == 13 {
+        return Kind::Some(size);
+    }
+    if c == 14 {
+        return Kind::One(size);
+    }
+    Kind::Loop
+}
+
+// The number that the size of a replicator stands for.
+fn numeral(codes: &[u8], key: usize) -> u8
+    ensures { λ r. ⌜ r ≡ getD (now (codes .entry)) (key + 4) 0 - 16 ⌝ }
+{
+    let n = rules::token(codes, key, 4);
+    if n < 16 {
+        return 0;
+    }
+    n - 16
+}
+
+// A replicator's size; 0 for any other node.
+fn size(codes: &[u8], key: usize) -> u8
+    ensures { λ r. ⌜ r ≡ size-of (drop key (now (codes .entry))) ⌝ }
+{
+    if rules::within(12, 14, rules::token(codes, key, 0)) {
+        return numeral(codes, key);
+    }
+    0
+}
+
+// The place of a node's name or par; 0 for a node that has none.
+fn name(codes: &[u8], starts: &[u16], key: usize) -> usize
+    ensures { λ r. ⌜ r ≡ name-place (getD (drop key (now (codes .entry))) 0 0) (now (starts .entry)) key ⌝ }
+{
+    let c = rules::token(codes, key, 0);
+    if rules::either(c, 7, 8) {
+        return rules::place(starts, key, 2);
+    }
+    if rules::within(12, 14, c) {
+        return rules::place(starts, key, 2);
+    }
+    0
+}
+
+// The node whose keyword is the token `key`.
+fn node(codes: &[u8], starts: &[u16], key: usize, depth: usize) -> Node
+    ensures { λ r. ⌜ ((nm : ℕ → Name) → r ≡ node-of (now (starts .entry)) (head nm depth key (drop key (now (codes .entry))))) ⌝ }
+{
+    let c = rules::token(codes, key, 0);
+    let s = size(codes, key);
+    let kind = kind(c, s);
+    let solid = rules::solid(codes, key);
+    let at = rules::place(starts, key, 0);
+    let name = name(codes, starts, key);
+    Node {
+        kind,
+        solid,
+        depth,
+        at,
+        name,
+    }
+}
+
+// The nodes of the columns `keys` and `depths`, with the counts.
+fn store(codes: &[u8], starts: &[u16], keys: &[usize], depths: &[usize], copies: usize, events: usize) -> Diagram
+    requires { ⌜ (length (now keys) ≤ 256) × (length (now depths) ≡ length (now keys)) ⌝ }
+    ensures { λ r. ⌜ ((nm : ℕ → Name) → r ≡ stored (now (starts .entry)) (by-columns nm (now (codes .entry)) (now (keys .entry)) (now (depths .entry))) copies events) ⌝ }
+{
+    let mut d = diagram::empty();
+    let mut i = 0;
+    while i < keys.len() {
+        let n = node(codes, starts, keys[i], depths[i]);
+        d.nodes[i] = n;
+        i += 1;
+    }
+    d.count = i;
+    d.copies = copies;
+    d.events = events;
+    d
+}
+
+// Numbers 7 to 11, and the diagram.
+fn judge(text: &[u8], codes: &[u8], starts: &[u16], keys: &[usize], depths: &[usize]) -> Out
+    requires { ⌜ (length (now keys) ≤ 256) × (length (now depths) ≡ length (now keys)) ⌝ }
+    ensures { λ r. ⌜ r ≡ judged-of (now (starts .entry)) (by-columns (name-in (now (text .entry)) (now (starts .entry))) (now (codes .entry)) (now (keys .entry)) (now (depths .entry))) (verdict (now (starts .entry)) (by-columns (name-in (now (text .entry)) (now (starts .entry))) (now (codes .entry)) (now (keys .entry)) (now (depths .entry)))) ⌝ }
+{
+    let v = rules::judge(text, codes, starts, keys, depths);
+    let Verdict::Kept(copies, events) = v else {
+        return turned_away(verdict_answer(v));
+    };
+    let diagram = store(codes, starts, keys, depths, copies, events);
+    Out {
+        answer: Answer::Done,
+        diagram,
+    }
+}
+
+// Numbers 5 and 6, and those after them.
+fn read_tokens(text: &[u8], codes: &[u8], starts: &[u16]) -> Out
+    ensures { λ r. ⌜ r ≡ parsed (now (text .entry)) (now (starts .entry)) (heads (name-in (now (text .entry)) (now (starts .entry))) 0 0 (now (codes .entry))) (outcome (now (codes .entry))) ⌝ }
+{
+    let s = parser::parse(codes);
+    let Step::Go(_, _) = s else {
+        return turned_away(parse_answer(text, starts, s));
+    };
+    let mut keys = [0usize; 256];
+    let mut depths = [0usize; 256];
+    let n = rules::nodes(codes, &mut keys, &mut depths);
+    judge(text, codes, starts, &keys[..n], &depths[..n])
+}
+
+// The diagram of a text, or the refusal: numbers 2 to 11, in this order over the whole text.
+pub fn read(text: &[u8]) -> Out
+    ensures { λ r. ⌜ r ≡ read-of (now (text .entry)) ⌝ }
+{
+    let mut codes = [0u8; 16384];
+    let mut starts = [0u16; 16384];
+    let s = lexer::scan_text(text, &mut codes, &mut starts);
+    let Scan::Tokens(count) = s else {
+        return turned_away(scan_answer(s));
+    };
+    read_tokens(text, &codes[..count], &starts[..count])
+}

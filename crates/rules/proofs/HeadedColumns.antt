@@ -1,0 +1,61 @@
+-- The columns of keywords and depths give the nodes of any tokens, have an entry for each keyword, and lead to tokens.
+use mathlib.Core.Path.{_≡_, refl, sym, _∙_, ap, ap₂}
+use mathlib.Core.Logic.{⊎-elim}
+use mathlib.Core.List.{List, [], _∷_}
+use Prim.Native.Nat.{ℕ, zero, suc, _+_, _<_}
+use native.Mathlib.Numerals.{add-one}
+use native.Mathlib.Omega.{arith}
+use lib.ListN.{length, getD, drop}
+use lib.Seq.{drop-drop}
+use Rattle.diagram.specs.Tree.{Name}
+use Rattle.diagram.proofs.Truth.{cases}
+use Rattle.grammar.specs.Limits.{keyed, count-of}
+use Rattle.rules.specs.Heads.{Head, head, heads, opened, keys, depths, by-columns}
+
+-- The tokens from k on, one further.
+further : (cs ds : List ℕ) (k c : ℕ) → drop k cs ≡ c ∷ ds → drop (suc k) cs ≡ ds
+further cs ds k c e = ap (λ (j : ℕ). drop j cs) (sym (add-one k)) ∙ sym (drop-drop 1 k cs) ∙ ap (drop 1) e
+
+module _ (nm : ℕ → Name) (cs : List ℕ) where
+  columns-from : (ds : List ℕ) (p k : ℕ) → drop k cs ≡ ds → by-columns nm cs (keys k ds) (depths p ds) ≡ heads nm p k ds
+  unfolding by-columns keys depths heads
+  columns-from [] p k e = refl
+  columns-from (c ∷ ds) p k e =
+      let q = further cs ds k c e in
+      ⊎-elim
+      (λ y. rw y (ap₂ {C = List Head} (λ (l : List ℕ) (hs : List Head). head nm (suc p) k l ∷ hs) e (columns-from ds p (suc k) q)))
+      (λ n. rw n (columns-from ds (opened p c) (suc k) q))
+      (cases (keyed c))
+
+  pub columns-heads : by-columns nm cs (keys 0 cs) (depths 0 cs) ≡ heads nm 0 0 cs
+  columns-heads = columns-from cs 0 0 refl
+
+pub keys-count : (k : ℕ) (cs : List ℕ) → length (keys k cs) ≡ count-of keyed cs
+unfolding keys count-of
+keys-count k [] = refl
+keys-count k (c ∷ cs) = ⊎-elim (λ y. rw y (ap suc (keys-count (suc k) cs))) (λ n. rw n (keys-count (suc k) cs)) (cases (keyed c))
+
+pub depths-count : (p : ℕ) (cs : List ℕ) → length (depths p cs) ≡ count-of keyed cs
+unfolding depths count-of
+depths-count p [] = refl
+depths-count p (c ∷ cs) =
+    ⊎-elim (λ y. rw y (ap suc (depths-count p cs))) (λ n. rw n (depths-count (opened p c) cs)) (cases (keyed c))
+
+-- Each entry is below a bound.
+abbrev Below : ℕ → List ℕ → Type 0
+Below b ks = (j : ℕ) → j < length ks → getD ks j 0 < b
+
+below-cons : (b k : ℕ) (ks : List ℕ) → k < b → Below b ks → Below b (k ∷ ks)
+below-cons b k ks h f zero g = h
+below-cons b k ks h f (suc j) g = f j (omega arith)
+
+keys-below : (cs : List ℕ) (k : ℕ) → Below (k + length cs) (keys k cs)
+unfolding keys
+keys-below [] k = λ j h. let z : ⊥ = omega arith in absurd z
+keys-below (c ∷ cs) k =
+    let e : suc k + length cs ≡ k + suc (length cs) = omega arith in
+    let f : Below (k + suc (length cs)) (keys (suc k) cs) = rw (← e) (keys-below cs (suc k)) in
+    ⊎-elim (λ y. rw y (below-cons (k + suc (length cs)) k (keys (suc k) cs) (omega arith) f)) (λ n. rw n f) (cases (keyed c))
+
+pub key-below : (cs : List ℕ) (j : ℕ) → j < length (keys 0 cs) → getD (keys 0 cs) j 0 < length cs
+key-below cs j h = omega (arith, keys-below cs 0 j h)

@@ -1,0 +1,23 @@
+pub mod Trees
+mod LawsTokens
+pub mod Around
+pub mod AroundWalk
+pub mod ParametersPlaced
+pub mod ParametersKept
+pub mod Totals
+pub mod NamesAlong
+pub mod NamesPlaced
+pub mod NamesKept
+pub mod SolidsStrongs
+pub mod SolidsPlaced
+pub mod SolidsKept
+pub mod StrongsPlaced
+pub mod StrongsKept
+mod LawsNodes
+pub mod HeadedTokens
+pub mod HeadedReach
+pub mod Headed
+pub mod HeadedColumns
+mod LawsRules
+mod LawsCounted
+mod LawsJudged

@@ -1,0 +1,64 @@
+-- Number 7 stands at the same token by the nodes' own words and by the tree.
+use mathlib.Core.Path.{_≡_, refl}
+use mathlib.Core.Bool.{Bool, true, false, not, _&&_, cond, and-true}
+use mathlib.Core.List.{List, [], _∷_, _++_}
+use Prim.Native.Nat.{ℕ}
+use Rattle.diagram.specs.Tree.{Name, Flow, flow}
+use Rattle.diagram.specs.Names.{same, new}
+use Rattle.rules.specs.Heads.{Head}
+use Rattle.rules.specs.Kept.{titled, unheard, names-kept, fault}
+use Rattle.rules.specs.Sites.{Site, all-new, first-twice, flow-sites}
+use Rattle.rules.proofs.Trees.{flow-heads}
+use Rattle.rules.proofs.NamesAlong.{flow-head, flow-site, flow-key, Kinds, along}
+
+-- The names that nodes have, a leaf or flow one and any other node none.
+abbrev pub own : Head → List Name
+own h = cond (titled h) (h .name ∷ []) []
+
+abbrev pub heard : List Head → List Name
+heard [] = []
+heard (h ∷ hs) = own h ++ heard hs
+
+untitled-own : (h : Head) → titled h ≡ false → own h ≡ []
+untitled-own h e = rw e
+
+-- A node passes, and a name is unheard, where the names of those before it lack it.
+module _ (n : Name) where
+  unheard-step : (t : Bool) (m : Name) (ns : List Name) → (not (t && same n m) && new n ns) ≡ new n (cond t (m ∷ []) [] ++ ns)
+  unheard-step true m ns = refl
+  unheard-step false m ns = refl
+
+  unheard-new : (before : List Head) → unheard n before ≡ new n (heard before)
+  unheard-new [] = refl
+  unheard-new (h ∷ before) = rw (unheard-new before) (unheard-step (titled h) (h .name) (heard before))
+
+  pub passes : (t : Bool) (before : List Head) → cond t (unheard n before) true ≡ all-new (cond t (n ∷ []) []) (heard before)
+  passes true before = rw and-true (unheard-new before)
+  passes false before = refl
+
+Placed : List Head → List Site → Type 0
+Placed hs ss = (before : List Head) → fault names-kept before hs ≡ first-twice (heard before) ss
+
+placed-node : (h : Head) (s : Site) (hs : List Head) (ss : List Site) → h .key ≡ s .key → own h ≡ s .names → Placed hs ss
+    → Placed (h ∷ hs) (s ∷ ss)
+unfolding Placed fault first-twice
+placed-node h s hs ss e i p before = rw (← i, ← e, passes (h .name) (titled h) before, p (h ∷ before))
+
+placed-none : Placed [] []
+unfolding Placed fault first-twice
+placed-none before = refl
+
+flow-own : (f : Flow) (b : Bool) (d k : ℕ) (around : List Name) → own (flow-head f b d k) ≡ flow-site f around k .names
+flow-own (flow n ps sw c r cs) b d k around = refl
+
+placed-kinds : Kinds Placed
+placed-kinds = record {
+  empty = placed-none;
+  at-leaf = λ n b ok d k hs ss. placed-node _ _ hs ss refl refl;
+  at-untitled = λ h ok hs ss t. placed-node h _ hs ss refl (untitled-own h t);
+  at-flow = λ f b d k around hs ss e. placed-node _ _ _ ss (flow-key f b d k around) (flow-own f b d k around);
+}
+
+pub names-placed : (d : Flow) → fault names-kept [] (flow-heads d false 1 0 []) ≡ first-twice [] (flow-sites d [] 0 [])
+unfolding Placed
+names-placed d = along Placed placed-kinds d []

@@ -1,0 +1,85 @@
+-- The parameter rules are kept just where no node breaks one.
+use mathlib.Core.Path.{_≡_, refl, sym, _∙_, ap}
+use mathlib.Core.Logic.{_↔_}
+use mathlib.Core.Bool.{Bool, true, false, false≢true, _&&_, and-true, and-assoc, cond}
+use mathlib.Core.List.{List, [], _∷_, _++_}
+use Prim.Native.Nat.{ℕ}
+use Rattle.diagram.specs.Tree.{Name, Flow, flow, Children, none, next, Child, plain, loop, group, replicator, Member, leaf, inner, Members, end, also}
+use Rattle.diagram.specs.Parameters.{flow-parameters, children-parameters, child-parameters, member-parameters, members-parameters}
+use Rattle.rules.specs.Sites.{Site, flow-sites, children-sites, child-sites, member-sites, members-sites, first-broken}
+use Rattle.rules.specs.declared.Found.{Found}
+use Rattle.rules.specs.declared.Found.the-variants.{At, Nothing}
+
+-- Every node passes.
+abbrev pub every : (Site → Bool) → List Site → Bool
+every pass [] = true
+every pass (s ∷ ss) = pass s && every pass ss
+
+at-nothing : {k : ℕ} → At k ≡ Nothing → ⊥
+at-nothing e = false≢true (ap placeless e)
+  where
+    placeless : Found → Bool
+    placeless (At k) = false
+    placeless Nothing = true
+
+-- one node and those after it
+one-and-rest : (b c : Bool) (x : Found) (k : ℕ) → (x ≡ Nothing) ↔ (c ≡ true) → (cond b x (At k) ≡ Nothing) ↔ ((b && c) ≡ true)
+one-and-rest true c x k i = i
+one-and-rest false c x k i = (λ h. absurd (at-nothing h), λ h. absurd (false≢true h))
+
+pub none-broken : (pass : Site → Bool) (ss : List Site) → (first-broken pass ss ≡ Nothing) ↔ (every pass ss ≡ true)
+unfolding first-broken
+none-broken pass [] = (λ h. refl, λ h. refl)
+none-broken pass (s ∷ ss) = one-and-rest (pass s) (every pass ss) (first-broken pass ss) (s .key) (none-broken pass ss)
+
+-- The sites all pass just where `ok` is true, whatever comes after them.
+pub record Passes (pass : Site → Bool) (ss : List Site → List Site) (ok : Bool) : Type 0 where
+  pub law : (rest : List Site) → every pass (ss rest) ≡ (ok && every pass rest)
+
+module _ (pass : Site → Bool) where
+  pub passes-none : Passes pass (λ rest. rest) true
+  passes-none = record { law = λ rest. refl }
+
+  pub passes-one : (s : Site) → Passes pass (λ rest. s ∷ rest) (pass s)
+  passes-one s = record { law = λ rest. refl }
+
+  pub passes-then : {ss ts : List Site → List Site} {p q : Bool} → Passes pass ss p → Passes pass ts q → Passes pass (λ rest. ss (ts rest)) (p && q)
+  passes-then {ss} {ts} {p} {q} P Q = record {
+    law = λ rest. P .law (ts rest) ∙ ap (λ (b : Bool). p && b) (Q .law rest) ∙ sym (and-assoc p q (every pass rest));
+  }
+
+abbrev whole : Site → Bool
+whole s = s .parameters
+
+mutual
+  unfolding flow-sites flow-parameters
+
+  flow-passes : (f : Flow) (A : List Name) (k : ℕ) → Passes whole (flow-sites f A k) (flow-parameters f A)
+  flow-passes (flow n ps sw c r cs) A k =
+      passes-then whole (passes-one whole _) (passes-then whole (child-passes c A _) (children-passes cs A _))
+
+  children-passes : (cs : Children) (A : List Name) (k : ℕ) → Passes whole (children-sites cs A k) (children-parameters cs A)
+  children-passes none A k = passes-none whole
+  children-passes (next c r cs) A k = passes-then whole (child-passes c A k) (children-passes cs A _)
+
+  child-passes : (c : Child) (A : List Name) (k : ℕ) → Passes whole (child-sites c A k) (child-parameters c A)
+  child-passes (plain m) A k = member-passes m A k
+  child-passes (loop m) A k = passes-then whole (passes-one whole _) (member-passes m A _)
+  child-passes (group y a b ms) A k =
+      passes-then whole (passes-one whole _)
+      (passes-then whole (member-passes a A _) (passes-then whole (member-passes b A _) (members-passes ms A _)))
+  child-passes (replicator y par size m) A k = passes-then whole (passes-one whole _) (member-passes m (A ++ (par ∷ [])) _)
+
+  member-passes : (m : Member) (A : List Name) (k : ℕ) → Passes whole (member-sites m A k) (member-parameters m A)
+  member-passes (leaf n) A k = passes-one whole _
+  member-passes (inner f) A k = flow-passes f A k
+
+  members-passes : (ms : Members) (A : List Name) (k : ℕ) → Passes whole (members-sites ms A k) (members-parameters ms A)
+  members-passes end A k = passes-none whole
+  members-passes (also m ms) A k = passes-then whole (member-passes m A k) (members-passes ms A _)
+
+pub parameters-kept-iff : (d : Flow) → (first-broken (λ s. s .parameters) (flow-sites d [] 0 []) ≡ Nothing) ↔ (flow-parameters d [] ≡ true)
+parameters-kept-iff d =
+    let i = none-broken whole (flow-sites d [] 0 []) in
+    let e = flow-passes d [] 0 .law [] ∙ and-true (flow-parameters d []) in
+    (λ h. sym e ∙ i .0 h, λ h. i .1 (e ∙ h))

@@ -1,0 +1,98 @@
+-- Numbers 9 and 10 alike: a rule on each flow alone stands at the same token by the nodes' own words and by the tree, and nowhere just where
+-- each flow keeps it.
+use mathlib.Core.Path.{_≡_, refl, sym, _∙_}
+use mathlib.Core.Logic.{_↔_}
+use mathlib.Core.Bool.{Bool, true, false, cond, and-true}
+use mathlib.Core.List.{List, [], _∷_}
+use Prim.Native.Nat.{ℕ}
+use Rattle.diagram.specs.Tree.{Name, Flow, flow, Children, none, next, Child, plain, loop, group, replicator, Member, leaf, inner, Members, end, also}
+use Rattle.diagram.specs.Flows.{each-flow, children-flows, child-flows, member-flows, members-flows}
+use Rattle.diagram.proofs.Truth.{clash, is-false, or-l}
+use Rattle.rules.specs.Heads.{Head, flowing, leafy}
+use Rattle.rules.specs.Kept.{titled, fault}
+use Rattle.rules.specs.Sites.{Site, site, first-broken, flow-sites, children-sites, child-sites, member-sites, members-sites}
+use Rattle.rules.specs.declared.Found.the-variants.{Nothing}
+use Rattle.rules.proofs.Trees.{simple, flow-heads}
+use Rattle.rules.proofs.NamesAlong.{flow-head, heads-inside, flow-site, flow-key, shallow, Kinds, along}
+use Rattle.rules.proofs.ParametersPlaced.{step}
+use Rattle.rules.proofs.ParametersKept.{none-broken, Passes, passes-none, passes-one, passes-then}
+
+-- A rule that a flow is asked, with the nodes after it, and no other node.
+abbrev pub flow-kept : (Head → List Head → Bool) → List Head → Head → List Head → Bool
+flow-kept test before h after = cond (flowing (h .code)) (test h after) true
+
+-- The rule by a flow's first node, by its site and by the flow itself.
+pub record Rule (test : Head → List Head → Bool) (ask : Site → Bool) (ok : Flow → Bool) : Type 0 where
+  pub by-heads : (f : Flow) (b : Bool) (d k : ℕ) (hs : List Head) → shallow d hs ≡ true → test (flow-head f b d k) (heads-inside f d k hs) ≡ ok f
+  pub by-site : (f : Flow) (around : List Name) (k : ℕ) → ask (flow-site f around k) ≡ ok f
+  pub others : (k : ℕ) (ns : List Name) (b : Bool) → ask (site k ns b) ≡ true
+
+untitled-flowing : (h : Head) → titled h ≡ false → flowing (h .code) ≡ false
+untitled-flowing h e = is-false (flowing (h .code)) (λ t. clash (or-l (leafy (h .code)) t) e)
+
+flow-flowing : (f : Flow) (b : Bool) (d k : ℕ) → flowing (flow-head f b d k .code) ≡ true
+flow-flowing (flow n ps sw c r cs) b d k = refl
+
+module _ (test : Head → List Head → Bool) (ask : Site → Bool) where
+  Placed : List Head → List Site → Type 0
+  Placed hs ss = (before : List Head) → fault (flow-kept test) before hs ≡ first-broken ask ss
+
+  placed-none : Placed [] []
+  unfolding Placed fault first-broken
+  placed-none before = refl
+
+  placed-node : (h : Head) (s : Site) (hs : List Head) (ss : List Site) → h .key ≡ s .key → flow-kept test [] h hs ≡ ask s → Placed hs ss
+      → Placed (h ∷ hs) (s ∷ ss)
+  unfolding Placed
+  placed-node h s hs ss e i p before = step (flow-kept test) ask before h hs s ss e i (p (h ∷ before))
+
+  passes-as : (s : Site) (b : Bool) → ask s ≡ b → Passes ask (λ rest. s ∷ rest) b
+  passes-as s b e = rw (← e) (passes-one ask s)
+
+  module _ (ok : Flow → Bool) (R : Rule test ask ok) where
+    placed-kinds : Kinds Placed
+    placed-kinds = record {
+      empty = placed-none;
+      at-leaf = λ n b fits d k hs ss. placed-node (simple k d 8 n b) _ hs ss refl (sym (R .others k (n ∷ []) fits));
+      at-untitled = λ h fits hs ss t. placed-node h _ hs ss refl (rw (untitled-flowing h t) (sym (R .others (h .key) [] fits)));
+      at-flow = λ f b d k around hs ss e.
+          placed-node _ _ _ ss (flow-key f b d k around) (rw (flow-flowing f b d k) (R .by-heads f b d k hs e ∙ sym (R .by-site f around k)));
+    }
+
+    pub placed : (d : Flow) → fault (flow-kept test) [] (flow-heads d false 1 0 []) ≡ first-broken ask (flow-sites d [] 0 [])
+    unfolding Placed
+    placed d = along Placed placed-kinds d []
+
+    mutual
+      unfolding flow-sites each-flow
+
+      flow-passes : (f : Flow) (around : List Name) (k : ℕ) → Passes ask (flow-sites f around k) (each-flow f ok)
+      flow-passes (flow n ps sw c r cs) around k =
+          passes-then ask (passes-as _ _ (R .by-site (flow n ps sw c r cs) around k))
+          (passes-then ask (child-passes c around _) (children-passes cs around _))
+
+      children-passes : (cs : Children) (around : List Name) (k : ℕ) → Passes ask (children-sites cs around k) (children-flows cs ok)
+      children-passes none around k = passes-none ask
+      children-passes (next c r cs) around k = passes-then ask (child-passes c around k) (children-passes cs around _)
+
+      child-passes : (c : Child) (around : List Name) (k : ℕ) → Passes ask (child-sites c around k) (child-flows c ok)
+      child-passes (plain m) around k = member-passes m around k
+      child-passes (loop m) around k = passes-then ask (passes-as _ true (R .others k [] _)) (member-passes m around _)
+      child-passes (group y a b ms) around k =
+          passes-then ask (passes-as _ true (R .others k [] _))
+          (passes-then ask (member-passes a around _) (passes-then ask (member-passes b around _) (members-passes ms around _)))
+      child-passes (replicator y par size m) around k = passes-then ask (passes-as _ true (R .others k [] _)) (member-passes m _ _)
+
+      member-passes : (m : Member) (around : List Name) (k : ℕ) → Passes ask (member-sites m around k) (member-flows m ok)
+      member-passes (leaf n) around k = passes-as _ true (R .others k (n ∷ []) _)
+      member-passes (inner f) around k = flow-passes f around k
+
+      members-passes : (ms : Members) (around : List Name) (k : ℕ) → Passes ask (members-sites ms around k) (members-flows ms ok)
+      members-passes end around k = passes-none ask
+      members-passes (also m ms) around k = passes-then ask (member-passes m around k) (members-passes ms around _)
+
+    pub kept-iff : (d : Flow) → (first-broken ask (flow-sites d [] 0 []) ≡ Nothing) ↔ (each-flow d ok ≡ true)
+    kept-iff d =
+        let i = none-broken ask (flow-sites d [] 0 []) in
+        let e = flow-passes d [] 0 .law [] ∙ and-true (each-flow d ok) in
+        (λ h. sym e ∙ i .0 h, λ h. i .1 (e ∙ h))

@@ -1,0 +1,6 @@
+pub mod Heads
+pub mod Kept
+pub mod Counted
+pub mod Judged
+pub mod Columns
+pub mod Sites
