@@ -1,13 +1,11 @@
 -- A text that is read has at most 256 nodes.
-use mathlib.Core.Path.{_≡_, refl, sym, _∙_, subst}
-use mathlib.Core.Logic.{⊎-elim}
+use mathlib.Core.Path.{_≡_, subst}
 use mathlib.Core.Bool.{Bool, true, false, _&&_, _||_, cond, true≢false}
 use mathlib.Core.List.{List, [], _∷_, _++_}
-use Prim.Native.Nat.{ℕ, zero, suc, _+_, _-_, _≤_}
+use Prim.Native.Nat.{ℕ, suc, _+_, _-_, _≤_}
 use native.Mathlib.Omega.{arith}
 use lib.Dec.{eqb, ltb, leb}
 use borrow.Author.Tests.{leb-false}
-use Rattle.diagram.proofs.Truth.{cases}
 use Rattle.lexer.specs.Classes.{between}
 use Rattle.grammar.specs.Machine.{Want, sign, number, params, param, node, more, others, Move, off, big, push, Outcome, whole, stop, begin, expand, proceed, run, outcome, full, parts, root, depths, child, member, ref}
 use Rattle.grammar.proofs.Codes.{chosen}

@@ -1,7 +1,7 @@
 -- A list of tokens in which no two words stand side by side is the list of tokens of its own bytes.
-use mathlib.Core.Path.{_≡_, refl, sym, _∙_, ap}
+use mathlib.Core.Path.{_≡_, refl, ap}
 use mathlib.Core.Logic.{_⊎_, inl, inr, ⊎-elim}
-use mathlib.Core.Bool.{Bool, true, false, not, _&&_, _||_, cond, true≢false, false≢true}
+use mathlib.Core.Bool.{Bool, true, false, not, _&&_, _||_, false≢true}
 use mathlib.Core.List.{List, [], _∷_, _++_, map, flatten}
 use Prim.Native.Nat.{ℕ, zero, suc, _+_, _≤_}
 use native.Mathlib.Omega.{arith}
@@ -11,7 +11,7 @@ use lib.Seq.{take-append-seam, drop-append-seam}
 use borrow.Author.Tests.{leb-true}
 use Rattle.diagram.specs.Tree.{Name}
 use Rattle.diagram.proofs.Truth.{and-l, and-r, and-i, is-false, cases, not-i, not-e, clash, or-e}
-use Rattle.lexer.specs.Classes.{class-of, worded, blank, within}
+use Rattle.lexer.specs.Classes.{class-of, worded, blank}
 use Rattle.lexer.specs.Words.{front, blanks, every}
 use Rattle.lexer.specs.Spans.{Span, width, cut, spans, spans-of, tokens}
 use Rattle.grammar.specs.Derives.{token, all-tokens}

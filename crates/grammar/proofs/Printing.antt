@@ -1,7 +1,7 @@
 -- A text without its blanks is its tokens, one after the other.
 use mathlib.Core.Path.{_≡_, refl, sym, _∙_, ap}
 use mathlib.Core.Logic.{⊎-elim}
-use mathlib.Core.Bool.{Bool, true, false, not, _&&_, cond, false≢true}
+use mathlib.Core.Bool.{Bool, true, false, _&&_, false≢true}
 use mathlib.Core.List.{List, [], _∷_, _++_, map, flatten}
 use Prim.Native.Nat.{ℕ, zero, suc, _+_, _≤_}
 use native.Mathlib.Omega.{arith}
@@ -9,7 +9,7 @@ use lib.Dec.{leb}
 use lib.ListN.{length, take, drop, length-drop, take-append-drop}
 use Rattle.diagram.specs.Tree.{Name}
 use Rattle.diagram.proofs.Truth.{and-l, and-r, and-i, cases, not-i, not-e}
-use Rattle.lexer.specs.Classes.{class-of, worded, blank, foreign}
+use Rattle.lexer.specs.Classes.{class-of, worded, blank}
 use Rattle.lexer.specs.Words.{front, blanks, short, every}
 use Rattle.lexer.specs.Spans.{Span, width, cut, spans, spans-of, tokens}
 use Rattle.grammar.specs.Derives.{token}

@@ -1,7 +1,7 @@
 -- Document 01, number 6: "node 257, or a node at depth 13", by the tokens before its keyword.
 use mathlib.Core.Bool.{Bool, _&&_, _||_, cond}
 use mathlib.Core.List.{List, [], _∷_}
-use Prim.Native.Nat.{ℕ, zero, suc, _+_, _-_}
+use Prim.Native.Nat.{ℕ, suc, _-_}
 use lib.Dec.{eqb, leb}
 use lib.ListN.{getD, take}
 use Rattle.lexer.specs.Classes.{between}

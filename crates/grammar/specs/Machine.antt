@@ -3,7 +3,7 @@
 -- the numerals 0 to 16; 0 and 5 are wanted nowhere.
 use mathlib.Core.Bool.{Bool, _&&_, _||_, cond}
 use mathlib.Core.List.{List, [], _∷_, _++_}
-use Prim.Native.Nat.{ℕ, zero, suc, _+_, _-_}
+use Prim.Native.Nat.{ℕ, suc, _+_, _-_}
 use lib.Dec.{eqb, ltb, leb}
 use Rattle.lexer.specs.Classes.{between}
 

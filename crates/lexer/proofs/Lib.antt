@@ -6,4 +6,5 @@ mod Ways
 pub mod Steps
 pub mod Spans
 pub mod Filled
+pub mod Alike
 mod Answer

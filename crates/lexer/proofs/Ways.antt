@@ -4,14 +4,13 @@ use mathlib.Core.Bool.{Bool, true, false, cond}
 use mathlib.Core.List.{List, [], _∷_}
 use Prim.Native.Nat.{ℕ, suc, _+_, _-_, _≤_, _<_}
 use native.Mathlib.Omega.{arith}
-use lib.Dec.{eqb}
-use lib.ListN.{length, take, drop, getD, length-drop, drop-of-length-le}
+use lib.ListN.{length, take, drop, getD, length-drop}
 use borrow.Author.Tests.{eq-eqb, ne-eqb, lt-ltb, le-ltb, le-leb, lt-leb}
 use Rattle.diagram.specs.Tree.{Name}
 use Rattle.diagram.specs.Names.{same}
 use Rattle.diagram.proofs.Truth.{is-false}
 use Rattle.lexer.specs.Classes.{between, class-of, letter, worded}
-use Rattle.lexer.specs.Words.{front, word-at, place-in, keywords, keyword, lettered, numeral, word-code, code}
+use Rattle.lexer.specs.Words.{front, place-in, keywords, keyword, lettered, numeral, word-code, code}
 use Rattle.lexer.specs.Spans.{width}
 use Rattle.lexer.proofs.Between.{between-in, between-from, between-to}
 use Rattle.lexer.proofs.Slices.{bytes-length, first-byte, one-byte, two-bytes}
@@ -129,25 +128,3 @@ module _ (text : List ℕ) (at e : ℕ) (E : e ≡ at + front worded (drop at te
       let f : front worded (drop at text) ≤ 0 = omega arith in
       let l : 0 < length (drop at text) = rw (length-drop at text) (omega arith) in
       rw (width-sign (drop at text) l f)
-
--- A word that starts past the end of the text is empty.
-empty-if : (v : Bool) (b : ℕ) (bs : List ℕ) (n a e : ℕ) → e ≡ a + cond v (suc n) 0 → eqb e a ≡ same (take (cond v (suc n) 0) (b ∷ bs)) []
-empty-if true b bs n a e E = ne-eqb e a (λ q. omega arith)
-empty-if false b bs n a e E = eq-eqb e a (omega arith)
-
-is-empty : (t : ℕ → Bool) (l : List ℕ) (a e : ℕ) → e ≡ a + front t l → eqb e a ≡ same (take (front t l) l) []
-unfolding front
-is-empty t [] a e E = eq-eqb e a (omega arith)
-is-empty t (b ∷ bs) a e E = empty-if (t b) b bs (front t bs) a e E
-
-module _ (text : List ℕ) (a b e : ℕ) (E : e ≡ a + front worded (drop a text)) where
-  pub same-outside : length text < b → eqb e a ≡ same (word-at text a) (word-at text b)
-  unfolding front
-  same-outside h = let l : length text ≤ b = omega arith in rw (drop-of-length-le text l) (is-empty worded (drop a text) a e E)
-
-  pub same-inside : (f : ℕ) (r : Bool) → f ≡ b + front worded (drop b text)
-      → r ≡ same (take (e - a) (drop a text)) (take (f - b) (drop b text)) → r ≡ same (word-at text a) (word-at text b)
-  same-inside f r F q =
-      let p : e - a ≡ front worded (drop a text) = omega arith in
-      let p′ : f - b ≡ front worded (drop b text) = omega arith in
-      rw (p, p′) at q

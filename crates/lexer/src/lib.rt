@@ -1,6 +1,6 @@
 ghost use mathlib.Core.Path.{_≡_};
 ghost use Prim.Native.Nat.{_+_, _-_, _≤_, _<_};
-ghost use lib.ListN.{length, take, drop, set};
+ghost use lib.ListN.{getD, length, take, drop, set};
 ghost use Rattle.diagram.specs.Names.{same as alike};
 ghost use Rattle.lexer.specs.Classes.{class-of, within, worded};
 ghost use Rattle.lexer.specs.Words.{front, blanks, word-at, keyword as keyword-of, numeral as numeral-of, word-code, code as code-of};
@@ -442,17 +442,40 @@ fn token_end(text: &[u8], at: usize) -> usize
     at + 1
 }
 
-// Whether the words that start at two places are the same. Past the text's end a word is empty.
+// The first byte of the word that starts at `at`; 0, which no word has, where none starts.
+fn letter(text: &[u8], at: usize) -> u8
+    ensures { λ r. ⌜ r ≡ getD (word-at (now (text .entry)) at) 0 0 ⌝ }
+{
+    if text.len() <= at {
+        return 0;
+    }
+    let c = class(text[at]);
+    if c < 5 {
+        return 0;
+    }
+    if 7 < c {
+        return 0;
+    }
+    text[at]
+}
+
+// Whether the words that start at two places are the same, up to the first byte that differs.
 pub fn same(text: &[u8], a: usize, b: usize) -> bool
     ensures { λ r. ⌜ r ≡ alike (word-at (now (text .entry)) a) (word-at (now (text .entry)) b) ⌝ }
 {
-    let e = word_end(text, a);
-    if text.len() < b {
-        return e == a;
+    let mut i = a;
+    let mut j = b;
+    loop {
+        let x = letter(text, i);
+        if x != letter(text, j) {
+            return false;
+        }
+        if x == 0 {
+            return true;
+        }
+        i += 1;
+        j += 1;
     }
-    let f = word_end(text, b);
-    let w = &text[b..f];
-    equals(text, a, e, w)
 }
 
 // The place of the first foreign byte, or the text's length.

@@ -1,12 +1,11 @@
 -- Property 2, printing: "printing and reading again yields that diagram; two accepted texts print alike exactly if their diagrams are equal."
-use mathlib.Core.Path.{_≡_, refl, sym, _∙_, ap, subst}
+use mathlib.Core.Path.{_≡_, sym, _∙_, ap, subst}
 use mathlib.Core.Logic.{_⊎_, ⊎-elim, _↔_}
-use mathlib.Core.Bool.{Bool, true, false, cond}
 use mathlib.Core.List.{List, [], _∷_, flatten}
-use Prim.Native.Nat.{ℕ, suc, _≤_}
+use Prim.Native.Nat.{ℕ, _≤_}
 use native.Mathlib.Omega.{arith}
 use lib.ListN.{length}
-use Rattle.diagram.specs.Tree.{Name, Flow}
+use Rattle.diagram.specs.Tree.{Flow}
 use Rattle.diagram.proofs.Truth.{cases}
 use Rattle.lexer.specs.Classes.{blank}
 use Rattle.lexer.specs.Spans.{tokens}

@@ -1,9 +1,7 @@
 -- The ways out of printing.
-use mathlib.Core.Path.{_≡_, refl, sym, _∙_, ap, subst}
-use mathlib.Core.Bool.{true, false}
+use mathlib.Core.Path.{_≡_, refl, sym, ap, subst}
 use mathlib.Core.List.{List}
 use Prim.Native.Nat.{ℕ, _≤_, _<_}
-use lib.Dec.{ltb}
 use lib.ListN.{length}
 use borrow.Author.Tests.{lt-ltb, le-ltb}
 use Rattle.lexer.specs.Fill.{fill}
@@ -21,7 +19,7 @@ abbrev pub Answers : List ℕ → List ℕ → Printed → List ℕ → Printed 
 Answers text lent p out q = (q ≡ p) × (out ≡ left-by text lent p)
 
 pub done-answers : (text lent out : List ℕ) (a : Answer) (n : ℕ) → a ≡ Done → n ≡ length (printed text) → out ≡ fill lent (printed text)
-  → Answers text lent (print-answer text a) out (Bytes n)
+    → Answers text lent (print-answer text a) out (Bytes n)
 done-answers text lent out a n e h k =
     subst (λ (b : Answer). Answers text lent (print-answer text b) out (Bytes n)) (sym e) (ap Bytes h, k)
 
@@ -33,7 +31,7 @@ unfolding print-of
 short-answers text lent h = rw (lt-ltb (length lent) 16384 h) (refl, refl)
 
 pub long-answers : (text lent out : List ℕ) (o : Out) (p : Printed) → 16384 ≤ length lent → o ≡ read-of text
-  → Answers text lent (print-answer text (o .answer)) out p → Answers text lent (print-of text lent) out p
+    → Answers text lent (print-answer text (o .answer)) out p → Answers text lent (print-of text lent) out p
 unfolding print-of
 long-answers text lent out o p h e k =
     rw (le-ltb (length lent) 16384 h) (subst (λ (q : Out). Answers text lent (print-answer text (q .answer)) out p) e k)

@@ -1,16 +1,15 @@
 -- Property 1, for printing; and property 2 on the lent bytes.
 use mathlib.Core.Path.{_≡_, refl, sym, _∙_, ap, subst}
 use mathlib.Core.Logic.{⊎-elim}
-use mathlib.Core.Bool.{Bool, true, false, cond}
-use mathlib.Core.List.{List, [], _∷_}
-use Prim.Native.Nat.{ℕ, suc, _≤_}
+use mathlib.Core.Bool.{true, false}
+use mathlib.Core.List.{List}
+use Prim.Native.Nat.{ℕ, _≤_}
 use native.Mathlib.Omega.{arith}
 use lib.Dec.{ltb}
-use lib.ListN.{length, take, drop}
-use borrow.Author.Tests.{ltb-true, ltb-false, le-ltb}
+use lib.ListN.{length, take}
+use borrow.Author.Tests.{ltb-false, le-ltb}
 use Rattle.diagram.specs.Tree.{Flow}
 use Rattle.diagram.proofs.Truth.{cases}
-use Rattle.lexer.specs.Fill.{fill}
 use Rattle.lexer.proofs.Filled.{fill-length, fill-front, fill-past}
 use Rattle.grammar.specs.Printed.{printed}
 use Rattle.reader.specs.Answers.{read-of}
@@ -20,7 +19,7 @@ use Rattle.reader.specs.declared.Answer.{Answer}
 use Rattle.reader.specs.declared.Answer.the-variants.{Done, Refused as Unread}
 use Rattle.reader.specs.declared.Out.{Out}
 use Rattle.reader.proofs.Bounds.{read-bounded}
-use Rattle.reader.proofs.Exact.{accepted-exactly, accepted-read}
+use Rattle.reader.proofs.Exact.{accepted-read}
 use Rattle.printer.specs.Prints.{print-answer, print-of, left-by}
 use Rattle.printer.specs.Bounds.{Result, Refusal, Bounded, result, refusal}
 use Rattle.printer.specs.declared.Printed.{Printed}
@@ -60,10 +59,9 @@ print-bounded text lent = ⊎-elim short enough (cases (ltb (length lent) 16384)
     short : ltb (length lent) 16384 ≡ true → Bounded text lent (print-of text lent)
     short q = refusal (refused-refusal text lent (print-of text lent) 1 0 (too-short text lent q) (omega arith) (omega arith) (omega arith))
 
-    by-reading : 16384 ≤ length lent → Answered (read-of text) → Bounded text lent (print-of text lent)
+    by-reading : 16384 ≤ length lent → Answered text (read-of text) → Bounded text lent (print-of text lent)
     by-reading h (read-result r) =
-        let a = accepted-exactly text .0 (r .done) in
-        result (written-result text lent (print-of text lent) h (a .1 .short) (long-enough text lent h Done (r .done)))
+        result (written-result text lent (print-of text lent) h (r .limits .short) (long-enough text lent h Done (r .done)))
     by-reading h (read-refusal r) =
         refusal
         (refused-refusal text lent (print-of text lent) (r .number) (r .place)
@@ -74,8 +72,12 @@ print-bounded text lent = ⊎-elim short enough (cases (ltb (length lent) 16384)
 
 -- "printing and reading again yields that diagram": the bytes that printing writes are an accepted text of the same diagram.
 pub print-then-read : (text lent : List ℕ) (d : Flow) → 16384 ≤ length lent → Accepted text d
-  → (print-of text lent ≡ Bytes (length (printed text))) × Accepted (take (length (printed text)) (left-by text lent (print-of text lent))) d
+    → (print-of text lent ≡ Bytes (length (printed text))) × Accepted (take (length (printed text)) (left-by text lent (print-of text lent))) d
 print-then-read text lent d h a =
     let e = long-enough text lent h Done (ap (λ (o : Out). o .answer) (accepted-read text d a)) in
     let r = written-result text lent (print-of text lent) h (a .short) e in
     (e, subst (λ (l : List ℕ). Accepted l d) (sym (ap (λ (p : Printed). take (length (printed text)) (left-by text lent p)) e ∙ fill-front lent (printed text) (omega (arith, printed-shorter text, a .short)))) (printed-accepted text d a))
+
+-- Property 1 for both calls.
+pub calls-bounded : (text lent : List ℕ) → Answered text (read-of text) × Bounded text lent (print-of text lent)
+calls-bounded text lent = (read-bounded text, print-bounded text lent)

@@ -1,8 +1,8 @@
 -- How far a text is printed.
 use mathlib.Core.Path.{_≡_, refl, sym, _∙_, ap}
-use mathlib.Core.Bool.{Bool, true, false, not, cond}
+use mathlib.Core.Bool.{true, false}
 use mathlib.Core.List.{List, [], _∷_}
-use Prim.Native.Nat.{ℕ, zero, suc, _+_, _≤_, _<_}
+use Prim.Native.Nat.{ℕ, suc, _+_, _≤_, _<_}
 use native.Mathlib.Nat.{zero-add, add-zero}
 use native.Mathlib.Numerals.{add-one}
 use native.Mathlib.Omega.{arith}
@@ -70,13 +70,13 @@ module _ (text lent out : List ℕ) (n at : ℕ) (w : Copied text lent out n at)
           within = omega (arith, inside);
           clear = ap (stops blank) ahead ∙ front-stop blank (drop (at + 1) text);
           rest =
-            sym (drop-drop 1 n (printed text))
-            ∙ (ap (drop 1) next-byte ∙ sym (ap printed ahead ∙ (printed-front (drop (at + 1) text) ∙ ap (λ (k : ℕ). printed (drop k text)) (add-one at))));
+              sym (drop-drop 1 n (printed text))
+              ∙ (ap (drop 1) next-byte ∙ sym (ap printed ahead ∙ (printed-front (drop (at + 1) text) ∙ ap (λ (k : ℕ). printed (drop k text)) (add-one at))));
           done =
-            e
-            ∙ (ap (λ (o : List ℕ). set o n (getD text at 0)) (w .done)
-            ∙ (ap (λ (b : ℕ). set (fill lent (take n (printed text))) n b) (sym this-byte)
-            ∙ (fill-more lent (printed text) n inside ∙ ap (λ (k : ℕ). fill lent (take k (printed text))) (sym (add-one n)))));
+              e
+              ∙ (ap (λ (o : List ℕ). set o n (getD text at 0)) (w .done)
+              ∙ (ap (λ (b : ℕ). set (fill lent (take n (printed text))) n b) (sym this-byte)
+              ∙ (fill-more lent (printed text) n inside ∙ ap (λ (k : ℕ). fill lent (take k (printed text))) (sym (add-one n)))));
         }
 
   pub copied-all : length text ≤ at → n ≡ length (printed text)

@@ -3,7 +3,6 @@ ghost use lib.ListN.{length};
 ghost use Rattle.lexer.specs.Fill.{fill};
 ghost use Rattle.grammar.specs.Printed.{printed};
 ghost use Rattle.printer.specs.Prints.{print-answer, print-of, left-by};
-
 use reader::Answer;
 
 // How many bytes were written, or the refusal with its number and place.

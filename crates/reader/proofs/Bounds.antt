@@ -1,22 +1,20 @@
 -- Property 1, for reading.
-use mathlib.Core.Path.{_≡_, refl, sym, ap, subst}
+use mathlib.Core.Path.{_≡_, ap, subst}
 use mathlib.Core.Logic.{⊎-elim}
 use mathlib.Core.Bool.{true, false}
-use mathlib.Core.List.{List, [], _∷_}
-use Prim.Native.Nat.{ℕ, suc, _+_, _≤_, _<_}
+use mathlib.Core.List.{List}
+use Prim.Native.Nat.{ℕ, _+_, _≤_, _<_}
 use native.Mathlib.Omega.{arith}
 use lib.Dec.{ltb}
 use lib.ListN.{length, getD, List·getD-eq-default}
 use borrow.Author.Tests.{ltb-true, ltb-false}
 use Rattle.diagram.specs.Tree.{Flow}
 use Rattle.diagram.proofs.Truth.{cases}
-use Rattle.lexer.specs.Spans.{tokens, places}
+use Rattle.lexer.specs.Spans.{places}
 use Rattle.lexer.proofs.Spans.{tokens-length, places-length, places-below}
-use Rattle.reader.specs.Answers.{place-of, read-of}
-use Rattle.reader.specs.Accepted.{Accepted}
+use Rattle.reader.specs.Answers.{read-of}
 use Rattle.reader.specs.Refused.{Derived, Turned, long, foreign-byte, long-word, off-grammar, too-large, name-twice, parameter, solid-line, weak, copies as many}
-use Rattle.reader.specs.Bounds.{Result, Refusal, Bounded, result, refusal}
-use Rattle.reader.specs.Views.{Shows}
+use Rattle.reader.specs.Bounds.{Bounded, result, refusal}
 use Rattle.reader.proofs.Laws.{same-inside}
 use Rattle.reader.proofs.Exact.{accepted-read, turned-read, Fate, taken, turned, fate}
 use Rattle.reader.proofs.Shown.{accepted-shown}
@@ -62,19 +60,12 @@ turned-near text c at (weak e d h) = near text c at 10 e (omega arith) (omega ar
 turned-near text c at (many e d h) = near text c at 11 e (omega arith) (omega arith) (omega (arith, h .place))
 
 -- "Every answer is a result within the limits or one numbered refusal with its place."
-pub read-bounded : (text : List ℕ) → Bounded (read-of text)
+pub read-bounded : (text : List ℕ) → Bounded text (read-of text)
 read-bounded text = go (fate text)
   where
-    go : Fate text → Bounded (read-of text)
+    go : Fate text → Bounded text (read-of text)
     go (taken d a) =
-        let s = accepted-shown text d a in
-        result
-        record {
-          done = ap (λ o. o .answer) (accepted-read text d a);
-          nodes = omega (arith, s .count, a .nodes);
-          copies = omega (arith, s .copies, a .copies);
-          events = omega (arith, s .events, a .events);
-        }
+        result record { done = ap (λ o. o .answer) (accepted-read text d a); tree = d; limits = a; shown = accepted-shown text d a }
     go (turned c at t) =
         let n = turned-near text c at t in
         refusal record { number = c; place = at; is = turned-read text c at t; low = n .low; high = n .high; near = n .close }

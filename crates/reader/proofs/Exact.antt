@@ -2,34 +2,30 @@
 use mathlib.Core.Path.{_≡_, refl, sym, _∙_, ap, subst}
 use mathlib.Core.Logic.{_⊎_, inl, inr, ⊎-elim, _↔_}
 use mathlib.Core.Bool.{Bool, true, false, true≢false}
-use mathlib.Core.List.{List, [], _∷_, map}
+use mathlib.Core.List.{List, [], map}
 use Prim.Native.Nat.{ℕ, suc, _+_, _≤_, _<_}
 use native.Mathlib.Nat.{add-zero}
 use native.Mathlib.Omega.{arith}
-use lib.Dec.{eqb, ltb}
-use lib.ListN.{length, getD, take}
-use borrow.Author.Tests.{ltb-true, ltb-false, eqb-true, eqb-false}
+use lib.Dec.{ltb}
+use lib.ListN.{length, getD}
+use borrow.Author.Tests.{ltb-true, ltb-false}
 use Rattle.diagram.specs.Tree.{Name, Flow}
 use Rattle.diagram.specs.Count.{flow-copies, flow-events}
 use Rattle.diagram.specs.Names.{flow-names, differ}
 use Rattle.diagram.specs.Parameters.{flow-parameters}
 use Rattle.diagram.specs.Flows.{each-flow, solid, strong}
-use Rattle.diagram.specs.Rules.{Keeps}
-use Rattle.diagram.proofs.Truth.{cases}
 use Rattle.lexer.specs.Words.{code}
 use Rattle.lexer.specs.Spans.{tokens, codes, places}
 use Rattle.lexer.specs.Scanned.{scan-of}
 use Rattle.lexer.specs.Spans.{spans-of}
 use Rattle.lexer.specs.declared.Scan.{Scan}
 use Rattle.lexer.specs.declared.Scan.the-variants.{Tokens, Refused as Unscanned}
-use Rattle.grammar.specs.Machine.{Outcome, whole, stop, outcome}
+use Rattle.grammar.specs.Machine.{stop, outcome}
 use Rattle.grammar.specs.Limits.{too-big}
-use Rattle.grammar.specs.Derives.{Derives, Viable, all-tokens}
+use Rattle.grammar.specs.Derives.{all-tokens}
 use Rattle.grammar.proofs.Lexed.{text-tokens}
 use Rattle.grammar.proofs.Grammar.{Answered, read, strayed, outgrown, answered, off-viable, off-token, off-end, off-only, big-viable, shorter, derived-once}
 use Rattle.grammar.proofs.Limited.{big-too-big, off-none-big, whole-none-big}
-use Rattle.rules.specs.Judged.{refuse, counted}
-use Rattle.rules.specs.Counted.{capped}
 use Rattle.rules.specs.declared.Found.{Found}
 use Rattle.rules.specs.declared.Found.the-variants.{At, Nothing}
 use Rattle.rules.specs.declared.Verdict.{Verdict}
@@ -40,9 +36,9 @@ use Rattle.rules.proofs.ParametersKept.{parameters-kept-iff}
 use Rattle.rules.proofs.SolidsKept.{solids-kept-iff}
 use Rattle.rules.proofs.StrongsKept.{strongs-kept-iff}
 use Rattle.reader.specs.Nodes.{stored}
-use Rattle.reader.specs.Answers.{refused, place-of, judged, parsed, scanned, read-of}
+use Rattle.reader.specs.Answers.{refused, place-of, judged, scanned, read-of}
 use Rattle.reader.specs.Accepted.{Accepted}
-use Rattle.reader.specs.Refused.{Clean, Off, Big, Derived, Twice, Misplaced, Unsolid, Weak, Many, Turned, long, foreign-byte, long-word, off-grammar, too-large, name-twice, parameter, solid-line, weak as weakly, copies as many}
+use Rattle.reader.specs.Refused.{Clean, Off, Big, Derived, Turned, long, foreign-byte, long-word, off-grammar, too-large, name-twice, parameter, solid-line, weak as weakly, copies as many}
 use Rattle.reader.specs.declared.Answer.{Answer}
 use Rattle.reader.specs.declared.Answer.the-variants.{Done, Refused}
 use Rattle.reader.specs.declared.Out.{Out}
@@ -55,7 +51,7 @@ abbrev done : List ℕ → Flow → Out
 done text d = record { answer = Done; diagram = stored (places text) (flow-heads d false 1 0 []) (flow-copies d) (flow-events d) }
 
 by-verdict : (text : List ℕ) (d : Flow) (v : Verdict) → Derived text d → tree-verdict (places text) d ≡ v
-  → read-of text ≡ judged (places text) (flow-heads d false 1 0 []) v
+    → read-of text ≡ judged (places text) (flow-heads d false 1 0 []) v
 by-verdict text d v g e = derived-answer text d g ∙ ap (judged (places text) (flow-heads d false 1 0 [])) e
 
 -- The texts that are read.
@@ -65,8 +61,13 @@ accepted-derived text d a = record { size = a .short; derives = a .derived; node
 pub accepted-read : (text : List ℕ) (d : Flow) → Accepted text d → read-of text ≡ done text d
 accepted-read text d a =
     by-verdict text d (Kept (flow-copies d) (flow-events d)) (accepted-derived text d a)
-    (rw (names-kept-iff d .1 (a .keeps .names), parameters-kept-iff d .1 (a .keeps .parameters), solids-kept-iff d .1 (a .keeps .solids),
-    strongs-kept-iff d .1 (a .keeps .strongs), counted-few (flow-copies d) (flow-events d) (a .copies) (a .events)))
+    (rw (
+      names-kept-iff d .1 (a .keeps .names),
+      parameters-kept-iff d .1 (a .keeps .parameters),
+      solids-kept-iff d .1 (a .keeps .solids),
+      strongs-kept-iff d .1 (a .keeps .strongs),
+      counted-few (flow-copies d) (flow-events d) (a .copies) (a .events),
+    ))
 
 -- The texts that are turned away.
 scanned-as : (text : List ℕ) (s : Scan) → scan-of text ≡ s → read-of text ≡ scanned text (codes text) (places text) s
@@ -142,8 +143,13 @@ turned-read text c at (weakly e d h) =
 turned-read text c at (many e d h) =
     numbered text 11 0 e (h .place)
     (by-verdict text d (Unkept 11 0) (h .derived)
-    (rw (names-kept-iff d .1 (h .names), parameters-kept-iff d .1 (h .parameters), solids-kept-iff d .1 (h .solids), strongs-kept-iff d .1 (h .strongs),
-    counted-many (flow-copies d) (flow-events d) (h .over))))
+    (rw (
+      names-kept-iff d .1 (h .names),
+      parameters-kept-iff d .1 (h .parameters),
+      solids-kept-iff d .1 (h .solids),
+      strongs-kept-iff d .1 (h .strongs),
+      counted-many (flow-copies d) (flow-events d) (h .over),
+    )))
 
 -- Every text is read with a diagram, or turned away with one number and place.
 pub data Fate (text : List ℕ) : Type 0 where
@@ -161,7 +167,7 @@ derived-fate text d g = names (twice d) refl
     ps = places text
 
     counts : differ (flow-names d []) ≡ true → flow-parameters d [] ≡ true → each-flow d solid ≡ true → each-flow d strong ≡ true
-      → ((flow-copies d ≤ 768) × (flow-events d ≤ 512)) ⊎ ((768 < flow-copies d) ⊎ (512 < flow-events d)) → Fate text
+        → ((flow-copies d ≤ 768) × (flow-events d ≤ 512)) ⊎ ((768 < flow-copies d) ⊎ (512 < flow-events d)) → Fate text
     counts a b c e (inl q) =
         taken d
         record {

@@ -1,18 +1,16 @@
 -- What the reader's own functions are held to, one law for each way out.
 use mathlib.Core.Path.{_≡_, refl, sym, _∙_, ap}
-use mathlib.Core.Bool.{Bool, true, false, _&&_, _||_, cond}
+use mathlib.Core.Bool.{Bool, true, false, _||_, cond}
 use mathlib.Core.List.{List, [], _∷_}
 use Prim.Native.Nat.{ℕ, zero, suc, _+_, _-_, _≤_, _<_}
 use native.Mathlib.Nat.{add-zero, le-of-suc-le-suc}
 use native.Mathlib.Omega.{arith}
-use lib.Dec.{eqb, leb}
+use lib.Dec.{eqb}
 use lib.ListN.{length, getD, drop, List·getD-eq-default}
 use lib.Seq.{getD-drop}
-use Rattle.lexer.specs.Classes.{between}
 use Rattle.diagram.specs.Tree.{Name}
 use Rattle.diagram.specs.declared.Kind.{Kind}
-use Rattle.diagram.specs.declared.Node.{Node}
-use Rattle.rules.specs.Heads.{flowing, leafy, copying, solid-of, head}
+use Rattle.rules.specs.Heads.{copying, solid-of, head}
 use Rattle.reader.specs.Nodes.{kind-of, size-of, name-place, node-of}
 
 pub name-either : (c : ℕ) (ps : List ℕ) (key : ℕ) → (eqb c 7 || eqb c 8) ≡ true → name-place c ps key ≡ getD ps (key + 2) 0
@@ -49,26 +47,26 @@ size-none cs key c b e q t = sym (size-at cs key c b e q ∙ rw t)
 
 -- The three ways to a node's name.
 pub name-first : (cs ps : List ℕ) (key c r : ℕ) (b : Bool) → c ≡ getD cs (key + 0) 0 → b ≡ (eqb c 7 || eqb c 8) → b ≡ true → r ≡ getD ps (key + 2) 0
-  → r ≡ name-place (getD (drop key cs) 0 0) ps key
+    → r ≡ name-place (getD (drop key cs) 0 0) ps key
 name-first cs ps key c r b e q t h = h ∙ sym (ap (λ (x : ℕ). name-place x ps key) (first-token cs key c e) ∙ name-either c ps key (sym q ∙ t))
 
 name-later : (cs ps : List ℕ) (key c : ℕ) (a b : Bool) → c ≡ getD cs (key + 0) 0 → a ≡ (eqb c 7 || eqb c 8) → a ≡ false → b ≡ copying c
-  → name-place (getD (drop key cs) 0 0) ps key ≡ cond b (getD ps (key + 2) 0) 0
+    → name-place (getD (drop key cs) 0 0) ps key ≡ cond b (getD ps (key + 2) 0) 0
 name-later cs ps key c a b e q t h =
     ap (λ (x : ℕ). name-place x ps key) (first-token cs key c e) ∙ (name-other c ps key (sym q ∙ t) ∙ ap (λ (x : Bool). cond x (getD ps (key + 2) 0) 0) (sym h))
 
 pub name-second : (cs ps : List ℕ) (key c r : ℕ) (a b : Bool) → c ≡ getD cs (key + 0) 0 → a ≡ (eqb c 7 || eqb c 8) → a ≡ false → b ≡ copying c → b ≡ true
-  → r ≡ getD ps (key + 2) 0 → r ≡ name-place (getD (drop key cs) 0 0) ps key
+    → r ≡ getD ps (key + 2) 0 → r ≡ name-place (getD (drop key cs) 0 0) ps key
 name-second cs ps key c r a b e q t h u k = k ∙ sym (name-later cs ps key c a b e q t h ∙ rw u)
 
 pub name-none : (cs ps : List ℕ) (key c : ℕ) (a b : Bool) → c ≡ getD cs (key + 0) 0 → a ≡ (eqb c 7 || eqb c 8) → a ≡ false → b ≡ copying c → b ≡ false
-  → 0 ≡ name-place (getD (drop key cs) 0 0) ps key
+    → 0 ≡ name-place (getD (drop key cs) 0 0) ps key
 name-none cs ps key c a b e q t h u = sym (name-later cs ps key c a b e q t h ∙ rw u)
 
 -- A node by its parts.
 pub node-made : (cs ps : List ℕ) (nm : ℕ → Name) (d key c s at n : ℕ) (k : Kind) (b : Bool) → c ≡ getD cs (key + 0) 0 → s ≡ size-of (drop key cs) → k ≡ kind-of c s
-  → b ≡ solid-of (drop key cs) → at ≡ getD ps (key + 0) 0 → n ≡ name-place (getD (drop key cs) 0 0) ps key
-  → record { kind = k; solid = b; depth = d; at = at; name = n } ≡ node-of ps (head nm d key (drop key cs))
+    → b ≡ solid-of (drop key cs) → at ≡ getD ps (key + 0) 0 → n ≡ name-place (getD (drop key cs) 0 0) ps key
+    → record { kind = k; solid = b; depth = d; at = at; name = n } ≡ node-of ps (head nm d key (drop key cs))
 unfolding node-of head size-of
 node-made cs ps nm d key c s at n k b e f g h i j = rw (g, f, e, h, i, j, getD-drop key cs 0 0, add-zero key)
 

@@ -1,17 +1,16 @@
 -- The nodes as they are stored one after the other, over the blank ones.
-use mathlib.Core.Path.{_≡_, refl, sym, _∙_, ap, ap₂}
+use mathlib.Core.Path.{_≡_, refl, sym, _∙_, ap}
 use mathlib.Core.List.{List, [], _∷_, _++_, map}
 use Prim.Native.Nat.{ℕ, zero, suc, _+_, _-_, _≤_, _<_}
 use native.Mathlib.Nat.{le-of-suc-le-suc}
 use native.Mathlib.Numerals.{add-one}
 use native.Mathlib.Omega.{arith}
-use lib.ListN.{length, getD, take, drop, set, replicate, length-map, length-take, length-replicate}
+use lib.ListN.{length, getD, take, drop, set, replicate, length-map}
 use lib.Seq.{take-all, take-suc, set-at, length-take-le, append-snoc}
 use Rattle.diagram.specs.Tree.{Name}
 use Rattle.diagram.specs.Stored.{blank-node}
 use Rattle.diagram.specs.declared.Node.{Node}
-use Rattle.diagram.specs.declared.Diagram.{Diagram}
-use Rattle.rules.specs.Heads.{Head, head, by-columns}
+use Rattle.rules.specs.Heads.{head, by-columns}
 use Rattle.reader.specs.Nodes.{node-of, stored}
 
 -- The nodes of two columns.
@@ -34,7 +33,7 @@ rows-length ps cs (k ∷ ks) [] h = let z : ⊥ = omega arith in absurd z
 rows-length ps cs (k ∷ ks) (d ∷ ds) h = ap suc (rows-length ps cs ks ds (omega arith))
 
 pub rows-at : (ps cs ks ds : List ℕ) (i : ℕ) → length ds ≡ length ks → i < length ks
-  → getD (rows ps cs ks ds) i blank-node ≡ node-of ps (head (λ x. []) (getD ds i 0) (getD ks i 0) (drop (getD ks i 0) cs))
+    → getD (rows ps cs ks ds) i blank-node ≡ node-of ps (head (λ x. []) (getD ds i 0) (getD ks i 0) (drop (getD ks i 0) cs))
 unfolding rows
 rows-at ps cs [] ds i h l = let z : ⊥ = omega arith in absurd z
 rows-at ps cs (k ∷ ks) [] i h l = let z : ⊥ = omega arith in absurd z
@@ -55,8 +54,8 @@ filled-more ns i n l m e =
     ∙ rw (add-one i, take-suc ns i blank-node l, append-snoc (take i ns) (getD ns i blank-node) (replicate (256 - suc i) blank-node), e))
 
 pub filled-whole : (nm : ℕ → Name) (ps cs ks ds : List ℕ) (i x y : ℕ) (l : List Node) → length ds ≡ length ks → length ks ≤ i → i ≤ length ks
-  → l ≡ filled (rows ps cs ks ds) i
-  → record { nodes = l; count = i; copies = x; events = y } ≡ stored ps (by-columns nm cs ks ds) x y
+    → l ≡ filled (rows ps cs ks ds) i
+    → record { nodes = l; count = i; copies = x; events = y } ≡ stored ps (by-columns nm cs ks ds) x y
 unfolding stored
 filled-whole nm ps cs ks ds i x y l h a b e =
     let n : length (by-columns nm cs ks ds) ≡ i = sym (length-map (by-columns nm cs ks ds) (node-of ps)) ∙ (ap length (rows-columns nm ps cs ks ds) ∙ (rows-length ps cs ks ds h ∙ omega arith)) in

@@ -1,20 +1,18 @@
 -- The diagram of an accepted text is the one derived.
 use mathlib.Core.Path.{_≡_, refl, sym, _∙_, ap, subst}
 use mathlib.Core.Logic.{_⊎_, inl, inr, ⊎-elim}
-use mathlib.Core.Bool.{Bool, true, false, _&&_, _||_, cond}
-use mathlib.Core.List.{List, [], _∷_, _++_, map, reverse}
+use mathlib.Core.Bool.{Bool, true, false, _||_, cond}
+use mathlib.Core.List.{List, [], _∷_, map, reverse}
 use Prim.Native.Nat.{ℕ, suc, _+_, _*_, _-_, _≤_}
 use native.Mathlib.Omega.{arith}
-use lib.Dec.{eqb, leb}
-use lib.ListN.{length, getD, take, replicate, length-map}
+use lib.Dec.{eqb}
+use lib.ListN.{length, getD, replicate, length-map}
 use lib.Seq.{take-at}
-use borrow.Author.Tests.{eqb-true, eqb-false, ne-eqb}
+use borrow.Author.Tests.{eqb-true, eqb-false}
 use Rattle.diagram.specs.Tree.{Name, Way, all, some, one, Flow, flow, Children, none, next, Child, plain, loop, group, replicator, Member, leaf, inner, Members, end, also}
 use Rattle.diagram.specs.Count.{flow-nodes, flow-copies, flow-events}
 use Rattle.diagram.specs.Stored.{blank-node}
 use Rattle.diagram.specs.declared.Kind.the-variants.{Flow as FlowKind, Leaf, Loop}
-use Rattle.diagram.specs.declared.Node.{Node}
-use Rattle.diagram.specs.declared.Diagram.{Diagram}
 use Rattle.diagram.proofs.Truth.{cases, is-false}
 use Rattle.lexer.specs.Words.{word-at, code}
 use Rattle.lexer.specs.Spans.{tokens, codes, places}
@@ -66,7 +64,7 @@ head-view h = shown (kind-of (h .code) (h .size)) (h .solid) (h .depth) (h .name
 
 -- A node is told by its place as its tokens have it.
 name-shown : (text ps : List ℕ) (c s k : ℕ) (b : Bool) → titled c ≡ b → has-name (kind-of c s) ≡ b
-  → cond (has-name (kind-of c s)) (word-at text (cond (titled c) (getD ps (k + 2) 0) 0)) [] ≡ cond (titled c) (word-at text (getD ps (k + 2) 0)) []
+    → cond (has-name (kind-of c s)) (word-at text (cond (titled c) (getD ps (k + 2) 0) 0)) [] ≡ cond (titled c) (word-at text (getD ps (k + 2) 0)) []
 name-shown text ps c s k true e f = rw (e, f)
 name-shown text ps c s k false e f = rw (e, f)
 
@@ -78,7 +76,7 @@ head-shown text ps d k cs =
     ap (shown (kind-of c s) (solid-of cs) d) (name-shown text ps c s k (titled c) refl (kind-named c s))
 
 heads-shown : (text ps : List ℕ) (p k : ℕ) (cs : List ℕ)
-  → map (view text) (map (node-of ps) (heads (name-in text ps) p k cs)) ≡ map head-view (heads (name-in text ps) p k cs)
+    → map (view text) (map (node-of ps) (heads (name-in text ps) p k cs)) ≡ map head-view (heads (name-in text ps) p k cs)
 unfolding heads
 heads-shown text ps p k [] = refl
 heads-shown text ps p k (c ∷ cs) =
@@ -101,8 +99,8 @@ group-shown some b d k = refl
 group-shown one b d k = refl
 
 replicator-shown : (y : Way) (b : Bool) (d k : ℕ) (par : Name) (size : ℕ)
-  → head-view (record { key = k; depth = d; code = replicator-code y; name = par; size = size; pars = []; strong = false; solid = b })
-  ≡ shown (replicator-kind y size) b d par
+    → head-view (record { key = k; depth = d; code = replicator-code y; name = par; size = size; pars = []; strong = false; solid = b })
+    ≡ shown (replicator-kind y size) b d par
 unfolding head-view kind-of
 replicator-shown all b d k par size = refl
 replicator-shown some b d k par size = refl
@@ -110,6 +108,7 @@ replicator-shown one b d k par size = refl
 
 mutual
   unfolding flow-heads flow-views head-view kind-of
+
   flow-shown : (f : Flow) (b : Bool) (d k : ℕ) {hs : List Head} {vs : List View} → Same hs vs → Same (flow-heads f b d k hs) (flow-views f b d vs)
   flow-shown (flow n ps sw c r cs) b d k h =
       before (record { key = k; depth = d; code = 7; name = n; size = 0; pars = reverse ps; strong = sw; solid = b }) (shown FlowKind b d n) refl
@@ -170,10 +169,10 @@ accepted-shown text d a =
     subst (λ (o : Out). Shows text d (o .diagram)) (sym e)
     record {
       nodes =
-        stored-shown text hs (flow-copies d) (flow-events d)
-        ∙ (subst (λ (l : List Head). map (view text) (map (node-of (places text)) l) ≡ map head-view l) (derived-heads text d (a .derived))
-        (heads-shown text (places text) 0 0 (codes text))
-        ∙ flow-shown d false 1 0 nothing .law);
+          stored-shown text hs (flow-copies d) (flow-events d)
+          ∙ (subst (λ (l : List Head). map (view text) (map (node-of (places text)) l) ≡ map head-view l) (derived-heads text d (a .derived))
+          (heads-shown text (places text) 0 0 (codes text))
+          ∙ flow-shown d false 1 0 nothing .law);
       count = nodes-held text d (a .derived);
       copies = refl;
       events = refl;

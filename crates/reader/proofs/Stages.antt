@@ -1,13 +1,11 @@
 -- How one stage of reading leads to the next.
-use mathlib.Core.Path.{_≡_, refl, sym, _∙_, ap, ap₂, subst}
-use mathlib.Core.Bool.{true, false}
-use mathlib.Core.List.{List, [], _∷_}
-use Prim.Native.Nat.{ℕ, zero, suc, _+_, _≤_, _<_}
+use mathlib.Core.Path.{_≡_, refl, sym, _∙_, ap, ap₂}
+use mathlib.Core.List.{List}
+use Prim.Native.Nat.{ℕ, _≤_}
 use native.Mathlib.Omega.{arith}
-use lib.ListN.{length, getD, take, replicate, length-replicate}
+use lib.ListN.{length, take}
 use lib.Seq.{length-take-le}
-use Rattle.diagram.specs.Tree.{Name}
-use Rattle.lexer.specs.Spans.{spans-of, tokens, codes, places}
+use Rattle.lexer.specs.Spans.{spans-of, codes, places}
 use Rattle.lexer.specs.Fill.{fill}
 use Rattle.lexer.specs.Scanned.{scan-of, written}
 use Rattle.lexer.specs.declared.Scan.{Scan}
@@ -59,7 +57,7 @@ read-whole cs (whole n) len r x y q e g = let z : n ≡ y = cc in q ∙ ap whole
 read-whole cs (stop c k) len r x y q e g = let z : _≡_ {A = ℕ} 0 1 = cc in let w : ⊥ = omega arith in absurd w
 
 pub columns : (cs ks ds lent owed : List ℕ) (n len : ℕ) (r : Step) (x y : ℕ) → r ≡ step-of len (outcome cs) → r ≡ Go x y → length lent ≡ 256 → length owed ≡ 256
-  → n ≡ length (keys 0 cs) → ks ≡ fill lent (keys 0 cs) → ds ≡ fill owed (depths 0 cs) → Columns cs ks ds n y
+    → n ≡ length (keys 0 cs) → ks ≡ fill lent (keys 0 cs) → ds ≡ fill owed (depths 0 cs) → Columns cs ks ds n y
 columns cs ks ds lent owed n len r x y e g l o q a b =
     let w = read-whole cs (outcome cs) len r x y refl e g in
     let h : n ≤ 256 = omega (arith, keys-count 0 cs, whole-none-big cs y w .0, whole-few cs y w) in
@@ -71,13 +69,13 @@ columns cs ks ds lent owed n len r x y e g l o q a b =
     }
 
 pub stopped-away : (text ps : List ℕ) (hs : List Head) (len : ℕ) (o : Outcome) (r : Step) (c k : ℕ) → r ≡ step-of len o → r ≡ Stop c k
-  → away (parse-answer text ps r) ≡ parsed text ps hs o
+    → away (parse-answer text ps r) ≡ parsed text ps hs o
 stopped-away text ps hs len (whole n) r c k e g = let z : _≡_ {A = ℕ} 0 1 = cc in let w : ⊥ = omega arith in absurd w
 stopped-away text ps hs len (stop d j) r c k e g = rw e
 
 pub whole-judged : (text ps cs ks ds : List ℕ) (n m : ℕ) (o : Out) → Columns cs ks ds n m
-  → o ≡ judged ps (by-columns (name-in text ps) cs (take n ks) (take n ds)) (verdict ps (by-columns (name-in text ps) cs (take n ks) (take n ds)))
-  → o ≡ parsed text ps (heads (name-in text ps) 0 0 cs) (outcome cs)
+    → o ≡ judged ps (by-columns (name-in text ps) cs (take n ks) (take n ds)) (verdict ps (by-columns (name-in text ps) cs (take n ks) (take n ds)))
+    → o ≡ parsed text ps (heads (name-in text ps) 0 0 cs) (outcome cs)
 whole-judged text ps cs ks ds n m o w e =
     let h = ap₂ (by-columns (name-in text ps) cs) (w .first .is) (w .second .is) ∙ columns-heads (name-in text ps) cs in
     e ∙ (ap (λ (l : List Head). judged ps l (verdict ps l)) h ∙ sym (ap (parsed text ps (heads (name-in text ps) 0 0 cs)) (w .read)))
@@ -88,7 +86,7 @@ verdict-away ps hs (Kept x y) v c k e g = let z : _≡_ {A = ℕ} 0 1 = cc in le
 verdict-away ps hs (Unkept d j) v c k e g = rw e
 
 pub kept-done : (ps : List ℕ) (hs : List Head) (w v : Verdict) (x y : ℕ) (d : Diagram) → v ≡ w → v ≡ Kept x y → d ≡ stored ps hs x y
-  → record { answer = Done; diagram = d } ≡ judged ps hs w
+    → record { answer = Done; diagram = d } ≡ judged ps hs w
 kept-done ps hs (Kept a b) v x y d e g q = let p : x ≡ a = cc in let r : y ≡ b = cc in rw (q, p, r)
 kept-done ps hs (Unkept c k) v x y d e g q = let z : _≡_ {A = ℕ} 0 1 = cc in let w : ⊥ = omega arith in absurd w
 
@@ -99,7 +97,7 @@ pub record Tokened (text cs ps : List ℕ) (n : ℕ) : Type 0 where
   pub second : Front 16384 n ps (places text)
 
 pub tokened : (text cs ps lent owed : List ℕ) (n : ℕ) (r : Scan) → r ≡ scan-of text → r ≡ Tokens n → length lent ≡ 16384 → length owed ≡ 16384
-  → cs ≡ written (scan-of text) (codes text) lent → ps ≡ written (scan-of text) (places text) owed → Tokened text cs ps n
+    → cs ≡ written (scan-of text) (codes text) lent → ps ≡ written (scan-of text) (places text) owed → Tokened text cs ps n
 tokened text cs ps lent owed n r e g l o a b =
     let s : scan-of text ≡ Tokens n = sym e ∙ g in
     let c = scan-clean text n s in
@@ -121,7 +119,7 @@ unfolding read-of
 unscanned text r c k e g = scanned-away text (scan-of text) r c k e g
 
 pub tokened-read : (text cs ps : List ℕ) (n : ℕ) (o : Out) → Tokened text cs ps n
-  → o ≡ parsed text (take n ps) (heads (name-in text (take n ps)) 0 0 (take n cs)) (outcome (take n cs)) → o ≡ read-of text
+    → o ≡ parsed text (take n ps) (heads (name-in text (take n ps)) 0 0 (take n cs)) (outcome (take n cs)) → o ≡ read-of text
 unfolding read-of
 tokened-read text cs ps n o w e =
     e ∙ (ap₂ (λ (c p : List ℕ). parsed text p (heads (name-in text p) 0 0 c) (outcome c)) (w .first .is) (w .second .is)

@@ -1,27 +1,23 @@
 -- A text that a diagram of at most 256 nodes and 12 depths derives is refused for none of its tokens, and its nodes are the diagram's.
-use mathlib.Core.Path.{_≡_, refl, sym, _∙_, ap, subst}
-use mathlib.Core.Logic.{_⊎_, inl, inr, ⊎-elim}
-use mathlib.Core.Bool.{Bool, true, false, not, _&&_, cond, true≢false, false≢true}
+use mathlib.Core.Path.{_≡_, sym, _∙_, ap, subst}
+use mathlib.Core.Logic.{_⊎_, ⊎-elim}
+use mathlib.Core.Bool.{Bool, true, false, true≢false, false≢true}
 use mathlib.Core.List.{List, [], _∷_, map}
-use Prim.Native.Nat.{ℕ, zero, suc, _+_, _≤_, _<_}
+use Prim.Native.Nat.{ℕ, zero, suc, _≤_, _<_}
 use native.Mathlib.Nat.{zero-add, le-of-suc-le-suc}
 use native.Mathlib.Omega.{arith}
-use lib.Dec.{eqb, leb, ltb}
+use lib.Dec.{ltb}
 use lib.ListN.{length, getD, List·getD-eq-default}
 use borrow.Author.Tests.{leb-true, ltb-true, ltb-false}
 use Rattle.diagram.specs.Tree.{Name, Flow}
-use Rattle.diagram.specs.Count.{flow-nodes}
-use Rattle.diagram.specs.Depth.{flow-depth}
-use Rattle.diagram.proofs.Truth.{and-l, and-r, and-i, cases, clash, not-e}
+use Rattle.diagram.proofs.Truth.{and-l, and-r, cases, not-e}
 use Rattle.lexer.specs.Classes.{class-of, worded, foreign}
-use Rattle.lexer.specs.Words.{word-at, short, every, code, word-code}
-use Rattle.lexer.specs.Spans.{tokens, codes, places, spans-of}
-use Rattle.lexer.specs.Scanned.{scan-of}
+use Rattle.lexer.specs.Words.{short, every, code}
+use Rattle.lexer.specs.Spans.{tokens, codes, places}
 use Rattle.lexer.proofs.Spans.{token-word, code-worded}
-use Rattle.grammar.specs.Tokens.{flow-tokens}
-use Rattle.grammar.specs.Machine.{Outcome, whole, stop, outcome}
+use Rattle.grammar.specs.Machine.{whole, outcome}
 use Rattle.grammar.specs.Limits.{too-big}
-use Rattle.grammar.specs.Derives.{Derives, Grammatical, all-tokens}
+use Rattle.grammar.specs.Derives.{Derives}
 use Rattle.grammar.proofs.Lexed.{text-tokens}
 use Rattle.grammar.proofs.Rendered.{usual, proper, all-proper, diagram-sound}
 use Rattle.grammar.proofs.Printing.{proper-usual}
@@ -31,8 +27,8 @@ use Rattle.grammar.proofs.LimitedTrees.{fits-none-big, none-big-fits}
 use Rattle.rules.specs.Heads.{heads, name-in}
 use Rattle.rules.proofs.Trees.{flow-heads}
 use Rattle.rules.proofs.Headed.{Agrees, tree-heads}
-use Rattle.reader.specs.Answers.{judged, parsed, scanned, read-of}
-use Rattle.reader.specs.Refused.{Usual, Clean, Derived}
+use Rattle.reader.specs.Answers.{judged, read-of}
+use Rattle.reader.specs.Refused.{Clean, Derived}
 use Rattle.reader.proofs.Scans.{clean-scan}
 use Rattle.reader.proofs.Verdicts.{tree-verdict, tree-judged}
 

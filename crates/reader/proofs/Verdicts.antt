@@ -1,35 +1,26 @@
 -- What the rules answer for the nodes of a tree, by the tree.
-use mathlib.Core.Path.{_≡_, refl, sym, _∙_, ap}
+use mathlib.Core.Path.{_≡_, refl, sym, _∙_}
 use mathlib.Core.Logic.{_⊎_, inl, inr, ⊎-elim}
 use mathlib.Core.Bool.{Bool, true, false, _||_, cond}
-use mathlib.Core.List.{List, [], _∷_}
-use Prim.Native.Nat.{ℕ, _+_, _≤_, _<_}
+use mathlib.Core.List.{List, []}
+use Prim.Native.Nat.{ℕ, _≤_, _<_}
 use native.Mathlib.Omega.{arith}
 use lib.Dec.{ltb}
-use lib.ListN.{getD}
 use borrow.Author.Tests.{lt-ltb, le-ltb, ltb-true, ltb-false}
 use Rattle.diagram.specs.Tree.{Flow}
 use Rattle.diagram.specs.Count.{flow-copies, flow-events}
-use Rattle.diagram.specs.Names.{flow-names, differ}
-use Rattle.diagram.specs.Parameters.{flow-parameters}
-use Rattle.diagram.specs.Flows.{each-flow, solid, strong}
-use Rattle.diagram.proofs.Truth.{cases, or-e}
+use Rattle.diagram.proofs.Truth.{cases}
 use Rattle.rules.specs.Counted.{capped}
 use Rattle.rules.specs.Judged.{refuse, counted, verdict}
 use Rattle.rules.specs.Sites.{Site, flow-sites, first-twice, first-broken}
 use Rattle.rules.specs.declared.Found.{Found}
-use Rattle.rules.specs.declared.Found.the-variants.{At, Nothing}
 use Rattle.rules.specs.declared.Verdict.{Verdict}
 use Rattle.rules.specs.declared.Verdict.the-variants.{Kept, Refused}
 use Rattle.rules.proofs.Trees.{flow-heads}
 use Rattle.rules.proofs.NamesPlaced.{names-placed}
-use Rattle.rules.proofs.NamesKept.{names-kept-iff}
 use Rattle.rules.proofs.ParametersPlaced.{parameters-placed}
-use Rattle.rules.proofs.ParametersKept.{parameters-kept-iff}
 use Rattle.rules.proofs.SolidsPlaced.{solids-placed}
-use Rattle.rules.proofs.SolidsKept.{solids-kept-iff}
 use Rattle.rules.proofs.StrongsPlaced.{strongs-placed}
-use Rattle.rules.proofs.StrongsKept.{strongs-kept-iff}
 use Rattle.rules.proofs.Totals.{copies-counted, events-counted}
 
 -- Where each rule is broken first.

@@ -1,16 +1,20 @@
 -- Property 1, for reading: "Every answer is a result within the limits or one numbered refusal with its place".
 use mathlib.Core.Path.{_≡_}
+use mathlib.Core.List.{List}
 use Prim.Native.Nat.{ℕ, _≤_}
+use Rattle.diagram.specs.Tree.{Flow}
 use Rattle.reader.specs.Answers.{refused}
+use Rattle.reader.specs.Accepted.{Accepted}
+use Rattle.reader.specs.Views.{Shows}
 use Rattle.reader.specs.declared.Answer.the-variants.{Done}
 use Rattle.reader.specs.declared.Out.{Out}
 
--- A diagram of at most 256 nodes, 768 node copies and 512 events.
-pub record Result (o : Out) : Type 0 where
+-- The nodes of a diagram within the limits, and its counts.
+pub record Result (text : List ℕ) (o : Out) : Type 0 where
   pub done : o .answer ≡ Done
-  pub nodes : o .diagram .count ≤ 256
-  pub copies : o .diagram .copies ≤ 768
-  pub events : o .diagram .events ≤ 512
+  pub tree : Flow
+  pub limits : Accepted text tree
+  pub shown : Shows text tree (o .diagram)
 
 -- One of the numbers 2 to 11, with a place in a text within the limits or at its end, and nothing else.
 pub record Refusal (o : Out) : Type 0 where
@@ -21,6 +25,6 @@ pub record Refusal (o : Out) : Type 0 where
   pub high : number ≤ 11
   pub near : place ≤ 16384
 
-pub data Bounded (o : Out) : Type 0 where
-  result : Result o → Bounded o
-  refusal : Refusal o → Bounded o
+pub data Bounded (text : List ℕ) (o : Out) : Type 0 where
+  result : Result text o → Bounded text o
+  refusal : Refusal o → Bounded text o

@@ -1,6 +1,6 @@
 -- A node as the diagram holds it: "Each node's kind, with its size where it has one, stands in its record beside the solid mark."
 use mathlib.Core.Bool.{_||_, cond}
-use mathlib.Core.List.{List, [], _∷_, _++_, map}
+use mathlib.Core.List.{List, _++_, map}
 use Prim.Native.Nat.{ℕ, _+_, _-_}
 use lib.Dec.{eqb}
 use lib.ListN.{length, getD, replicate}

@@ -7,7 +7,6 @@ ghost use Rattle.grammar.specs.Machine.{outcome};
 ghost use Rattle.rules.specs.Judged.{verdict};
 ghost use Rattle.reader.specs.Nodes.{kind-of, size-of, name-place, node-of, stored};
 ghost use Rattle.reader.specs.Answers.{away, scan-answer, parse-answer, verdict-answer, place-of, judged as judged-of, parsed, read-of};
-
 use diagram::Diagram;
 use diagram::Kind;
 use diagram::Node;
@@ -160,7 +159,14 @@ fn node(codes: &[u8], starts: &[u16], key: usize, depth: usize) -> Node
 }
 
 // The nodes of the columns `keys` and `depths`, with the counts.
-fn store(codes: &[u8], starts: &[u16], keys: &[usize], depths: &[usize], copies: usize, events: usize) -> Diagram
+fn store(
+    codes: &[u8],
+    starts: &[u16],
+    keys: &[usize],
+    depths: &[usize],
+    copies: usize,
+    events: usize,
+) -> Diagram
     requires { ⌜ (length (now keys) ≤ 256) × (length (now depths) ≡ length (now keys)) ⌝ }
     ensures { λ r. ⌜ ((nm : ℕ → Name) → r ≡ stored (now (starts .entry)) (by-columns nm (now (codes .entry)) (now (keys .entry)) (now (depths .entry))) copies events) ⌝ }
 {

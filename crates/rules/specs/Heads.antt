@@ -1,8 +1,8 @@
 -- The nodes of a text in its order, each with what its own tokens say: what the rules beyond grammar are asked of.
-use mathlib.Core.Bool.{Bool, true, false, _&&_, _||_, cond}
+use mathlib.Core.Bool.{Bool, false, _&&_, _||_, cond}
 use mathlib.Core.List.{List, [], _∷_}
 use Prim.Native.Nat.{ℕ, zero, suc, _+_, _-_}
-use lib.Dec.{eqb, ltb, leb}
+use lib.Dec.{eqb, leb}
 use lib.ListN.{getD, drop}
 use Rattle.diagram.specs.Tree.{Name}
 use Rattle.lexer.specs.Classes.{between}

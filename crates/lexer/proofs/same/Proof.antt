@@ -1,45 +1,81 @@
--- `lexer::same` meets its contract. A word that starts past the end is empty; any other is a part of the text.
+-- `lexer::same` meets its contract. The loop's invariant: the words from both places on are the same just where the whole words are.
+use mathlib.Core.Path.{_≡_, refl, sym, _∙_}
+use Prim.Native.Nat.{_-_}
 use native.Mathlib.Omega.{arith}
-use Rattle.lexer.specs.Classes.{worded}
-use Rattle.lexer.proofs.Front.{front-within}
-use Rattle.lexer.proofs.Ways.{same-outside, same-inside}
+use lib.ListN.{length}
+use Rattle.diagram.specs.Names.{same as alike}
+use Rattle.lexer.specs.Words.{word-at}
+use Rattle.lexer.proofs.Alike.{first-differ, both-none, both-on, some-on}
 use borrow.Author.Needs.{needs}
 use Rattle.lexer.proofs.same.Statement.{statement}
 use Rattle.lexer.proofs.same.Tie as tie
+use Rattle.lexer.proofs.same.Reads as reads
+use Rattle.lexer.proofs.same.Lts as lts
+use Rattle.lexer.proofs.letter.Reads as letter-reads
 
-word-end-requires : tie.Need-word-end-requires
-word-end-requires c κs = search needs
+abbrev Inv-loop : tie.InvT-loop
+Inv-loop text a b i₀ j₀ i j = alike (word-at text a) (word-at text b) ≡ alike (word-at text i) (word-at text j)
 
-returns : tie.Need-returns
-returns c = same-outside _ _ _ _ (c .before .word-end .ensures) (c .if1 .taken)
+abbrev μ-loop : tie.MeasureT-loop
+μ-loop text a b i₀ j₀ i j = length text - i
 
-word-end-requires-2 : tie.Need-word-end-requires-2
-word-end-requires-2 c κs = search needs
+loop-holds : tie.Need-loop-holds Inv-loop μ-loop
+loop-holds c = refl
 
-sub-w : tie.Need-sub-w
-sub-w c = search needs
+letter-requires : tie.Need-letter-requires Inv-loop μ-loop
+letter-requires c κs = search needs
 
-part-w-start : tie.Need-part-w-start
-part-w-start c = search needs
+letter-requires-2 : tie.Need-letter-requires-2 Inv-loop μ-loop
+letter-requires-2 c κs = search needs
 
-part-w-end : tie.Need-part-w-end
-part-w-end c = let s = c .before .before .before .before .args in omega (arith, front-within worded (s .text .now) (s .b))
+returns : tie.Need-returns Inv-loop μ-loop
+returns c =
+    let a = c .before .before .before .before .before .args in
+    let l = c .before .before .before .loop in
+    sym (l .inv ∙ first-differ (word-at (a .text .now) (l .i)) (word-at (a .text .now) (l .j)) (λ e. c .if1 .taken (c .before .before .letter .ensures ∙ (e ∙ sym (c .before .letter2 .ensures)))))
 
-equals-requires : tie.Need-equals-requires
-equals-requires c κs = let s = c .before .before .before .before .before .args in let f = front-within worded (s .text .now) (s .a) in (search needs, omega (arith, f))
+returns-2 : tie.Need-returns-2 Inv-loop μ-loop
+returns-2 c =
+    let a = c .before .before .before .before .before .before .args in
+    let l = c .before .before .before .before .loop in
+    sym (l .inv ∙ both-none (a .text .now) (l .i) (l .j) _ (c .before .before .before .letter .ensures) (c .before .if1 .left ∙ c .before .before .letter2 .ensures) (c .if2 .taken))
 
-returns-2 : tie.Need-returns-2
-returns-2 c = same-inside _ _ _ _ (c .before .before .before .before .word-end .ensures) _ _ (c .before .before .word-end2 .ensures) (c .equals .ensures)
+add-i : tie.Need-add-i Inv-loop μ-loop
+add-i c =
+    let a = c .before .before .before .before .before .before .args in
+    let l = c .before .before .before .before .loop in
+    omega (arith, some-on (a .text .now) (l .i) _ (c .before .before .before .letter .ensures) (c .if2 .left) .0, c .before .before .before .before .before .before .good)
+
+add-j : tie.Need-add-j Inv-loop μ-loop
+add-j c =
+    let a = c .before .before .before .before .before .before .args in
+    let l = c .before .before .before .before .loop in
+    omega (arith, some-on (a .text .now) (l .j) _ (c .before .if1 .left ∙ c .before .before .letter2 .ensures) (c .if2 .left) .0, c .before .before .before .before .before .before .good)
+
+loop-less : tie.Need-loop-less Inv-loop μ-loop
+loop-less c =
+    let a = c .before .before .before .before .before .before .args in
+    let l = c .before .before .before .before .loop in
+    omega (arith, some-on (a .text .now) (l .i) _ (c .before .before .before .letter .ensures) (c .if2 .left) .0)
+
+loop-again : tie.Need-loop-again Inv-loop μ-loop
+loop-again c =
+    let a = c .before .before .before .before .before .before .args in
+    let l = c .before .before .before .before .loop in
+    l .inv ∙ both-on (a .text .now) (l .i) (l .j) _ (c .before .before .before .letter .ensures) (c .before .if1 .left ∙ c .before .before .letter2 .ensures) (c .if2 .left)
 
 pub same-spec : {M : Type 1} → statement M
 same-spec =
     tie.close
     (tie.spec
-    word-end-requires
+    Inv-loop
+    μ-loop
+    loop-holds
+    letter-requires
+    letter-requires-2
     returns
-    word-end-requires-2
-    sub-w
-    part-w-start
-    part-w-end
-    equals-requires
-    returns-2)
+    returns-2
+    add-i
+    add-j
+    loop-less
+    loop-again)

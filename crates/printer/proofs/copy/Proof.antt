@@ -45,9 +45,10 @@ loop-again : tie.Need-loop-again Inv-loop μ-loop
 loop-again c =
     let l = c .before .before .before .before .before .before .before .loop in
     let a = c .before .before .before .before .before .before .before .before .before .before .before .args in
-    let put = c .before .before .before .put-byte in
-    (put .kept .0 ∙ l .inv .0,
-    copied-more (a .text .now) (a .out .now) (l .out) (l .n) (l .at) (l .inv .1) (c .before .before .before .before .before .before .loop-test .taken) (put .last .0) (c .skip2 .result) (put .ensures) (c .skip2 .ensures))
+    let put = c .before .before .before .put-byte in (
+      put .kept .0 ∙ l .inv .0,
+      copied-more (a .text .now) (a .out .now) (l .out) (l .n) (l .at) (l .inv .1) (c .before .before .before .before .before .before .loop-test .taken) (put .last .0) (c .skip2 .result) (put .ensures) (c .skip2 .ensures),
+    )
 
 same-length : tie.Need-same-length Inv-loop μ-loop
 same-length c = c .before .loop .inv .0
@@ -55,9 +56,10 @@ same-length c = c .before .loop .inv .0
 returns : tie.Need-returns Inv-loop μ-loop
 returns c =
     let l = c .before .loop in
-    let a = c .before .before .before .before .before .args in
-    (copied-all (a .text .now) (a .out .now) (l .out) (l .n) (l .at) (l .inv .1) (c .loop-test .left),
-    copied-out (a .text .now) (a .out .now) (l .out) (l .n) (l .at) (l .inv .1) (c .loop-test .left))
+    let a = c .before .before .before .before .before .args in (
+      copied-all (a .text .now) (a .out .now) (l .out) (l .n) (l .at) (l .inv .1) (c .loop-test .left),
+      copied-out (a .text .now) (a .out .now) (l .out) (l .n) (l .at) (l .inv .1) (c .loop-test .left),
+    )
 
 pub copy-spec : {M : Type 1} → statement M
 copy-spec =

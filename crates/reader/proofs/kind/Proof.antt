@@ -2,7 +2,6 @@ use mathlib.Core.Path.{ap, sym}
 use Prim.Native.Nat.{ℕ}
 use borrow.Author.Tests.{ne-eqb}
 use Rattle.reader.specs.Nodes.{kind-of}
-use borrow.Author.Needs.{needs}
 use Rattle.reader.proofs.kind.Statement.{statement}
 use Rattle.reader.proofs.kind.Tie as tie
 use Rattle.reader.proofs.kind.Reads as reads

@@ -1,5 +1,4 @@
-use mathlib.Core.Path.{ap, sym, _∙_}
-use Rattle.reader.specs.declared.Answer.the-variants.{Refused}
+use mathlib.Core.Path.{ap, sym}
 use Rattle.reader.specs.Answers.{parse-answer}
 use borrow.Author.Needs.{needs}
 use Rattle.reader.proofs.parse_answer.Statement.{statement}

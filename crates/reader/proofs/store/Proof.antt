@@ -60,11 +60,12 @@ loop-again c =
     let a = s .args in
     let ns = rows (a .starts .now) (a .codes .now) (a .keys .now) (a .depths .now) in
     let n = rows-length (a .starts .now) (a .codes .now) (a .keys .now) (a .depths .now) (s .pre .1) in
-    let t = c .before .before .before .loop-test .taken in
-    (search needs,
-    ap (λ (r : List Node). set r (l .i) (c .node .result)) (l .inv .1)
-    ∙ filled-more ns (l .i) (c .node .result) (omega arith) (omega (arith, s .pre .0))
-    (c .node .ensures (λ x. []) ∙ sym (rows-at (a .starts .now) (a .codes .now) (a .keys .now) (a .depths .now) (l .i) (s .pre .1) t)))
+    let t = c .before .before .before .loop-test .taken in (
+      search needs,
+      ap (λ (r : List Node). set r (l .i) (c .node .result)) (l .inv .1)
+          ∙ filled-more ns (l .i) (c .node .result) (omega arith) (omega (arith, s .pre .0))
+          (c .node .ensures (λ x. []) ∙ sym (rows-at (a .starts .now) (a .codes .now) (a .keys .now) (a .depths .now) (l .i) (s .pre .1) t)),
+    )
 
 returns : tie.Need-returns Inv-loop μ-loop
 returns c =

@@ -1,6 +1,5 @@
 use mathlib.Core.Path.{ap}
 use Rattle.diagram.specs.declared.Diagram.{Diagram}
-use Rattle.reader.specs.declared.Out.{Out}
 use borrow.Author.Needs.{needs}
 use Rattle.reader.proofs.turned_away.Statement.{statement}
 use Rattle.reader.proofs.turned_away.Tie as tie
