@@ -443,7 +443,7 @@ fn token_end(text: &[u8], at: usize) -> usize
 }
 
 // The first byte of the word that starts at `at`; 0, which no word has, where none starts.
-fn letter(text: &[u8], at: usize) -> u8
+pub fn letter(text: &[u8], at: usize) -> u8
     ensures { λ r. ⌜ r ≡ getD (word-at (now (text .entry)) at) 0 0 ⌝ }
 {
     if text.len() <= at {

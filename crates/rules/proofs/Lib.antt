@@ -21,3 +21,4 @@ pub mod HeadedColumns
 mod LawsRules
 mod LawsCounted
 mod LawsJudged
+mod LawsMarks

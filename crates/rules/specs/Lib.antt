@@ -4,3 +4,4 @@ pub mod Counted
 pub mod Judged
 pub mod Columns
 pub mod Sites
+pub mod Marks

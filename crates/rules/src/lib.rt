@@ -7,10 +7,12 @@ ghost use lib.ListN.{length, getD, drop, set};
 ghost use Rattle.diagram.specs.Tree.{Name};
 ghost use Rattle.lexer.specs.Classes.{between};
 ghost use Rattle.lexer.specs.Fill.{fill};
+ghost use Rattle.lexer.specs.Words.{word-at};
 ghost use Rattle.rules.specs.Heads.{reach as reach-of, extent, solid-of, par-count, strong-of, opened as opened-of, keys as keys-of, depths as depths-of, by-columns, name-in};
 ghost use Rattle.rules.specs.Kept.{may-be-solid, one-of, fault};
 ghost use Rattle.rules.specs.Counted.{total as total-of, capped};
 ghost use Rattle.rules.specs.Judged.{verdict};
+ghost use Rattle.rules.specs.Marks.{mark-of, marked, differing};
 ghost use Rattle.rules.specs.Columns.{earlier, from, around-at, nearest-at, next-solid as next-solid-of, rule-of, kept-at, unheard-at, fresh-at, listed-at, solids-at, counting, counted-at, copies-at};
 
 // The token of the first node that breaks a rule.
@@ -248,17 +250,69 @@ fn count(keys: &[usize], depths: &[usize]) -> usize
     depths.len()
 }
 
+// The mark of the word that starts at a place: words that have other marks are not the same.
+fn mark(text: &[u8], at: usize) -> u32
+    ensures { λ r. ⌜ r ≡ mark-of (word-at (now (text .entry)) at) ⌝ }
+{
+    let mut h: u32 = 7;
+    let mut i = at;
+    loop {
+        let b = lexer::letter(text, i);
+        if b == 0 {
+            return h;
+        }
+        h = (h * 257 + b as u32) % 65521;
+        i += 1;
+    }
+}
+
+// Writes the mark of each node's name, as far as there are nodes and room.
+fn mark_names(text: &[u8], starts: &[u16], keys: &[usize], marks: &mut [u32])
+    ensures { λ r. ⌜ marked (now (text .entry)) (now (starts .entry)) (now (keys .entry)) (now (marks .exit)) ⌝ }
+{
+    let mut k = 0;
+    while k < keys.len() {
+        if marks.len() <= k {
+            return;
+        }
+        marks[k] = mark(text, name(starts, keys, k));
+        k += 1;
+    }
+}
+
+// Whether two nodes have marks that differ, and so names that do.
+fn differ(marks: &[u32], i: usize, j: usize) -> bool
+    requires { ⌜ j < i ⌝ }
+    ensures { λ r. ⌜ r ≡ differing (now (marks .entry)) i j ⌝ }
+{
+    if marks.len() <= i {
+        return false;
+    }
+    marks[i] != marks[j]
+}
+
 // Whether no leaf or flow before the node i has its name.
-fn unheard(text: &[u8], codes: &[u8], starts: &[u16], keys: &[usize], i: usize) -> bool
+fn unheard(
+    text: &[u8],
+    codes: &[u8],
+    starts: &[u16],
+    keys: &[usize],
+    marks: &[u32],
+    i: usize,
+) -> bool
+    requires { ⌜ i < length (now keys) ⌝ }
+    requires { ⌜ marked (now text) (now starts) (now keys) (now marks) ⌝ }
     ensures { λ r. ⌜ ((ds : List ℕ) → r ≡ unheard-at (now (text .entry)) (now (starts .entry)) (now (codes .entry)) (now (keys .entry)) ds i) ⌝ }
 {
     let own = name(starts, keys, i);
     let mut j = i;
     while 0 < j {
         j -= 1;
-        if either(code(codes, keys, j), 7, 8) {
-            if lexer::same(text, own, name(starts, keys, j)) {
-                return false;
+        if !differ(marks, i, j) {
+            if either(code(codes, keys, j), 7, 8) {
+                if lexer::same(text, own, name(starts, keys, j)) {
+                    return false;
+                }
             }
         }
     }
@@ -438,16 +492,18 @@ fn kept(
     starts: &[u16],
     keys: &[usize],
     depths: &[usize],
+    marks: &[u32],
     rule: u8,
     i: usize,
 ) -> bool
     requires { ⌜ i < length (now keys) ⌝ }
+    requires { ⌜ marked (now text) (now starts) (now keys) (now marks) ⌝ }
     ensures { λ r. ⌜ r ≡ kept-at rule (now (text .entry)) (now (starts .entry)) (now (codes .entry)) (now (keys .entry)) (now (depths .entry)) i ⌝ }
 {
     let c = code(codes, keys, i);
     if rule == 7 {
         if either(c, 7, 8) {
-            return unheard(text, codes, starts, keys, i);
+            return unheard(text, codes, starts, keys, marks, i);
         }
         return true;
     }
@@ -470,14 +526,16 @@ fn first_fault(
     starts: &[u16],
     keys: &[usize],
     depths: &[usize],
+    marks: &[u32],
     rule: u8,
 ) -> Found
+    requires { ⌜ marked (now text) (now starts) (now keys) (now marks) ⌝ }
     ensures { λ r. ⌜ r ≡ fault (rule-of rule) [] (by-columns (name-in (now (text .entry)) (now (starts .entry))) (now (codes .entry)) (now (keys .entry)) (now (depths .entry))) ⌝ }
 {
     let end = count(keys, depths);
     let mut i = 0;
     while i < end {
-        if !kept(text, codes, starts, keys, depths, rule, i) {
+        if !kept(text, codes, starts, keys, depths, marks, rule, i) {
             return Found::At(number(keys, i));
         }
         i += 1;
@@ -563,19 +621,21 @@ fn total(codes: &[u8], keys: &[usize], depths: &[usize], events: bool) -> usize
 pub fn judge(text: &[u8], codes: &[u8], starts: &[u16], keys: &[usize], depths: &[usize]) -> Verdict
     ensures { λ r. ⌜ r ≡ verdict (now (starts .entry)) (by-columns (name-in (now (text .entry)) (now (starts .entry))) (now (codes .entry)) (now (keys .entry)) (now (depths .entry))) ⌝ }
 {
-    let names = first_fault(text, codes, starts, keys, depths, 7);
+    let mut marks = [0u32; 256];
+    mark_names(text, starts, keys, &mut marks);
+    let names = first_fault(text, codes, starts, keys, depths, &marks, 7);
     if let Found::At(k) = names {
         return Verdict::Refused(7, place(starts, k, 2));
     }
-    let params = first_fault(text, codes, starts, keys, depths, 8);
+    let params = first_fault(text, codes, starts, keys, depths, &marks, 8);
     if let Found::At(k) = params {
         return Verdict::Refused(8, place(starts, k, 0));
     }
-    let solids = first_fault(text, codes, starts, keys, depths, 9);
+    let solids = first_fault(text, codes, starts, keys, depths, &marks, 9);
     if let Found::At(k) = solids {
         return Verdict::Refused(9, place(starts, k, 0));
     }
-    let weak = first_fault(text, codes, starts, keys, depths, 10);
+    let weak = first_fault(text, codes, starts, keys, depths, &marks, 10);
     if let Found::At(k) = weak {
         return Verdict::Refused(10, place(starts, k, 0));
     }

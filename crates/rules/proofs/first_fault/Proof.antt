@@ -13,10 +13,10 @@ use Rattle.rules.proofs.first_fault.Statement.{statement}
 use Rattle.rules.proofs.first_fault.Tie as tie
 
 abbrev Inv-loop : tie.InvT-loop
-Inv-loop text codes starts keys depths rule end i₀ i = fault (rule-of rule) [] (by-columns (name-in text starts) codes keys depths) ≡ fault (rule-of rule) (earlier (name-in text starts) codes keys depths i) (from (name-in text starts) codes keys depths i)
+Inv-loop text codes starts keys depths marks rule end i₀ i = fault (rule-of rule) [] (by-columns (name-in text starts) codes keys depths) ≡ fault (rule-of rule) (earlier (name-in text starts) codes keys depths i) (from (name-in text starts) codes keys depths i)
 
 abbrev μ-loop : tie.MeasureT-loop
-μ-loop text codes starts keys depths rule end i₀ i = end - i
+μ-loop text codes starts keys depths marks rule end i₀ i = end - i
 
 count-requires : tie.Need-count-requires Inv-loop μ-loop
 count-requires c κs = search needs
@@ -33,7 +33,7 @@ number-requires c κs = search needs
 
 returns : tie.Need-returns Inv-loop μ-loop
 returns c =
-    let s = c .before .before .before .before .before .before .before .before .before .before .before .args in
+    let s = c .before .before .before .before .before .before .before .before .before .before .before .before .args in
     let cs = s .codes .now in
     let ks = s .keys .now in
     let ds = s .depths .now in
@@ -52,7 +52,7 @@ loop-less c = search needs
 
 loop-again : tie.Need-loop-again Inv-loop μ-loop
 loop-again c =
-    let s = c .before .before .before .before .before .before .before .before .before .before .args in
+    let s = c .before .before .before .before .before .before .before .before .before .before .before .args in
     let cs = s .codes .now in
     let ks = s .keys .now in
     let ds = s .depths .now in
@@ -65,7 +65,7 @@ loop-again c =
 
 returns-2 : tie.Need-returns-2 Inv-loop μ-loop
 returns-2 c =
-    let s = c .before .before .before .before .before .before .before .before .args in
+    let s = c .before .before .before .before .before .before .before .before .before .args in
     let cs = s .codes .now in
     let ks = s .keys .now in
     let ds = s .depths .now in

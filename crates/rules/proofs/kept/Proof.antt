@@ -21,7 +21,7 @@ unheard-requires c κs = search needs
 
 returns : tie.Need-returns
 returns c =
-    let s = c .before .before .before .before .before .before .before .before .before .before .args in
+    let s = c .before .before .before .before .before .before .before .before .before .before .before .args in
     let cs = s .codes .now in
     let ks = s .keys .now in
     let ds = s .depths .now in
@@ -30,7 +30,7 @@ returns c =
 
 returns-2 : tie.Need-returns-2
 returns-2 c =
-    let s = c .before .before .before .before .before .before .before .before .before .args in
+    let s = c .before .before .before .before .before .before .before .before .before .before .args in
     let cs = s .codes .now in
     let ks = s .keys .now in
     let ds = s .depths .now in
@@ -42,7 +42,7 @@ parameters-requires c κs = search needs
 
 returns-3 : tie.Need-returns-3
 returns-3 c =
-    let s = c .before .before .before .before .before .before .before .before .before .args in
+    let s = c .before .before .before .before .before .before .before .before .before .before .args in
     let cs = s .codes .now in
     let ks = s .keys .now in
     let ds = s .depths .now in
@@ -51,7 +51,7 @@ returns-3 c =
 
 returns-4 : tie.Need-returns-4
 returns-4 c =
-    let s = c .before .before .before .before .before .before .before .before .before .args in
+    let s = c .before .before .before .before .before .before .before .before .before .before .args in
     let cs = s .codes .now in
     let ks = s .keys .now in
     let ds = s .depths .now in
@@ -63,7 +63,7 @@ one-solid-requires c κs = search needs
 
 returns-5 : tie.Need-returns-5
 returns-5 c =
-    let s = c .before .before .before .before .before .before .before .before .before .before .before .args in
+    let s = c .before .before .before .before .before .before .before .before .before .before .before .before .args in
     let cs = s .codes .now in
     let ks = s .keys .now in
     let ds = s .depths .now in
@@ -79,7 +79,7 @@ strong-requires c κs = search needs
 
 returns-6 : tie.Need-returns-6
 returns-6 c =
-    let s = c .before .before .before .before .before .before .before .before .before .before .before .before .args in
+    let s = c .before .before .before .before .before .before .before .before .before .before .before .before .before .args in
     let cs = s .codes .now in
     let ks = s .keys .now in
     let ds = s .depths .now in

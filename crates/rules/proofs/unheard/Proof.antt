@@ -1,30 +1,36 @@
 -- The nodes passed do not have the name: asked of those that are left the rule answers the same.
 use mathlib.Core.Path.{_≡_, refl, sym, _∙_}
 use mathlib.Core.List.{List}
-use Prim.Native.Nat.{ℕ, _-_, _+_}
+use Prim.Native.Nat.{ℕ, _-_, _+_, _≤_}
+use native.Mathlib.Omega.{arith}
 use lib.ListN.{getD}
+use borrow.Author.Tests.{not-false}
 use borrow.Author.Needs.{needs}
 use Rattle.rules.specs.Heads.{name-in}
 use Rattle.rules.specs.Kept.{unheard}
 use Rattle.rules.specs.Columns.{name-at, earlier}
 use Rattle.rules.proofs.LawsNodes.{unheard-none, unheard-other, unheard-twice, unheard-end, titled-code}
+use Rattle.rules.proofs.LawsMarks.{unheard-marked}
 use Rattle.rules.proofs.unheard.Statement.{statement}
 use Rattle.rules.proofs.unheard.Tie as tie
 
 abbrev Inv-loop : tie.InvT-loop
-Inv-loop text codes starts keys i own j₀ j = (ds : List ℕ) → unheard (name-at text starts keys i) (earlier (name-in text starts) codes keys ds i) ≡ unheard (name-at text starts keys i) (earlier (name-in text starts) codes keys ds j)
+Inv-loop text codes starts keys marks i own j₀ j = (j ≤ i) × ((ds : List ℕ) → unheard (name-at text starts keys i) (earlier (name-in text starts) codes keys ds i) ≡ unheard (name-at text starts keys i) (earlier (name-in text starts) codes keys ds j))
 
 abbrev μ-loop : tie.MeasureT-loop
-μ-loop text codes starts keys i own j₀ j = j
+μ-loop text codes starts keys marks i own j₀ j = j
 
 name-requires : tie.Need-name-requires Inv-loop μ-loop
 name-requires c κs = search needs
 
 loop-holds : tie.Need-loop-holds Inv-loop μ-loop
-loop-holds c = λ ds. refl
+loop-holds c = (omega arith, λ ds. refl)
 
 sub-j : tie.Need-sub-j Inv-loop μ-loop
 sub-j c = search needs
+
+differ-requires : tie.Need-differ-requires Inv-loop μ-loop
+differ-requires c κs = search needs
 
 code-requires : tie.Need-code-requires Inv-loop μ-loop
 code-requires c κs = search needs
@@ -40,44 +46,60 @@ same-requires c κs = search needs
 
 returns : tie.Need-returns Inv-loop μ-loop
 returns c = λ ds.
-    let s = c .before .before .before .before .before .before .before .before .before .before .before .before .before .args in
+    let s = c .before .before .before .before .before .before .before .before .before .before .before .before .before .before .before .before .args in
     let cs = s .codes .now in
     let ks = s .keys .now in
     let nm = name-in (s .text .now) (s .starts .now) in
-    let j = c .before .before .before .before .before .before .before .loop .j in
-    sym (c .before .before .before .before .before .before .before .loop .inv ds ∙ unheard-twice nm cs ks ds j (c .before .before .before .before .before .before .loop-test .taken) (nm (getD ks (s .i) 0 + 2)) (titled-code nm cs ks ds (j - 1) ∙ (rw (c .before .before .before .before .before .code .ensures) at (sym (c .before .before .before .before .either .ensures) ∙ c .before .before .before .if1 .taken))) (rw (c .before .before .before .before .before .before .before .before .name .ensures, c .before .before .name2 .ensures) at (sym (c .before .same .ensures) ∙ c .if2 .taken)))
+    let j = c .before .before .before .before .before .before .before .before .before .loop .j in
+    sym (c .before .before .before .before .before .before .before .before .before .loop .inv .1 ds ∙ unheard-twice nm cs ks ds j (c .before .before .before .before .before .before .before .before .loop-test .taken) (nm (getD ks (s .i) 0 + 2)) (titled-code nm cs ks ds (j - 1) ∙ (rw (c .before .before .before .before .before .code .ensures) at (sym (c .before .before .before .before .either .ensures) ∙ c .before .before .before .if2 .taken))) (rw (c .before .before .before .before .before .before .before .before .before .before .name .ensures, c .before .before .name2 .ensures) at (sym (c .before .same .ensures) ∙ c .if3 .taken)))
 
 loop-less : tie.Need-loop-less Inv-loop μ-loop
 loop-less c = search needs
 
 loop-again : tie.Need-loop-again Inv-loop μ-loop
-loop-again c = λ ds.
-    let s = c .before .before .before .before .before .before .before .before .before .before .before .before .before .args in
-    let cs = s .codes .now in
-    let ks = s .keys .now in
-    let nm = name-in (s .text .now) (s .starts .now) in
-    let j = c .before .before .before .before .before .before .before .loop .j in
-    c .before .before .before .before .before .before .before .loop .inv ds ∙ unheard-other nm cs ks ds j (c .before .before .before .before .before .before .loop-test .taken) (nm (getD ks (s .i) 0 + 2)) (titled-code nm cs ks ds (j - 1) ∙ (rw (c .before .before .before .before .before .code .ensures) at (sym (c .before .before .before .before .either .ensures) ∙ c .before .before .before .if1 .taken))) (rw (c .before .before .before .before .before .before .before .before .name .ensures, c .before .before .name2 .ensures) at (sym (c .before .same .ensures) ∙ c .if2 .left))
+loop-again c = (
+  omega arith,
+  λ ds.
+      let s = c .before .before .before .before .before .before .before .before .before .before .before .before .before .before .before .before .args in
+      let cs = s .codes .now in
+      let ks = s .keys .now in
+      let nm = name-in (s .text .now) (s .starts .now) in
+      let j = c .before .before .before .before .before .before .before .before .before .loop .j in
+      c .before .before .before .before .before .before .before .before .before .loop .inv .1 ds ∙ unheard-other nm cs ks ds j (c .before .before .before .before .before .before .before .before .loop-test .taken) (nm (getD ks (s .i) 0 + 2)) (titled-code nm cs ks ds (j - 1) ∙ (rw (c .before .before .before .before .before .code .ensures) at (sym (c .before .before .before .before .either .ensures) ∙ c .before .before .before .if2 .taken))) (rw (c .before .before .before .before .before .before .before .before .before .before .name .ensures, c .before .before .name2 .ensures) at (sym (c .before .same .ensures) ∙ c .if3 .left)),
+)
 
 loop-less-2 : tie.Need-loop-less-2 Inv-loop μ-loop
 loop-less-2 c = search needs
 
 loop-again-2 : tie.Need-loop-again-2 Inv-loop μ-loop
-loop-again-2 c = λ ds.
-    let s = c .before .before .before .before .before .before .before .before .before .before .args in
-    let cs = s .codes .now in
-    let ks = s .keys .now in
-    let nm = name-in (s .text .now) (s .starts .now) in
-    let j = c .before .before .before .before .loop .j in
-    c .before .before .before .before .loop .inv ds ∙ unheard-none nm cs ks ds j (c .before .before .before .loop-test .taken) (nm (getD ks (s .i) 0 + 2)) (titled-code nm cs ks ds (j - 1) ∙ (rw (c .before .before .code .ensures) at (sym (c .before .either .ensures) ∙ c .if1 .left)))
+loop-again-2 c = (
+  omega arith,
+  λ ds.
+      let s = c .before .before .before .before .before .before .before .before .before .before .before .before .before .args in
+      let cs = s .codes .now in
+      let ks = s .keys .now in
+      let nm = name-in (s .text .now) (s .starts .now) in
+      let j = c .before .before .before .before .before .before .loop .j in
+      c .before .before .before .before .before .before .loop .inv .1 ds ∙ unheard-none nm cs ks ds j (c .before .before .before .before .before .loop-test .taken) (nm (getD ks (s .i) 0 + 2)) (titled-code nm cs ks ds (j - 1) ∙ (rw (c .before .before .code .ensures) at (sym (c .before .either .ensures) ∙ c .if2 .left))),
+)
+
+loop-less-3 : tie.Need-loop-less-3 Inv-loop μ-loop
+loop-less-3 c = search needs
+
+loop-again-3 : tie.Need-loop-again-3 Inv-loop μ-loop
+loop-again-3 c =
+    let z = c .before .before .before .before .before .before .before .before .before .before in
+    let s = z .args in
+    let l = c .before .before .before .loop in
+    (omega arith, λ ds. l .inv .1 ds ∙ unheard-marked (s .text .now) (s .starts .now) (s .codes .now) (s .keys .now) ds (s .marks .now) (z .pre .1) (s .i) (l .j) (z .pre .0) (c .before .before .loop-test .taken) (l .inv .0) (sym (c .before .differ .ensures) ∙ not-false _ (c .if1 .left)))
 
 returns-2 : tie.Need-returns-2 Inv-loop μ-loop
 returns-2 c = λ ds.
-    let s = c .before .before .before .before .before .before .before .args in
+    let s = c .before .before .before .before .before .before .before .before .args in
     let cs = s .codes .now in
     let ks = s .keys .now in
     let nm = name-in (s .text .now) (s .starts .now) in
-    sym (c .before .loop .inv ds ∙ unheard-end nm cs ks ds (c .before .loop .j) (nm (getD ks (s .i) 0 + 2)) (c .loop-test .left))
+    sym (c .before .loop .inv .1 ds ∙ unheard-end nm cs ks ds (c .before .loop .j) (nm (getD ks (s .i) 0 + 2)) (c .loop-test .left))
 
 pub unheard-spec : {M : Type 1} → statement M
 unheard-spec =
@@ -88,6 +110,7 @@ unheard-spec =
     name-requires
     loop-holds
     sub-j
+    differ-requires
     code-requires
     either-requires
     name-requires-2
@@ -97,4 +120,6 @@ unheard-spec =
     loop-again
     loop-less-2
     loop-again-2
+    loop-less-3
+    loop-again-3
     returns-2)
