@@ -1,4 +1,5 @@
 mod Table
+mod Known
 pub mod Front
 pub mod Between
 mod Slices

@@ -280,13 +280,20 @@ fn class(b: u8) -> u8
     CLASS[b as usize]
 }
 
+fn wide(b: u8) -> usize
+    ensures { λ r. ⌜ (r ≡ b) × (r < 256) ⌝ }
+{
+    b as usize
+}
+
 // Past the bytes from `at` on whose class is one of those from `low` to `high`.
 fn past(text: &[u8], at: usize, low: u8, high: u8) -> usize
     ensures { λ r. ⌜ r ≡ at + front (within low high) (drop at (now (text .entry))) ⌝ }
 {
+    let classes = CLASS;
     let mut i = at;
     while i < text.len() {
-        let c = class(text[i]);
+        let c = classes[wide(text[i])];
         if c < low {
             return i;
         }

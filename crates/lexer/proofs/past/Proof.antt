@@ -1,5 +1,4 @@
 -- `lexer::past` meets its contract. The loop's invariant: the same place is reached from `at` and from `i`.
-use borrow.Author.Needs.{needs}
 use Prim.Native.Nat.{_+_, _-_}
 use mathlib.Core.Path.{_≡_, refl, sym, _∙_}
 use lib.ListN.{length, drop}
@@ -7,35 +6,44 @@ use Rattle.lexer.specs.Classes.{within}
 use Rattle.lexer.specs.Words.{front}
 use Rattle.lexer.proofs.Front.{front-end, front-stop, front-more}
 use Rattle.lexer.proofs.Between.{between-in, between-low, between-high}
+use Rattle.lexer.proofs.Known.{Known, table, table-known, class-read}
+use borrow.Author.Needs.{needs}
 use Rattle.lexer.proofs.past.Statement.{statement}
 use Rattle.lexer.proofs.past.Tie as tie
+use Rattle.lexer.proofs.past.Reads as reads
+use Rattle.lexer.proofs.past.Lts as lts
+use Rattle.lexer.proofs.wide.Reads as wide-reads
 
 abbrev Inv-loop : tie.InvT-loop
-Inv-loop text at low high i₀ i = at + front (within low high) (drop at text) ≡ i + front (within low high) (drop i text)
+Inv-loop text at low high classes i₀ i = Known classes × (at + front (within low high) (drop at text) ≡ i + front (within low high) (drop i text))
 
 abbrev μ-loop : tie.MeasureT-loop
-μ-loop text at low high i₀ i = length text - i
+μ-loop text at low high classes i₀ i = length text - i
 
 loop-holds : tie.Need-loop-holds Inv-loop μ-loop
-loop-holds c = refl
+unfolding table
+loop-holds c = (table-known, refl)
 
-shared-slice-read-class : tie.Need-shared-slice-read-class Inv-loop μ-loop
-shared-slice-read-class c = search needs
+shared-slice-read-wide : tie.Need-shared-slice-read-wide Inv-loop μ-loop
+shared-slice-read-wide c = search needs
 
-class-requires : tie.Need-class-requires Inv-loop μ-loop
-class-requires c κs = search needs
+wide-requires : tie.Need-wide-requires Inv-loop μ-loop
+wide-requires c κs = search needs
+
+array-read-c : tie.Need-array-read-c Inv-loop μ-loop
+array-read-c c = search needs
 
 returns : tie.Need-returns Inv-loop μ-loop
 returns c =
     let b = c .before .before .before in
     let l = b .before .loop in
-    sym (l .inv ∙ front-stop _ _ (l .i) (b .loop-test .taken) (between-low _ _ _ (rw (c .before .class .ensures) at (c .if1 .taken))))
+    sym (l .inv .1 ∙ front-stop _ _ (l .i) (b .loop-test .taken) (between-low _ _ _ (rw (class-read _ _ _ (l .inv .0) (c .before .wide .ensures)) at (c .if1 .taken))))
 
 returns-2 : tie.Need-returns-2 Inv-loop μ-loop
 returns-2 c =
     let b = c .before .before .before .before in
     let l = b .before .loop in
-    sym (l .inv ∙ front-stop _ _ (l .i) (b .loop-test .taken) (between-high _ _ _ (rw (c .before .before .class .ensures) at (c .if2 .taken))))
+    sym (l .inv .1 ∙ front-stop _ _ (l .i) (b .loop-test .taken) (between-high _ _ _ (rw (class-read _ _ _ (l .inv .0) (c .before .before .wide .ensures)) at (c .if2 .taken))))
 
 add-i : tie.Need-add-i Inv-loop μ-loop
 add-i c = search needs
@@ -47,11 +55,15 @@ loop-again : tie.Need-loop-again Inv-loop μ-loop
 loop-again c =
     let b = c .before .before .before .before in
     let l = b .before .loop in
-    let e = c .before .before .class .ensures in
-    l .inv ∙ front-more _ _ (l .i) (b .loop-test .taken) (between-in _ _ _ (rw e at (c .before .if1 .left)) (rw e at (c .if2 .left)))
+    let w = c .before .before .wide .ensures in (
+      l .inv .0,
+      l .inv .1
+          ∙ front-more _ _ (l .i) (b .loop-test .taken)
+          (between-in _ _ _ (rw (class-read _ _ _ (l .inv .0) w) at (c .before .if1 .left)) (rw (class-read _ _ _ (l .inv .0) w) at (c .if2 .left))),
+    )
 
 returns-3 : tie.Need-returns-3 Inv-loop μ-loop
-returns-3 c = sym (c .before .loop .inv ∙ front-end _ _ (c .before .loop .i) (c .loop-test .left))
+returns-3 c = sym (c .before .loop .inv .1 ∙ front-end _ _ (c .before .loop .i) (c .loop-test .left))
 
 pub past-spec : {M : Type 1} → statement M
 past-spec =
@@ -60,8 +72,9 @@ past-spec =
     Inv-loop
     μ-loop
     loop-holds
-    shared-slice-read-class
-    class-requires
+    shared-slice-read-wide
+    wide-requires
+    array-read-c
     returns
     returns-2
     add-i
