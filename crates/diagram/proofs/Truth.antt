@@ -46,3 +46,9 @@ not-i p = rw p
 pub not-e : (a : Bool) → not a ≡ true → a ≡ false
 not-e true e = absurd (false≢true e)
 not-e false e = refl
+
+-- Tests that come out true together are the same.
+pub agree : (a b : Bool) → (a ≡ true → b ≡ true) → (b ≡ true → a ≡ true) → a ≡ b
+agree true b f g = sym (f refl)
+agree false true f g = g refl
+agree false false f g = refl

@@ -13,6 +13,7 @@ use Rattle.diagram.specs.Tree.{Name}
 use Rattle.diagram.proofs.Truth.{and-l, and-r, and-i, is-false, cases, not-i, not-e, clash, or-e}
 use Rattle.lexer.specs.Classes.{class-of, worded, blank}
 use Rattle.lexer.specs.Words.{front, blanks, every}
+use Rattle.lexer.proofs.Front.{front-every}
 use Rattle.lexer.specs.Spans.{Span, width, cut, spans, spans-of, tokens}
 use Rattle.grammar.specs.Derives.{token, all-tokens}
 
@@ -118,11 +119,6 @@ lexed-from (t ∷ ts) (suc f) at h p q =
 pub lexed : (ts : List Name) → all-tokens ts ≡ true → apart ts ≡ true → tokens (flatten ts) ≡ ts
 unfolding tokens spans-of
 lexed ts p q = lexed-from ts (length (flatten ts)) 0 (omega arith) p q
-
-front-every : (t : ℕ → Bool) (bs : List ℕ) → every t (take (front t bs) bs) ≡ true
-unfolding front
-front-every t [] = refl
-front-every t (b ∷ bs) = ⊎-elim (λ e. rw e (and-i e (front-every t bs))) (λ e. rw e) (cases (t b))
 
 pub front-stop : (t : ℕ → Bool) (bs : List ℕ) → stops t (drop (front t bs) bs) ≡ true
 unfolding front

@@ -7,8 +7,8 @@ use Prim.Native.Nat.{ℕ, zero, suc, _+_, _≤_, _<_}
 use native.Mathlib.Omega.{arith}
 use lib.ListN.{length}
 use Rattle.grammar.specs.Machine.{Want, node, root, Move, off, big, push, Outcome, whole, stop, expand, proceed, run, outcome, depths}
-use Rattle.grammar.specs.Limits.{nodes-in, count-of, too-big}
-use Rattle.grammar.proofs.LimitedFrom.{keys, opens, closes, big-at, big-in, big-here, big-later, big-nil, too-big-in, nodes-cons, Safe, safe-cons}
+use Rattle.grammar.specs.Limits.{nodes-in, count-of, over-limit}
+use Rattle.grammar.proofs.LimitedFrom.{keys, opens, closes, big-at, big-in, big-here, big-later, big-nil, over-limit-in, nodes-cons, Safe, safe-cons}
 use Rattle.grammar.proofs.Levels.{Turns, Level, turns-append, Moves, expand-moves}
 
 -- None of the first j tokens is too many or too deep.
@@ -64,7 +64,7 @@ outcome-told cs = told cs (node root depths ∷ []) 0 0 0 (0, omega arith, refl)
 
 -- Why the token k is refused with the number c, by the tokens alone.
 abbrev Known : List ℕ → ℕ → ℕ → Type 0
-Known cs c k = (c ≡ 5) ⊎ ((c ≡ 6) × (k < length cs) × (too-big cs k ≡ true))
+Known cs c k = (c ≡ 5) ⊎ ((c ≡ 6) × (k < length cs) × (over-limit cs k ≡ true))
 
 -- What a refusal says of the tokens.
 module _ (cs : List ℕ) (c k : ℕ) (e : outcome cs ≡ stop c k) where
@@ -74,15 +74,15 @@ module _ (cs : List ℕ) (c k : ℕ) (e : outcome cs ≡ stop c k) where
   place : refused .0 ≡ k
   place = let t = refused .1 in omega arith
 
-  none-before : (j : ℕ) → j < k → too-big cs j ≡ false
-  none-before j l = too-big-in cs j ∙ refused .3 j (rw place l)
+  none-before : (j : ℕ) → j < k → over-limit cs j ≡ false
+  none-before j l = over-limit-in cs j ∙ refused .3 j (rw place l)
 
   why : Known cs c k
   why = go (refused .4)
     where
       go : Why 0 0 cs (refused .0) c → Known cs c k
       go (inl x) = inl x
-      go (inr x) = inr (x .0, rw place at (x .1), too-big-in cs k ∙ rw place at (x .2))
+      go (inr x) = inr (x .0, rw place at (x .1), over-limit-in cs k ∙ rw place at (x .2))
 
   pub outcome-number : ((c ≡ 5) ⊎ (c ≡ 6)) × (k ≤ length cs)
   outcome-number = (go why, rw place at (refused .2))
@@ -91,17 +91,17 @@ module _ (cs : List ℕ) (c k : ℕ) (e : outcome cs ≡ stop c k) where
       go (inl x) = inl x
       go (inr x) = inr (x .0)
 
-pub big-too-big : (cs : List ℕ) (k : ℕ) → outcome cs ≡ stop 6 k → (k < length cs) × (too-big cs k ≡ true) × ((j : ℕ) → j < k → too-big cs j ≡ false)
-big-too-big cs k e = go (why cs 6 k e)
+pub big-over-limit : (cs : List ℕ) (k : ℕ) → outcome cs ≡ stop 6 k → (k < length cs) × (over-limit cs k ≡ true) × ((j : ℕ) → j < k → over-limit cs j ≡ false)
+big-over-limit cs k e = go (why cs 6 k e)
   where
-    go : Known cs 6 k → (k < length cs) × (too-big cs k ≡ true) × ((j : ℕ) → j < k → too-big cs j ≡ false)
+    go : Known cs 6 k → (k < length cs) × (over-limit cs k ≡ true) × ((j : ℕ) → j < k → over-limit cs j ≡ false)
     go (inl x) = let z : ⊥ = omega arith in absurd z
     go (inr x) = (x .1, x .2, none-before cs 6 k e)
 
-pub off-none-big : (cs : List ℕ) (k : ℕ) → outcome cs ≡ stop 5 k → (j : ℕ) → j < k → too-big cs j ≡ false
+pub off-none-big : (cs : List ℕ) (k : ℕ) → outcome cs ≡ stop 5 k → (j : ℕ) → j < k → over-limit cs j ≡ false
 off-none-big cs k e = none-before cs 5 k e
 
-pub whole-none-big : (cs : List ℕ) (n : ℕ) → outcome cs ≡ whole n → (n ≡ nodes-in cs) × ((j : ℕ) → too-big cs j ≡ false)
+pub whole-none-big : (cs : List ℕ) (n : ℕ) → outcome cs ≡ whole n → (n ≡ nodes-in cs) × ((j : ℕ) → over-limit cs j ≡ false)
 whole-none-big cs n e =
     let t : Told 0 0 0 cs (whole n) = rw e at (outcome-told cs) in
-    (omega arith, λ j. too-big-in cs j ∙ t .1 j)
+    (omega arith, λ j. over-limit-in cs j ∙ t .1 j)

@@ -10,7 +10,7 @@ use lib.Dec.{eqb, leb}
 use lib.ListN.{getD, take}
 use borrow.Author.Tests.{ne-eqb, leb-true}
 use Rattle.diagram.proofs.Truth.{is-false, and-l, and-r}
-use Rattle.grammar.specs.Limits.{keyed, count-of, nodes-in, too-big}
+use Rattle.grammar.specs.Limits.{keyed, count-of, nodes-in, over-limit}
 
 -- What a token adds to the nodes, to the opened and to the closed parentheses.
 abbrev pub keys : ℕ → ℕ
@@ -100,9 +100,9 @@ pub big-nil : (n p k : ℕ) → big-in n p [] k ≡ false
 unfolding big-in big-from
 big-nil n p k = refl
 
-pub too-big-in : (cs : List ℕ) (k : ℕ) → too-big cs k ≡ big-in 0 0 cs k
-unfolding too-big big-in
-too-big-in cs k =
+pub over-limit-in : (cs : List ℕ) (k : ℕ) → over-limit cs k ≡ big-in 0 0 cs k
+unfolding over-limit big-in
+over-limit-in cs k =
     sym (from-law cs k 0 0 0 ∙ rw (zero-add (nodes-in (take k cs)), zero-add (opened (take k cs)), zero-add (closed (take k cs))))
 
 -- None of these tokens is too many or too deep.

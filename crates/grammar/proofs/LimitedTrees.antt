@@ -17,9 +17,9 @@ use Rattle.diagram.proofs.Truth.{clash, is-false, and-l, and-r, or-l, or-r}
 use Rattle.lexer.specs.Words.{named, code}
 use Rattle.grammar.specs.Tokens.{opening, closing, comma, colon, key, group-key, replicator-key, bit, digits, pars-tokens, ref-tokens, flow-tokens, children-tokens, child-tokens, member-tokens, members-tokens}
 use Rattle.grammar.specs.Named.{all-named, flow-named, children-named, child-named, member-named, members-named}
-use Rattle.grammar.specs.Limits.{keyed, count-of, nodes-in, too-big}
+use Rattle.grammar.specs.Limits.{keyed, count-of, nodes-in, over-limit}
 use Rattle.grammar.specs.Derives.{Grammatical}
-use Rattle.grammar.proofs.LimitedFrom.{keys, opens, closes, flat, keyed-at-least, numeral-unkeyed, big-at, big-nil, too-big-in, nodes-cons, Safe, safe-cons}
+use Rattle.grammar.proofs.LimitedFrom.{keys, opens, closes, flat, keyed-at-least, numeral-unkeyed, big-at, big-nil, over-limit-in, nodes-cons, Safe, safe-cons}
 use Rattle.grammar.proofs.Codes.{to-range, Coded, coded-opening, coded-closing, coded-comma, coded-colon, coded-key, coded-digits, bit-value, coded-bit, coded-name}
 
 -- A token that is neither a keyword nor a parenthesis.
@@ -243,12 +243,12 @@ module _ (d : Flow) (g : Grammatical d) where
   unfolding count-of
   nodes-counted = whole-part .counted [] ∙ add-zero (flow-nodes d)
 
-  pub fits-none-big : flow-nodes d ≤ 256 → flow-depth d ≤ 12 → (j : ℕ) → too-big (map code (flow-tokens d [])) j ≡ false
+  pub fits-none-big : flow-nodes d ≤ 256 → flow-depth d ≤ 12 → (j : ℕ) → over-limit (map code (flow-tokens d [])) j ≡ false
   fits-none-big a b j =
-      too-big-in (map code (flow-tokens d [])) j
+      over-limit-in (map code (flow-tokens d [])) j
       ∙ whole-part .fits 0 [] .1 (omega arith, λ k. big-nil (0 + flow-nodes d) 0 k) j
 
-  pub none-big-fits : ((j : ℕ) → too-big (map code (flow-tokens d [])) j ≡ false) → (flow-nodes d ≤ 256) × (flow-depth d ≤ 12)
+  pub none-big-fits : ((j : ℕ) → over-limit (map code (flow-tokens d [])) j ≡ false) → (flow-nodes d ≤ 256) × (flow-depth d ≤ 12)
   none-big-fits h =
-      let r = whole-part .fits 0 [] .0 (λ k. sym (too-big-in (map code (flow-tokens d [])) k) ∙ h k) .0 in
+      let r = whole-part .fits 0 [] .0 (λ k. sym (over-limit-in (map code (flow-tokens d [])) k) ∙ h k) .0 in
       omega arith

@@ -1,23 +1,21 @@
 -- A text without its blanks is its tokens, one after the other.
 use mathlib.Core.Path.{_≡_, refl, sym, _∙_, ap}
 use mathlib.Core.Logic.{⊎-elim}
-use mathlib.Core.Bool.{Bool, true, false, _&&_, false≢true}
+use mathlib.Core.Bool.{Bool, true, _&&_, false≢true}
 use mathlib.Core.List.{List, [], _∷_, _++_, map, flatten}
 use Prim.Native.Nat.{ℕ, zero, suc, _+_, _≤_}
 use native.Mathlib.Omega.{arith}
-use lib.Dec.{leb}
 use lib.ListN.{length, take, drop, length-drop, take-append-drop}
 use Rattle.diagram.specs.Tree.{Name}
-use Rattle.diagram.proofs.Truth.{and-l, and-r, and-i, cases, not-i, not-e}
+use Rattle.diagram.proofs.Truth.{and-l, and-r, and-i, cases, not-e}
 use Rattle.lexer.specs.Classes.{class-of, worded, blank}
 use Rattle.lexer.specs.Words.{front, blanks, short, every}
 use Rattle.lexer.specs.Spans.{Span, width, cut, spans, spans-of, tokens}
 use Rattle.grammar.specs.Derives.{token}
 use Rattle.grammar.specs.Printed.{printed}
-use borrow.Author.Tests.{lt-leb}
 use Rattle.grammar.proofs.Codes.{in-range}
 use Rattle.grammar.proofs.Lexed.{stops, pieces, cut-is-token, front-stop, worded-no-blank}
-use Rattle.grammar.proofs.Rendered.{usual, proper, all-proper}
+use Rattle.grammar.proofs.Rendered.{usual, usual-class, proper, all-proper}
 
 pub printed-front : (bs : List ℕ) → printed (drop (blanks bs) bs) ≡ printed bs
 unfolding printed front
@@ -91,11 +89,7 @@ flatten-usual (t ∷ ts) h =
     (flatten-usual ts (and-r (proper t) (all-proper ts) h))
 
 blank-usual : (b : ℕ) → blank b ≡ true → usual b ≡ true
-blank-usual b h = let r = in-range 8 8 (class-of b) h in not-i (and-false (leb 0 (class-of b)) (lt-leb (class-of b) 0 (omega arith)))
-  where
-    and-false : (x : Bool) {y : Bool} → y ≡ false → (x && y) ≡ false
-    and-false true e = e
-    and-false false e = refl
+blank-usual b h = usual-class b (omega (arith, in-range 8 8 (class-of b) h .0))
 
 unprinted-usual : (bs : List ℕ) → every usual (printed bs) ≡ true → every usual bs ≡ true
 unfolding printed

@@ -1,6 +1,6 @@
 -- The tokens of a diagram can be written one after the other and read again: each is a token, and no two words stand side by side.
 use mathlib.Core.Path.{_≡_, refl}
-use mathlib.Core.Bool.{Bool, true, false, not, _&&_}
+use mathlib.Core.Bool.{Bool, true, false, not, and-false, _&&_}
 use mathlib.Core.List.{List, [], _∷_, flatten}
 use Prim.Native.Nat.{ℕ, _≤_}
 use native.Mathlib.Omega.{arith}
@@ -78,12 +78,12 @@ unfolding class-of
 fine-bit true = record { taken = refl; sound = refl }
 fine-bit false = record { taken = refl; sound = refl }
 
+-- A byte that has any class but the first is not foreign.
+pub usual-class : (b : ℕ) → 1 ≤ class-of b → usual b ≡ true
+usual-class b h = rw (lt-leb (class-of b) 0 (omega arith)) (not-i (and-false (leb 0 (class-of b))))
+
 worded-usual : (b : ℕ) → worded b ≡ true → usual b ≡ true
-worded-usual b h = let r = in-range 5 7 (class-of b) h in rw (lt-leb (class-of b) 0 (omega arith)) (not-i (and-false (leb 0 (class-of b))))
-  where
-    and-false : (x : Bool) → (x && false) ≡ false
-    and-false true = refl
-    and-false false = refl
+worded-usual b h = usual-class b (omega (arith, in-range 5 7 (class-of b) h .0))
 
 every-usual : (w : List ℕ) → every worded w ≡ true → every usual w ≡ true
 every-usual [] h = refl

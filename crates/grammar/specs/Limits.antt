@@ -25,5 +25,5 @@ abbrev pub depth-after : List ℕ → ℕ
 depth-after cs = suc (count-of (λ c. eqb c 1) cs - count-of (λ c. eqb c 2) cs)
 
 -- The token k is the keyword of a node that is one too many or too deep.
-unfoldable pub too-big : List ℕ → ℕ → Bool
-too-big cs k = keyed (getD cs k 0) && (leb 257 (suc (nodes-in (take k cs))) || leb 13 (depth-after (take k cs)))
+unfoldable pub over-limit : List ℕ → ℕ → Bool
+over-limit cs k = keyed (getD cs k 0) && (leb 257 (suc (nodes-in (take k cs))) || leb 13 (depth-after (take k cs)))

@@ -1,4 +1,4 @@
--- The loops over tokens: `long_word` and `tokens`, with no record of the code. Assumes nothing.
+-- The loops over tokens: `first_long` and `tokens`, with no record of the code. Assumes nothing.
 use mathlib.Core.Path.{_≡_, refl, sym, ap, _∙_}
 use mathlib.Core.List.{List, [], _∷_}
 use Prim.Native.Nat.{ℕ, zero, suc, _+_, _-_, _≤_, _<_}

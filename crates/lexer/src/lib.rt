@@ -493,7 +493,7 @@ fn foreign(text: &[u8]) -> usize
 }
 
 // The place of the first token of over 24 bytes, or the text's length.
-fn long_word(text: &[u8]) -> usize
+fn first_long(text: &[u8]) -> usize
     ensures { λ r. ⌜ r ≡ first-long (spans-of (now (text .entry))) (length (now (text .entry))) ⌝ }
 {
     let mut at = skip(text, 0);
@@ -559,7 +559,7 @@ pub fn scan_text(text: &[u8], codes: &mut [u8], starts: &mut [u16]) -> Scan
     if f < text.len() {
         return Scan::Refused(3, f);
     }
-    let l = long_word(text);
+    let l = first_long(text);
     if l < text.len() {
         return Scan::Refused(4, l);
     }

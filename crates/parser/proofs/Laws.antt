@@ -105,8 +105,8 @@ module _ {cs : List ℕ} {ws : List Want} {n k m j : ℕ} where
     pub off-grammar : expand w m t ≡ off → Reads cs ws n k (Stop 5 j)
     off-grammar e = stops 5 e (λ go. refl)
 
-    pub too-big : expand w m t ≡ big → Reads cs ws n k (Stop 6 j)
-    too-big e = stops 6 e (λ go. refl)
+    pub over-limit : expand w m t ≡ big → Reads cs ws n k (Stop 6 j)
+    over-limit e = stops 6 e (λ go. refl)
 
     pub counted : {u : ℕ} {us : List Want} → expand w m t ≡ push u us → Leads cs ws n k (us ++ vs) (m + u) (j + 1)
     counted {u} {us} e = record {

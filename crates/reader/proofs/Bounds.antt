@@ -13,7 +13,7 @@ use Rattle.diagram.proofs.Truth.{cases}
 use Rattle.lexer.specs.Spans.{places}
 use Rattle.lexer.proofs.Spans.{tokens-length, places-length, places-below}
 use Rattle.reader.specs.Answers.{read-of}
-use Rattle.reader.specs.Refused.{Derived, Turned, long, foreign-byte, long-word, off-grammar, too-large, name-twice, parameter, solid-line, weak, copies as many}
+use Rattle.reader.specs.Refused.{Derived, Turned, by-size, by-byte, by-word, by-token, by-limit, by-name, by-parameter, by-solid, by-strong, by-count}
 use Rattle.reader.specs.Bounds.{Bounded, result, refusal}
 use Rattle.reader.proofs.Laws.{same-inside}
 use Rattle.reader.proofs.Exact.{accepted-read, turned-read, Fate, taken, turned, fate}
@@ -45,19 +45,19 @@ derived-near : (text : List ℕ) (d : Flow) (at k : ℕ) → Derived text d → 
 derived-near text d at k g e = omega (arith, g .size, place-near text k 0 (omega arith))
 
 turned-near : (text : List ℕ) (c at : ℕ) → Turned text c at → Near text c at
-turned-near text c at (long e h) = near text c at 2 e (omega arith) (omega arith) (omega (arith, h .place))
-turned-near text c at (foreign-byte e h) = near text c at 3 e (omega arith) (omega arith) (omega (arith, h .inside, h .size))
-turned-near text c at (long-word e h) =
+turned-near text c at (by-size e h) = near text c at 2 e (omega arith) (omega arith) (omega (arith, h .place))
+turned-near text c at (by-byte e h) = near text c at 3 e (omega arith) (omega arith) (omega (arith, h .inside, h .size))
+turned-near text c at (by-word e h) =
     near text c at 4 e (omega arith) (omega arith) (omega (arith, h .place, h .size, place-near text (h .token) 0 (omega arith)))
-turned-near text c at (off-grammar e h) =
+turned-near text c at (by-token e h) =
     near text c at 5 e (omega arith) (omega arith) (omega (arith, h .place, h .clean .size, place-near text (h .token) (length text) (omega arith)))
-turned-near text c at (too-large e h) =
+turned-near text c at (by-limit e h) =
     near text c at 6 e (omega arith) (omega arith) (omega (arith, h .place, h .clean .size, place-near text (h .token) (length text) (omega arith)))
-turned-near text c at (name-twice e d h) = near text c at 7 e (omega arith) (omega arith) (derived-near text d at (h .token + 2) (h .derived) (h .place))
-turned-near text c at (parameter e d h) = near text c at 8 e (omega arith) (omega arith) (derived-near text d at (h .token) (h .derived) (h .place))
-turned-near text c at (solid-line e d h) = near text c at 9 e (omega arith) (omega arith) (derived-near text d at (h .token) (h .derived) (h .place))
-turned-near text c at (weak e d h) = near text c at 10 e (omega arith) (omega arith) (derived-near text d at (h .token) (h .derived) (h .place))
-turned-near text c at (many e d h) = near text c at 11 e (omega arith) (omega arith) (omega (arith, h .place))
+turned-near text c at (by-name e d h) = near text c at 7 e (omega arith) (omega arith) (derived-near text d at (h .token + 2) (h .derived) (h .place))
+turned-near text c at (by-parameter e d h) = near text c at 8 e (omega arith) (omega arith) (derived-near text d at (h .token) (h .derived) (h .place))
+turned-near text c at (by-solid e d h) = near text c at 9 e (omega arith) (omega arith) (derived-near text d at (h .token) (h .derived) (h .place))
+turned-near text c at (by-strong e d h) = near text c at 10 e (omega arith) (omega arith) (derived-near text d at (h .token) (h .derived) (h .place))
+turned-near text c at (by-count e d h) = near text c at 11 e (omega arith) (omega arith) (omega (arith, h .place))
 
 -- "Every answer is a result within the limits or one numbered refusal with its place."
 pub read-bounded : (text : List ℕ) → Bounded text (read-of text)

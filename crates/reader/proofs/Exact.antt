@@ -21,11 +21,11 @@ use Rattle.lexer.specs.Spans.{spans-of}
 use Rattle.lexer.specs.declared.Scan.{Scan}
 use Rattle.lexer.specs.declared.Scan.the-variants.{Tokens, Refused as Unscanned}
 use Rattle.grammar.specs.Machine.{stop, outcome}
-use Rattle.grammar.specs.Limits.{too-big}
+use Rattle.grammar.specs.Limits.{over-limit}
 use Rattle.grammar.specs.Derives.{all-tokens}
 use Rattle.grammar.proofs.Lexed.{text-tokens}
 use Rattle.grammar.proofs.Grammar.{Answered, read, strayed, outgrown, answered, off-viable, off-token, off-end, off-only, big-viable, shorter, derived-once}
-use Rattle.grammar.proofs.Limited.{big-too-big, off-none-big, whole-none-big}
+use Rattle.grammar.proofs.Limited.{big-over-limit, off-none-big, whole-none-big}
 use Rattle.rules.specs.declared.Found.{Found}
 use Rattle.rules.specs.declared.Found.the-variants.{At, Nothing}
 use Rattle.rules.specs.declared.Verdict.{Verdict}
@@ -38,7 +38,7 @@ use Rattle.rules.proofs.StrongsKept.{strongs-kept-iff}
 use Rattle.reader.specs.Nodes.{stored}
 use Rattle.reader.specs.Answers.{refused, place-of, judged, scanned, read-of}
 use Rattle.reader.specs.Accepted.{Accepted}
-use Rattle.reader.specs.Refused.{Clean, Off, Big, Derived, Turned, long, foreign-byte, long-word, off-grammar, too-large, name-twice, parameter, solid-line, weak as weakly, copies as many}
+use Rattle.reader.specs.Refused.{Clean, Off, Big, Derived, Turned, by-size, by-byte, by-word, by-token, by-limit, by-name, by-parameter, by-solid, by-strong, by-count}
 use Rattle.reader.specs.declared.Answer.{Answer}
 use Rattle.reader.specs.declared.Answer.the-variants.{Done, Refused}
 use Rattle.reader.specs.declared.Out.{Out}
@@ -80,7 +80,7 @@ stopped text c k h e = scanned-as text (Tokens (length (spans-of text))) (clean-
 off-stops : (text : List ℕ) (at : ℕ) (o : Off text at) → outcome (codes text) ≡ stop 5 (o .token)
 unfolding codes
 off-stops text at o =
-    ⊎-elim (λ r. absurd (true≢false (sym (big-too-big (map code (tokens text)) (r .0) (r .1) .1) ∙ o .small (r .0) (r .2)))) (λ r. r)
+    ⊎-elim (λ r. absurd (true≢false (sym (big-over-limit (map code (tokens text)) (r .0) (r .1) .1) ∙ o .small (r .0) (r .2)))) (λ r. r)
     (off-only (tokens text) (text-tokens text) (o .token) (o .before) (o .here) (o .early) (o .inside))
 
 big-stops : (text : List ℕ) (at : ℕ) (b : Big text at) → outcome (codes text) ≡ stop 6 (b .token)
@@ -96,7 +96,7 @@ big-stops text at b = go (answered ts tk)
     cs : List ℕ
     cs = map code (tokens text)
 
-    clash : {A : Type 0} → too-big cs (b .token) ≡ false → A
+    clash : {A : Type 0} → over-limit cs (b .token) ≡ false → A
     clash q = absurd (true≢false (sym (b .here) ∙ q))
 
     strays : (k : ℕ) → outcome cs ≡ stop 5 k → (x : Bool) → ltb (b .token) k ≡ x → outcome cs ≡ stop 6 (b .token)
@@ -106,8 +106,8 @@ big-stops text at b = go (answered ts tk)
         absurd (off-token ts tk k e (omega (arith, b .inside)) (shorter (suc k) (suc (b .token)) ts (omega arith) (b .viable)))
 
     meets : (k : ℕ) → outcome cs ≡ stop 6 k → (x y : Bool) → ltb (b .token) k ≡ x → ltb k (b .token) ≡ y → outcome cs ≡ stop 6 (b .token)
-    meets k e true y p q = clash (big-too-big cs k e .2 (b .token) (ltb-true (b .token) k p))
-    meets k e false true p q = absurd (true≢false (sym (big-too-big cs k e .1) ∙ b .first k (ltb-true k (b .token) q)))
+    meets k e true y p q = clash (big-over-limit cs k e .2 (b .token) (ltb-true (b .token) k p))
+    meets k e false true p q = absurd (true≢false (sym (big-over-limit cs k e .1) ∙ b .first k (ltb-true k (b .token) q)))
     meets k e false false p q = let z : k ≡ b .token = omega (arith, ltb-false (b .token) k p, ltb-false k (b .token) q) in e ∙ ap (stop 6) z
 
     go : Answered ts → outcome cs ≡ stop 6 (b .token)
@@ -119,28 +119,28 @@ numbered : (text : List ℕ) {c at : ℕ} (n p : ℕ) → c ≡ n → at ≡ p �
 numbered text n p e q r = rw (e, q) r
 
 pub turned-read : (text : List ℕ) (c at : ℕ) → Turned text c at → read-of text ≡ refused c at
-turned-read text c at (long e h) = numbered text 2 at e refl (scanned-as text (Unscanned 2 at) (long-scan text at h))
-turned-read text c at (foreign-byte e h) = numbered text 3 at e refl (scanned-as text (Unscanned 3 at) (foreign-scan text at h))
-turned-read text c at (long-word e h) = numbered text 4 at e refl (scanned-as text (Unscanned 4 at) (wordy-scan text at h))
-turned-read text c at (off-grammar e h) =
+turned-read text c at (by-size e h) = numbered text 2 at e refl (scanned-as text (Unscanned 2 at) (long-scan text at h))
+turned-read text c at (by-byte e h) = numbered text 3 at e refl (scanned-as text (Unscanned 3 at) (foreign-scan text at h))
+turned-read text c at (by-word e h) = numbered text 4 at e refl (scanned-as text (Unscanned 4 at) (wordy-scan text at h))
+turned-read text c at (by-token e h) =
     numbered text 5 (place-of text (places text) (h .token)) e (h .place) (stopped text 5 (h .token) (h .clean) (off-stops text at h))
-turned-read text c at (too-large e h) =
+turned-read text c at (by-limit e h) =
     numbered text 6 (place-of text (places text) (h .token)) e (h .place) (stopped text 6 (h .token) (h .clean) (big-stops text at h))
-turned-read text c at (name-twice e d h) =
+turned-read text c at (by-name e d h) =
     numbered text 7 (getD (places text) (h .token + 2) 0) e (h .place)
     (by-verdict text d (Unkept 7 (getD (places text) (h .token + 2) 0)) (h .derived) (rw (h .here)))
-turned-read text c at (parameter e d h) =
+turned-read text c at (by-parameter e d h) =
     numbered text 8 (getD (places text) (h .token) 0) e (h .place)
     (by-verdict text d (Unkept 8 (getD (places text) (h .token) 0)) (h .derived) (rw (names-kept-iff d .1 (h .names), h .here, add-zero (h .token))))
-turned-read text c at (solid-line e d h) =
+turned-read text c at (by-solid e d h) =
     numbered text 9 (getD (places text) (h .token) 0) e (h .place)
     (by-verdict text d (Unkept 9 (getD (places text) (h .token) 0)) (h .derived)
     (rw (names-kept-iff d .1 (h .names), parameters-kept-iff d .1 (h .parameters), h .here, add-zero (h .token))))
-turned-read text c at (weakly e d h) =
+turned-read text c at (by-strong e d h) =
     numbered text 10 (getD (places text) (h .token) 0) e (h .place)
     (by-verdict text d (Unkept 10 (getD (places text) (h .token) 0)) (h .derived)
     (rw (names-kept-iff d .1 (h .names), parameters-kept-iff d .1 (h .parameters), solids-kept-iff d .1 (h .solids), h .here, add-zero (h .token))))
-turned-read text c at (many e d h) =
+turned-read text c at (by-count e d h) =
     numbered text 11 0 e (h .place)
     (by-verdict text d (Unkept 11 0) (h .derived)
     (rw (
@@ -179,23 +179,23 @@ derived-fate text d g = names (twice d) refl
           copies = q .0;
           events = q .1;
         }
-    counts a b c e (inr q) = turned 11 0 (many refl d record { derived = g; names = a; parameters = b; solids = c; strongs = e; over = q; place = refl })
+    counts a b c e (inr q) = turned 11 0 (by-count refl d record { derived = g; names = a; parameters = b; solids = c; strongs = e; over = q; place = refl })
 
     strongs : differ (flow-names d []) ≡ true → flow-parameters d [] ≡ true → each-flow d solid ≡ true → (f : Found) → weak d ≡ f → Fate text
     strongs a b c (At k) e =
-        turned 10 (getD ps k 0) (weakly refl d record { derived = g; names = a; parameters = b; solids = c; token = k; here = e; place = refl })
+        turned 10 (getD ps k 0) (by-strong refl d record { derived = g; names = a; parameters = b; solids = c; token = k; here = e; place = refl })
     strongs a b c Nothing e = counts a b c (strongs-kept-iff d .0 e) (few-or-many (flow-copies d) (flow-events d))
 
     solids : differ (flow-names d []) ≡ true → flow-parameters d [] ≡ true → (f : Found) → unsolid d ≡ f → Fate text
-    solids a b (At k) e = turned 9 (getD ps k 0) (solid-line refl d record { derived = g; names = a; parameters = b; token = k; here = e; place = refl })
+    solids a b (At k) e = turned 9 (getD ps k 0) (by-solid refl d record { derived = g; names = a; parameters = b; token = k; here = e; place = refl })
     solids a b Nothing e = strongs a b (solids-kept-iff d .0 e) (weak d) refl
 
     parameters : differ (flow-names d []) ≡ true → (f : Found) → misplaced d ≡ f → Fate text
-    parameters a (At k) e = turned 8 (getD ps k 0) (parameter refl d record { derived = g; names = a; token = k; here = e; place = refl })
+    parameters a (At k) e = turned 8 (getD ps k 0) (by-parameter refl d record { derived = g; names = a; token = k; here = e; place = refl })
     parameters a Nothing e = solids a (parameters-kept-iff d .0 e) (unsolid d) refl
 
     names : (f : Found) → twice d ≡ f → Fate text
-    names (At k) e = turned 7 (getD ps (k + 2) 0) (name-twice refl d record { derived = g; token = k; here = e; place = refl })
+    names (At k) e = turned 7 (getD ps (k + 2) 0) (by-name refl d record { derived = g; token = k; here = e; place = refl })
     names Nothing e = parameters (names-kept-iff d .0 e) (misplaced d) refl
 
 clean-fate : (text : List ℕ) → Clean text → Fate text
@@ -207,7 +207,7 @@ clean-fate text h = go (answered (tokens text) (text-tokens text))
     go (strayed k e) =
         let v = off-viable (tokens text) (text-tokens text) k e in
         turned 5 (place-of text (places text) k)
-        (off-grammar refl
+        (by-token refl
         record {
           clean = h;
           token = k;
@@ -220,9 +220,9 @@ clean-fate text h = go (answered (tokens text) (text-tokens text))
         })
     go (outgrown k e) =
         let v = big-viable (tokens text) (text-tokens text) k e in
-        let b = big-too-big (map code (tokens text)) k e in
+        let b = big-over-limit (map code (tokens text)) k e in
         turned 6 (place-of text (places text) k)
-        (too-large refl record { clean = h; token = k; inside = v .0; viable = v .1; here = b .1; first = b .2; place = refl })
+        (by-limit refl record { clean = h; token = k; inside = v .0; viable = v .1; here = b .1; first = b .2; place = refl })
 
 pub fate : (text : List ℕ) → Fate text
 fate text = go (scan-of text) refl
@@ -230,8 +230,8 @@ fate text = go (scan-of text) refl
     go : (s : Scan) → scan-of text ≡ s → Fate text
     go (Tokens n) e = clean-fate text (scan-clean text n e)
     go (Unscanned c at) e =
-        ⊎-elim (λ r. turned c at (long (r .0) (r .1)))
-        (λ q. ⊎-elim (λ r. turned c at (foreign-byte (r .0) (r .1))) (λ r. turned c at (long-word (r .0) (r .1))) q)
+        ⊎-elim (λ r. turned c at (by-size (r .0) (r .1)))
+        (λ q. ⊎-elim (λ r. turned c at (by-byte (r .0) (r .1))) (λ r. turned c at (by-word (r .0) (r .1))) q)
         (scan-turned text c at e)
 
 done-refused : {A : Type 0} {c at : ℕ} → _≡_ {A = Answer} Done (Refused c at) → A

@@ -144,7 +144,7 @@ module _ (text : List ℕ) where
 data Sorted (text : List ℕ) : Type 0 where
   long : (at : ℕ) → Long text at → Sorted text
   foreign-byte : (at : ℕ) → Foreign text at → Sorted text
-  long-word : (at : ℕ) → Wordy text at → Sorted text
+  wordy-text : (at : ℕ) → Wordy text at → Sorted text
   clean : Clean text → Sorted text
 
 module _ (text : List ℕ) where
@@ -155,7 +155,7 @@ module _ (text : List ℕ) where
       ⊎-elim
       (λ e.
       let f = first-front fits l (ltb-true k (length l) e) in
-      long-word (getD (places text) k 0)
+      wordy-text (getD (places text) k 0)
       record {
         size = s;
         usual = u;
@@ -204,7 +204,7 @@ turned-by : {text : List ℕ} (c at : ℕ) → Sorted text → scan-of text ≡ 
     → ((c ≡ 2) × Long text at) ⊎ (((c ≡ 3) × Foreign text at) ⊎ ((c ≡ 4) × Wordy text at))
 turned-by {text} c at (long i h) e = let q = same-refusal e (long-scan text i h) in inl (q .0, rw (q .1) h)
 turned-by {text} c at (foreign-byte i h) e = let q = same-refusal e (foreign-scan text i h) in inr (inl (q .0, rw (q .1) h))
-turned-by {text} c at (long-word i h) e = let q = same-refusal e (wordy-scan text i h) in inr (inr (q .0, rw (q .1) h))
+turned-by {text} c at (wordy-text i h) e = let q = same-refusal e (wordy-scan text i h) in inr (inr (q .0, rw (q .1) h))
 turned-by {text} c at (clean h) e = absurd (no-refusal e (clean-scan text h))
 
 pub scan-turned : (text : List ℕ) (c at : ℕ) → scan-of text ≡ Refused c at
@@ -214,7 +214,7 @@ scan-turned text c at e = turned-by c at (sorted text) e
 clean-by : {text : List ℕ} (n : ℕ) → Sorted text → scan-of text ≡ Tokens n → Clean text
 clean-by {text} n (long i h) e = absurd (no-refusal (long-scan text i h) e)
 clean-by {text} n (foreign-byte i h) e = absurd (no-refusal (foreign-scan text i h) e)
-clean-by {text} n (long-word i h) e = absurd (no-refusal (wordy-scan text i h) e)
+clean-by {text} n (wordy-text i h) e = absurd (no-refusal (wordy-scan text i h) e)
 clean-by {text} n (clean h) e = h
 
 pub scan-clean : (text : List ℕ) (n : ℕ) → scan-of text ≡ Tokens n → Clean text

@@ -16,13 +16,13 @@ use Rattle.lexer.specs.Words.{short, every, code}
 use Rattle.lexer.specs.Spans.{tokens, codes, places}
 use Rattle.lexer.proofs.Spans.{token-word, code-worded}
 use Rattle.grammar.specs.Machine.{whole, outcome}
-use Rattle.grammar.specs.Limits.{too-big}
+use Rattle.grammar.specs.Limits.{over-limit}
 use Rattle.grammar.specs.Derives.{Derives}
 use Rattle.grammar.proofs.Lexed.{text-tokens}
 use Rattle.grammar.proofs.Rendered.{usual, proper, all-proper, diagram-sound}
 use Rattle.grammar.proofs.Printing.{proper-usual}
 use Rattle.grammar.proofs.Grammar.{read-derives, derived-read}
-use Rattle.grammar.proofs.Limited.{big-too-big, whole-none-big}
+use Rattle.grammar.proofs.Limited.{big-over-limit, whole-none-big}
 use Rattle.grammar.proofs.LimitedTrees.{fits-none-big, none-big-fits}
 use Rattle.rules.specs.Heads.{heads, name-in}
 use Rattle.rules.proofs.Trees.{flow-heads}
@@ -58,10 +58,10 @@ derived-clean text d g =
 pub derived-outcome : (text : List ℕ) (d : Flow) → Derived text d → (n : ℕ) × (outcome (codes text) ≡ whole n)
 unfolding codes
 derived-outcome text d g =
-    ⊎-elim (λ r. r) (λ r. absurd (true≢false (sym (big-too-big (map code (tokens text)) (r .0) (r .1) .1) ∙ small (r .0))))
+    ⊎-elim (λ r. r) (λ r. absurd (true≢false (sym (big-over-limit (map code (tokens text)) (r .0) (r .1) .1) ∙ small (r .0))))
     (derived-read (tokens text) (text-tokens text) d (g .derives))
   where
-    small : (j : ℕ) → too-big (map code (tokens text)) j ≡ false
+    small : (j : ℕ) → over-limit (map code (tokens text)) j ≡ false
     small j = rw (g .derives .told) (fits-none-big d (g .derives .proper) (g .nodes) (g .depth) j)
 
 -- A text that is read is derived by a diagram within the limits.

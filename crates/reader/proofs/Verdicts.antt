@@ -1,7 +1,7 @@
 -- What the rules answer for the nodes of a tree, by the tree.
-use mathlib.Core.Path.{_≡_, refl, sym, _∙_}
+use mathlib.Core.Path.{_≡_, sym, _∙_}
 use mathlib.Core.Logic.{_⊎_, inl, inr, ⊎-elim}
-use mathlib.Core.Bool.{Bool, true, false, _||_, cond}
+use mathlib.Core.Bool.{or-true, false, _||_, cond}
 use mathlib.Core.List.{List, []}
 use Prim.Native.Nat.{ℕ, _≤_, _<_}
 use native.Mathlib.Omega.{arith}
@@ -65,10 +65,6 @@ counted-few x y h k = rw (capped-small x h, capped-small y (omega arith), le-ltb
 pub counted-many : (x y : ℕ) → (768 < x) ⊎ (512 < y) → counted (capped x) (capped y) ≡ Refused 11 0
 counted-many x y h = rw (capped-over 768 x (omega arith), capped-over 512 y (omega arith)) (over h)
   where
-    or-true : (b : Bool) → (b || true) ≡ true
-    or-true true = refl
-    or-true false = refl
-
     over : (768 < x) ⊎ (512 < y) → cond (ltb 768 x || ltb 512 y) (Refused 11 0) (Kept (capped x) (capped y)) ≡ Refused 11 0
     over (inl l) = rw (lt-ltb 768 x l)
     over (inr l) = rw (lt-ltb 512 y l, or-true (ltb 768 x))

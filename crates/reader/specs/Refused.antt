@@ -13,7 +13,7 @@ use Rattle.diagram.specs.Parameters.{flow-parameters}
 use Rattle.diagram.specs.Flows.{each-flow, solid, strong}
 use Rattle.lexer.specs.Classes.{foreign}
 use Rattle.lexer.specs.Spans.{tokens, codes, places}
-use Rattle.grammar.specs.Limits.{too-big}
+use Rattle.grammar.specs.Limits.{over-limit}
 use Rattle.grammar.specs.Derives.{Derives, Viable}
 use Rattle.rules.specs.Sites.{flow-sites, first-twice, first-broken}
 use Rattle.rules.specs.declared.Found.the-variants.{At}
@@ -60,7 +60,7 @@ pub record Off (text : List ℕ) (at : ℕ) : Type 0 where
   pub before : Viable (take token (tokens text))
   pub here : token < length (tokens text) → Viable (take (suc token) (tokens text)) → ⊥
   pub early : token ≡ length (tokens text) → (d : Flow) → Derives (tokens text) d → ⊥
-  pub small : (j : ℕ) → j < token → too-big (codes text) j ≡ false
+  pub small : (j : ℕ) → j < token → over-limit (codes text) j ≡ false
   pub place : at ≡ place-of text (places text) token
 
 -- 6: "node 257, or a node at depth 13", at "its keyword". That token and those before it are not off grammar, and it is the first such.
@@ -69,8 +69,8 @@ pub record Big (text : List ℕ) (at : ℕ) : Type 0 where
   pub token : ℕ
   pub inside : token < length (tokens text)
   pub viable : Viable (take (suc token) (tokens text))
-  pub here : too-big (codes text) token ≡ true
-  pub first : (j : ℕ) → j < token → too-big (codes text) j ≡ false
+  pub here : over-limit (codes text) token ≡ true
+  pub first : (j : ℕ) → j < token → over-limit (codes text) j ≡ false
   pub place : at ≡ place-of text (places text) token
 
 -- The text is not refused for its tokens: a diagram of at most 256 nodes and 12 depths derives it.
@@ -126,13 +126,13 @@ pub record Many (text : List ℕ) (at : ℕ) (d : Flow) : Type 0 where
 
 -- A text is turned away with this number at this place.
 pub data Turned (text : List ℕ) (number at : ℕ) : Type 0 where
-  long : number ≡ 2 → Long text at → Turned text number at
-  foreign-byte : number ≡ 3 → Foreign text at → Turned text number at
-  long-word : number ≡ 4 → Wordy text at → Turned text number at
-  off-grammar : number ≡ 5 → Off text at → Turned text number at
-  too-large : number ≡ 6 → Big text at → Turned text number at
-  name-twice : number ≡ 7 → (d : Flow) → Twice text at d → Turned text number at
-  parameter : number ≡ 8 → (d : Flow) → Misplaced text at d → Turned text number at
-  solid-line : number ≡ 9 → (d : Flow) → Unsolid text at d → Turned text number at
-  weak : number ≡ 10 → (d : Flow) → Weak text at d → Turned text number at
-  copies : number ≡ 11 → (d : Flow) → Many text at d → Turned text number at
+  by-size : number ≡ 2 → Long text at → Turned text number at
+  by-byte : number ≡ 3 → Foreign text at → Turned text number at
+  by-word : number ≡ 4 → Wordy text at → Turned text number at
+  by-token : number ≡ 5 → Off text at → Turned text number at
+  by-limit : number ≡ 6 → Big text at → Turned text number at
+  by-name : number ≡ 7 → (d : Flow) → Twice text at d → Turned text number at
+  by-parameter : number ≡ 8 → (d : Flow) → Misplaced text at d → Turned text number at
+  by-solid : number ≡ 9 → (d : Flow) → Unsolid text at d → Turned text number at
+  by-strong : number ≡ 10 → (d : Flow) → Weak text at d → Turned text number at
+  by-count : number ≡ 11 → (d : Flow) → Many text at d → Turned text number at

@@ -6,6 +6,7 @@ use mathlib.Core.List.{List, [], _∷_, _++_}
 use Prim.Native.Nat.{ℕ, suc}
 use Rattle.diagram.specs.Tree.{Name, Flow, flow, Children, none, next, Child, plain, loop, group, replicator, Member, leaf, inner, Members, end, also}
 use Rattle.diagram.specs.Names.{same, new, differ, flow-names, children-names, child-names, member-names, members-names}
+use Rattle.diagram.proofs.Truth.{agree}
 use Rattle.diagram.proofs.Equal.{same-decides}
 use Rattle.rules.specs.Heads.{Head}
 use Rattle.rules.specs.Kept.{titled, names-kept, fault}
@@ -33,11 +34,6 @@ clean-iff : (x : Found) (b : Bool) → clean x ≡ b → (x ≡ Nothing) ↔ (b 
 clean-iff x b e = (λ h. sym e ∙ ap clean h, λ h. clean-nothing x (e ∙ h))
 
 -- The test of names does not mind their order.
-agree : (a b : Bool) → (a ≡ true → b ≡ true) → (b ≡ true → a ≡ true) → a ≡ b
-agree true b f g = sym (f refl)
-agree false true f g = g refl
-agree false false f g = refl
-
 same-turned : (m n : Name) → same m n ≡ same n m
 same-turned m n =
     agree (same m n) (same n m) (λ e. same-decides n m .1 (sym (same-decides m n .0 e))) (λ e. same-decides m n .1 (sym (same-decides n m .0 e)))

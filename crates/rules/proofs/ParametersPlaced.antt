@@ -9,6 +9,7 @@ use Rattle.diagram.specs.Tree.{Name, Flow, flow, Children, none, next, Child, p
 use Rattle.diagram.specs.Names.{equal, same, new}
 use Rattle.diagram.specs.Parameters.{surrounded}
 use Rattle.diagram.specs.Flows.{solid}
+use Rattle.diagram.proofs.Truth.{agree}
 use Rattle.diagram.proofs.Equal.{all-same-decides}
 use Rattle.rules.specs.Heads.{Head, flowing, copying}
 use Rattle.rules.specs.Kept.{around, parameters-kept, fault}
@@ -39,14 +40,9 @@ new-onto m (x ∷ l) r = new-onto m l (x ∷ r) ∙ swap (new m l) (not (same m 
 new-back : (m : Name) (l : List Name) → new m (reverse l) ≡ new m l
 new-back m l = new-onto m l [] ∙ and-true (new m l)
 
-both-ways : (a b : Bool) → (a ≡ true → b ≡ true) → (b ≡ true → a ≡ true) → a ≡ b
-both-ways true b f g = sym (f refl)
-both-ways false true f g = g refl
-both-ways false false f g = refl
-
 equal-back : (l m : List Name) → equal same (reverse l) (reverse m) ≡ equal same l m
 equal-back l m =
-    both-ways (equal same (reverse l) (reverse m)) (equal same l m)
+    agree (equal same (reverse l) (reverse m)) (equal same l m)
     (λ h. all-same-decides l m .1 (sym (reverse-reverse l) ∙ ap reverse (all-same-decides (reverse l) (reverse m) .0 h) ∙ reverse-reverse m))
     (λ h. all-same-decides (reverse l) (reverse m) .1 (ap reverse (all-same-decides l m .0 h)))
 

@@ -14,13 +14,13 @@ foreign-requires c κs = search needs
 returns-2 : tie.Need-returns-2
 returns-2 c = answered _ _ _ _ _ _ (scan-foreign _ (c .before .before .if1 .left) _ (c .before .foreign .ensures) (c .if2 .taken)) refl refl
 
-long-word-requires : tie.Need-long-word-requires
-long-word-requires c κs = search needs
+first-long-requires : tie.Need-first-long-requires
+first-long-requires c κs = search needs
 
 returns-3 : tie.Need-returns-3
 returns-3 c =
     let f = c .before .before .before in
-    answered _ _ _ _ _ _ (scan-word _ (f .before .if1 .left) _ (f .foreign .ensures) (c .before .before .if2 .left) _ (c .before .long-word .ensures) (c .if3 .taken)) refl refl
+    answered _ _ _ _ _ _ (scan-word _ (f .before .if1 .left) _ (f .foreign .ensures) (c .before .before .if2 .left) _ (c .before .first-long .ensures) (c .if3 .taken)) refl refl
 
 tokens-requires : tie.Need-tokens-requires
 tokens-requires c κs = search needs
@@ -37,7 +37,7 @@ returns-4 c =
     let l = c .before .before .before .before .before .before .before in
     let f = l .before .before .before in
     answered _ _ _ _ _ _
-    (scan-tokens _ (f .before .if1 .left) _ (f .foreign .ensures) (l .before .before .if2 .left) _ (l .before .long-word .ensures) _ (l .if3 .left) (t .0))
+    (scan-tokens _ (f .before .if1 .left) _ (f .foreign .ensures) (l .before .before .if2 .left) _ (l .before .first-long .ensures) _ (l .if3 .left) (t .0))
     (t .1 .0) (t .1 .1)
 
 pub scan-text-spec : {M : Type 1} → statement M
@@ -47,7 +47,7 @@ scan-text-spec =
     returns
     foreign-requires
     returns-2
-    long-word-requires
+    first-long-requires
     returns-3
     tokens-requires
     same-length

@@ -10,7 +10,7 @@ use lib.ListN.{length}
 use borrow.Fn.Kinds.{In}
 use borrow.Fn.PlainCycle.{Measures, is, falls, and}
 use Rattle.grammar.specs.Machine.{node, more, others, child, ref, parts}
-use Rattle.parser.proofs.Laws.{Leads, starts, halts, goes, ends, off-grammar, too-big, closes, within, opens, another-child, another-member, more-ends, others-end, node-below, node-above, node-deep, node-many, group-parts, replicator-parts, loop-parts, reads-same}
+use Rattle.parser.proofs.Laws.{Leads, starts, halts, goes, ends, off-grammar, over-limit, closes, within, opens, another-child, another-member, more-ends, others-end, node-below, node-above, node-deep, node-many, group-parts, replicator-parts, loop-parts, reads-same}
 use Rattle.parser.proofs.read_child.Reads as read-child
 use Rattle.parser.proofs.read_child.Kinds as read-child-kinds
 use Rattle.parser.proofs.+read_child+read_constructor+read_flow+read_group+read_loop+read_replicator.Lts-read_child as read-child-lts
@@ -121,10 +121,10 @@ module _ (t : ℕ) where
   read-child-returns-2 c = off-grammar starts (c .before .before .token .ensures) (node-above _ _ _ _ (c .if2 .taken))
 
   read-child-returns-3 : read-child-lts.Need-returns-3 (read-child-claims t) (read-child-at t) read-child.Post
-  read-child-returns-3 c = too-big starts (c .before .before .before .token .ensures) (node-deep _ _ _ _ (c .before .before .if1 .left) (c .before .if2 .left) (c .if3 .taken))
+  read-child-returns-3 c = over-limit starts (c .before .before .before .token .ensures) (node-deep _ _ _ _ (c .before .before .if1 .left) (c .before .if2 .left) (c .if3 .taken))
 
   read-child-returns-4 : read-child-lts.Need-returns-4 (read-child-claims t) (read-child-at t) read-child.Post
-  read-child-returns-4 c = too-big starts (c .before .before .before .before .token .ensures) (node-many _ _ _ _ (c .before .before .before .if1 .left) (c .before .before .if2 .left) (omega arith))
+  read-child-returns-4 c = over-limit starts (c .before .before .before .before .token .ensures) (node-many _ _ _ _ (c .before .before .before .if1 .left) (c .before .before .if2 .left) (omega arith))
 
   read-child-add-p : read-child-lts.Need-add-p (read-child-claims t) (read-child-at t) read-child.Post
   read-child-add-p c =

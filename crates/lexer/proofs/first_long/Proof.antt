@@ -1,11 +1,11 @@
--- `lexer::long_word` meets its contract. The loop's invariant: no token before `at` is long.
+-- `lexer::first_long` meets its contract. The loop's invariant: no token before `at` is long.
 use Prim.Native.Nat.{_-_}
 use lib.ListN.{length}
 use Rattle.lexer.proofs.Filled.{end-after, less-left, Short-so-far, short-start, long-here, short-again, short-all}
 use borrow.Author.Needs.{needs}
 use native.Mathlib.Omega.{arith}
-use Rattle.lexer.proofs.long_word.Statement.{statement}
-use Rattle.lexer.proofs.long_word.Tie as tie
+use Rattle.lexer.proofs.first_long.Statement.{statement}
+use Rattle.lexer.proofs.first_long.Tie as tie
 
 abbrev Inv-loop : tie.InvT-loop
 Inv-loop text at₀ at = Short-so-far text at
@@ -42,8 +42,8 @@ loop-again c =
 returns-2 : tie.Need-returns-2 Inv-loop μ-loop
 returns-2 c = short-all _ _ (c .before .loop .inv) (c .loop-test .left)
 
-pub long-word-spec : {M : Type 1} → statement M
-long-word-spec =
+pub first-long-spec : {M : Type 1} → statement M
+first-long-spec =
     tie.close
     (tie.spec
     Inv-loop
