@@ -64,11 +64,6 @@ token-blanks [] r p = absurd (false≢true p)
 token-blanks (b ∷ []) r p = rw (not-e (blank b) p)
 token-blanks (b ∷ c ∷ w) r p = rw (worded-no-blank b (and-l (worded b) (every worded (c ∷ w)) p))
 
-token-every : (t : Name) → token t ≡ true → wordy t ≡ true → every worded t ≡ true
-token-every [] p q = absurd (false≢true q)
-token-every (b ∷ []) p q = and-i q refl
-token-every (b ∷ c ∷ w) p q = p
-
 -- A token's bytes, before what does not go on with its word.
 token-width : (t r : List ℕ) → token t ≡ true → (not (wordy t) ≡ true) ⊎ (stops worded r ≡ true) → width (t ++ r) ≡ length t
 unfolding width

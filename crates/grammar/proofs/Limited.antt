@@ -84,13 +84,6 @@ module _ (cs : List ℕ) (c k : ℕ) (e : outcome cs ≡ stop c k) where
       go (inl x) = inl x
       go (inr x) = inr (x .0, rw place at (x .1), over-limit-in cs k ∙ rw place at (x .2))
 
-  pub outcome-number : ((c ≡ 5) ⊎ (c ≡ 6)) × (k ≤ length cs)
-  outcome-number = (go why, rw place at (refused .2))
-    where
-      go : Known cs c k → (c ≡ 5) ⊎ (c ≡ 6)
-      go (inl x) = inl x
-      go (inr x) = inr (x .0)
-
 pub big-over-limit : (cs : List ℕ) (k : ℕ) → outcome cs ≡ stop 6 k → (k < length cs) × (over-limit cs k ≡ true) × ((j : ℕ) → j < k → over-limit cs j ≡ false)
 big-over-limit cs k e = go (why cs 6 k e)
   where

@@ -6,7 +6,7 @@ use Prim.Native.Nat.{ℕ, suc, _+_, _-_, _≤_, _<_}
 use native.Mathlib.Nat.{add-zero, add-suc, suc-add}
 use native.Mathlib.Numerals.{add-one}
 use native.Mathlib.Omega.{arith}
-use lib.ListN.{length, take, drop, getD, drop-of-length-le, length-drop}
+use lib.ListN.{length, take, drop, getD, drop-of-length-le}
 use lib.Seq.{drop-cons, drop-drop}
 use Rattle.lexer.specs.Words.{front, every}
 
@@ -31,9 +31,6 @@ pub front-le : (t : ℕ → Bool) (bs : List ℕ) → front t bs ≤ length bs
 unfolding front
 front-le t [] = omega arith
 front-le t (b ∷ bs) = cond-le (t b) (front t bs) (length bs) (front-le t bs)
-
-pub front-within : (t : ℕ → Bool) (text : List ℕ) (at : ℕ) → front t (drop at text) ≤ length text - at
-front-within t text at = rw (← length-drop at text) (front-le t (drop at text))
 
 -- Two tests that agree have the same front.
 pub front-same : (t u : ℕ → Bool) → ((b : ℕ) → t b ≡ u b) → (bs : List ℕ) → front t bs ≡ front u bs

@@ -1,23 +1,18 @@
 -- What the tokens of a text are, token by token: as many numbers and places as tokens, each a part of the text; and a token's number is
 -- 6 exactly where it is a name.
 use mathlib.Core.Path.{_≡_, refl, sym, ap, _∙_, subst}
-use mathlib.Core.Bool.{Bool, true, false, _&&_, cond}
+use mathlib.Core.Bool.{Bool, true, false, cond}
 use mathlib.Core.List.{List, [], _∷_}
 use Prim.Native.Nat.{ℕ, zero, suc, _+_, _-_, _≤_, _<_}
 use native.Mathlib.Omega.{arith}
-use lib.Dec.{eqb, ltb}
 use lib.ListN.{length, take, drop, getD, length-drop, length-map, List·getD-map}
 use lib.Seq.{drop-drop, getD-take}
-use borrow.Author.Tests.{eq-eqb, eqb-true, ltb-false}
 use Rattle.diagram.specs.Tree.{Name}
-use Rattle.diagram.specs.Names.{same}
-use Rattle.diagram.proofs.Truth.{and-l, and-r, and-i, clash}
-use Rattle.lexer.specs.Classes.{between, class-of, letter, worded}
-use Rattle.lexer.specs.Words.{front, blanks, word-at, place-in, keywords, keyword, short, every, lettered, named, numeral, word-code, code}
+use Rattle.diagram.proofs.Truth.{clash}
+use Rattle.lexer.specs.Classes.{between, class-of, worded}
+use Rattle.lexer.specs.Words.{front, blanks, word-at, word-code, code}
 use Rattle.lexer.specs.Spans.{Span, width, cut, spans, spans-of, tokens, codes, places}
-use Rattle.lexer.proofs.Between.{between-in, between-from, between-to}
-use Rattle.lexer.proofs.Front.{front-every}
-use Rattle.lexer.proofs.Ways.{lettered-first}
+use Rattle.lexer.proofs.Between.{between-in}
 use Rattle.lexer.proofs.Steps.{width-some}
 
 pub tokens-length : (text : List ℕ) → length (tokens text) ≡ length (spans-of text)
@@ -115,10 +110,6 @@ pub token-word : (text : List ℕ) (k : ℕ) → k < length (tokens text) → wo
     → word-at text (getD (places text) k 0) ≡ getD (tokens text) k []
 token-word text k h e = rw (place-at text k, token-at text k) (whole-word text (getD (spans-of text) k no-span) (stands text k h) (rw (token-at text k) at e))
 
-pub token-worded : (text : List ℕ) (k : ℕ) → k < length (tokens text) → worded (getD (getD (tokens text) k []) 0 0) ≡ true
-    → every worded (getD (tokens text) k []) ≡ true
-token-worded text k h e = rw (← token-word text k h e) (front-every worded (drop (getD (places text) k 0) text))
-
 -- The number 6.
 worded-if : (v : Bool) (c n : ℕ) → between 5 7 c ≡ v → cond v n c ≡ 6 → v ≡ true
 worded-if true c n e h = refl
@@ -127,64 +118,3 @@ worded-if false c n e h = absurd (clash (between-in 5 7 c (omega arith) (omega a
 pub code-worded : (w : Name) → code w ≡ 6 → worded (getD w 0 0) ≡ true
 unfolding code
 code-worded w h = worded-if (worded (getD w 0 0)) (class-of (getD w 0 0)) (word-code w) refl h
-
-pub word-of : (text : List ℕ) (k : ℕ) → k < length (tokens text) → getD (codes text) k 0 ≡ 6
-    → word-at text (getD (places text) k 0) ≡ getD (tokens text) k []
-word-of text k h e = token-word text k h (code-worded (getD (tokens text) k []) (sym (code-at text k) ∙ e))
-
-placed-if : (b : Bool) (k n : ℕ) → 7 ≤ k → (n ≡ 6 → ⊥) → cond b k n ≡ 6 → ⊥
-placed-if true k n h f e = omega arith
-placed-if false k n h f e = f e
-
-placed : (ns : List Name) (k : ℕ) (w : Name) → 7 ≤ k → place-in ns k w ≡ 6 → ⊥
-placed [] k w h e = omega arith
-placed (n ∷ ns) k w h e = placed-if (same w n) k (place-in ns (suc k) w) h (placed ns (suc k) w (omega arith)) e
-
-keyword-not : (w : Name) → keyword w ≡ 6 → ⊥
-unfolding keyword
-keyword-not w e = placed keywords 7 w (omega arith) e
-
-counted-if : (a b x d : ℕ) (v : Bool) → between a b x ≡ v → d + 7 ≤ a → cond v (x - d) 5 ≡ 6 → ⊥
-counted-if a b x d true e h q = let l = between-from a b x e in omega arith
-counted-if a b x d false e h q = omega arith
-
-teen-if : (t : Bool) (y : ℕ) → cond (t && between 48 54 y) (y - 22) 5 ≡ 6 → ⊥
-teen-if true y q = counted-if 48 54 y 22 (between 48 54 y) refl (omega arith) q
-teen-if false y q = omega arith
-
-numeral-not : (w : Name) → numeral w ≡ 6 → ⊥
-unfolding numeral
-numeral-not [] q = omega arith
-numeral-not (x ∷ []) q = counted-if 48 57 x 32 (between 48 57 x) refl (omega arith) q
-numeral-not (x ∷ y ∷ []) q = teen-if (eqb x 49) y q
-numeral-not (x ∷ y ∷ z ∷ w) q = omega arith
-
-named-if : (b l s : Bool) (k n : ℕ) → ltb 0 k ≡ b → (k ≡ 6 → ⊥) → (n ≡ 6 → ⊥) → cond b k (cond l (cond s 6 5) n) ≡ 6
-    → (k ≡ 0) × (l ≡ true) × (s ≡ true)
-named-if true l s k n e f g h = absurd (f h)
-named-if false true true k n e f g h = let z = ltb-false 0 k e in (omega arith, refl, refl)
-named-if false true false k n e f g h = let z : ⊥ = omega arith in absurd z
-named-if false false s k n e f g h = absurd (g h)
-
-pub code-name : (w : Name) → code w ≡ 6 → every worded w ≡ true → named w ≡ true
-unfolding code word-code named
-code-name w h e =
-    let v = code-worded w h in
-    let p = named-if (ltb 0 (keyword w)) (lettered w) (short w) (keyword w) (numeral w) refl (keyword-not w) (numeral-not w) (rw v at h) in
-    and-i (and-i (p .1) e) (and-i (p .2) (eq-eqb (keyword w) 0 (p .0)))
-
-letter-worded : (b : ℕ) → letter b ≡ true → worded b ≡ true
-letter-worded b e =
-    let h = between-from 5 5 (class-of b) e in
-    let l = between-to 5 5 (class-of b) e in
-    between-in 5 7 (class-of b) h (omega arith)
-
-pub name-code : (w : Name) → named w ≡ true → code w ≡ 6
-unfolding code word-code named
-name-code w h =
-    let a = and-l (lettered w && every worded w) (short w && eqb (keyword w) 0) h in
-    let b = and-r (lettered w && every worded w) (short w && eqb (keyword w) 0) h in
-    let l = and-l (lettered w) (every worded w) a in
-    let v = letter-worded (getD w 0 0) (sym (lettered-first w) ∙ l) in
-    let k : keyword w ≡ 0 = eqb-true (keyword w) 0 (and-r (short w) (eqb (keyword w) 0) b) in
-    rw (v, k, l, and-l (short w) (eqb (keyword w) 0) b)

@@ -156,9 +156,6 @@ pub data Fate (text : List ℕ) : Type 0 where
   taken : (d : Flow) → Accepted text d → Fate text
   turned : (c at : ℕ) → Turned text c at → Fate text
 
-at-rest : (k : ℕ) (places : List ℕ) → getD places (k + 0) 0 ≡ getD places k 0
-at-rest k places = rw (add-zero k)
-
 -- The rules, one after the other, where a diagram within the limits derives the text.
 derived-fate : (text : List ℕ) (d : Flow) → Derived text d → Fate text
 derived-fate text d g = names (twice d) refl

@@ -15,15 +15,9 @@ use Rattle.lexer.specs.Spans.{Span, spans-of, tokens, places}
 use Rattle.lexer.specs.Scanned.{first-foreign, first-long, scan-of}
 use Rattle.lexer.specs.declared.Scan.{Scan}
 use Rattle.lexer.specs.declared.Scan.the-variants.{Tokens, Refused}
-use Rattle.lexer.proofs.Spans.{no-span, tokens-length, token-at, place-at, tokens-bounded, places-below}
+use Rattle.lexer.proofs.Spans.{no-span, tokens-length, token-at, place-at, places-below}
 use Rattle.grammar.proofs.Rendered.{usual}
 use Rattle.reader.specs.Refused.{Long, Foreign, Usual, Wordy, Clean}
-
-pub tokens-few : (text : List ℕ) → length (tokens text) ≤ length text
-tokens-few text = rw (tokens-length text) (tokens-bounded text)
-
-pub places-inside : (text : List ℕ) (k : ℕ) → k < length (tokens text) → getD (places text) k 0 < length text
-places-inside text k h = places-below text k h
 
 -- The first number of a list that fails a test.
 record First (t : ℕ → Bool) (l : List ℕ) (n : ℕ) : Type 0 where

@@ -2,10 +2,9 @@
 use mathlib.Core.Path.{_≡_, refl, sym, _∙_, ap, ap₂}
 use mathlib.Core.Logic.{⊎-elim}
 use mathlib.Core.List.{List, [], _∷_}
-use Prim.Native.Nat.{ℕ, zero, suc, _+_, _<_}
+use Prim.Native.Nat.{ℕ, suc}
 use native.Mathlib.Numerals.{add-one}
-use native.Mathlib.Omega.{arith}
-use lib.ListN.{length, getD, drop}
+use lib.ListN.{length, drop}
 use lib.Seq.{drop-drop}
 use Rattle.diagram.specs.Tree.{Name}
 use Rattle.diagram.proofs.Truth.{cases}
@@ -40,22 +39,3 @@ unfolding depths count-of
 depths-count p [] = refl
 depths-count p (c ∷ cs) =
     ⊎-elim (λ y. rw y (ap suc (depths-count p cs))) (λ n. rw n (depths-count (opened p c) cs)) (cases (keyed c))
-
--- Each entry is below a bound.
-abbrev Below : ℕ → List ℕ → Type 0
-Below b ks = (j : ℕ) → j < length ks → getD ks j 0 < b
-
-below-cons : (b k : ℕ) (ks : List ℕ) → k < b → Below b ks → Below b (k ∷ ks)
-below-cons b k ks h f zero g = h
-below-cons b k ks h f (suc j) g = f j (omega arith)
-
-keys-below : (cs : List ℕ) (k : ℕ) → Below (k + length cs) (keys k cs)
-unfolding keys
-keys-below [] k = λ j h. let z : ⊥ = omega arith in absurd z
-keys-below (c ∷ cs) k =
-    let e : suc k + length cs ≡ k + suc (length cs) = omega arith in
-    let f : Below (k + suc (length cs)) (keys (suc k) cs) = rw (← e) (keys-below cs (suc k)) in
-    ⊎-elim (λ y. rw y (below-cons (k + suc (length cs)) k (keys (suc k) cs) (omega arith) f)) (λ n. rw n f) (cases (keyed c))
-
-pub key-below : (cs : List ℕ) (j : ℕ) → j < length (keys 0 cs) → getD (keys 0 cs) j 0 < length cs
-key-below cs j h = omega (arith, keys-below cs 0 j h)

@@ -7,7 +7,7 @@ use native.Mathlib.Nat.{mul-zero, mul-suc, mul-assoc, mul-le-mul-right, zero-add
 use native.Mathlib.Omega.{arith}
 use lib.Dec.{ltb}
 use lib.ListN.{length, getD}
-use borrow.Author.Tests.{lt-ltb, le-ltb, ltb-true}
+use borrow.Author.Tests.{lt-ltb, ltb-true}
 use Rattle.diagram.specs.Tree.{Name}
 use Rattle.rules.specs.Heads.{Head, by-columns}
 use Rattle.rules.specs.Counted.{times, total, capped}
@@ -16,9 +16,6 @@ use Rattle.rules.proofs.LawsNodes.{before-more, node-depth, from-here, 
 
 capped-over : (n : ℕ) → 768 < n → capped n ≡ 769
 capped-over n h = rw (lt-ltb 768 n h)
-
-capped-under : (n : ℕ) → n ≤ 768 → capped n ≡ n
-capped-under n h = rw (le-ltb 768 n h)
 
 over-product : (a b : ℕ) → 768 < a → 768 < a * suc b
 over-product a b h = rw (mul-suc a b) (omega arith)
