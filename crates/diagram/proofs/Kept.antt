@@ -9,7 +9,7 @@ use Rattle.diagram.specs.Names.{flow-names, differ}
 use Rattle.diagram.specs.Parameters.{flow-parameters}
 use Rattle.diagram.specs.Flows.{each-flow, solid, strong}
 use Rattle.diagram.specs.Rules.{Keeps}
-use Rattle.diagram.proofs.Truth.{and-l, and-r, and-i}
+use Rattle.base.proofs.Truth.{and-l, and-r, and-i}
 
 abbrev pub keeps? : Flow → Bool
 keeps? d = flow-sized d && (differ (flow-names d []) && (flow-parameters d [] && (each-flow d solid && each-flow d strong)))

@@ -1,4 +1,3 @@
-pub mod Truth
 pub mod Equal
 pub mod Kept
 pub mod Counted

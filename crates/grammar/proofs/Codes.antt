@@ -11,7 +11,7 @@ use lib.ListN.{length, getD}
 use borrow.Author.Tests.{lt-ltb, le-ltb, le-leb, lt-leb, eq-eqb, leb-true, leb-false, eqb-true, eqb-false}
 use Rattle.diagram.specs.Tree.{Name}
 use Rattle.diagram.specs.Names.{same}
-use Rattle.diagram.proofs.Truth.{clash, cases, and-l, and-r, and-i, not-e}
+use Rattle.base.proofs.Truth.{clash, cases, and-l, and-r, and-i, not-e}
 use Rattle.diagram.proofs.Equal.{same-decides}
 use Rattle.lexer.specs.Classes.{between, class-of, worded, blank}
 use Rattle.lexer.specs.Words.{keywords, place-in, keyword, short, every, lettered, named, numeral, word-code, code}

@@ -7,7 +7,7 @@ use Prim.Native.Nat.{ℕ, suc, _+_, _-_, _≤_}
 use native.Mathlib.Omega.{arith}
 use lib.Dec.{eqb, ltb, leb}
 use borrow.Author.Tests.{eqb-true, eq-eqb, leb-true, leb-false, le-leb, lt-leb}
-use Rattle.diagram.proofs.Truth.{clash, is-false, and-l, and-r, and-i, or-l, or-r, or-e, or-map}
+use Rattle.base.proofs.Truth.{clash, is-false, and-l, and-r, and-i, or-l, or-r, or-e, or-map}
 use Rattle.lexer.specs.Classes.{between}
 use Rattle.grammar.specs.Machine.{Want, sign, number, params, param, node, more, others, Move, off, big, push, child, member, ref, parts, full, begin, expand}
 use Rattle.grammar.specs.Limits.{keyed}

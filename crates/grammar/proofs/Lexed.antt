@@ -10,7 +10,7 @@ use lib.ListN.{length, take, drop, length-append}
 use lib.Seq.{take-append-seam, drop-append-seam}
 use borrow.Author.Tests.{leb-true}
 use Rattle.diagram.specs.Tree.{Name}
-use Rattle.diagram.proofs.Truth.{and-l, and-r, and-i, is-false, cases, not-i, not-e, clash, or-e}
+use Rattle.base.proofs.Truth.{and-l, and-r, and-i, is-false, cases, not-i, not-e, clash, or-e}
 use Rattle.lexer.specs.Classes.{class-of, worded, blank}
 use Rattle.lexer.specs.Words.{front, blanks, every}
 use Rattle.lexer.proofs.Front.{front-every}

@@ -9,7 +9,7 @@ use native.Mathlib.Omega.{arith}
 use lib.Dec.{eqb, leb}
 use lib.ListN.{getD, take}
 use borrow.Author.Tests.{ne-eqb, leb-true}
-use Rattle.diagram.proofs.Truth.{is-false, and-l, and-r}
+use Rattle.base.proofs.Truth.{is-false, and-l, and-r}
 use Rattle.grammar.specs.Limits.{keyed, count-of, nodes-in, over-limit}
 
 -- What a token adds to the nodes, to the opened and to the closed parentheses.

@@ -13,7 +13,7 @@ use Rattle.diagram.specs.Tree.{Name, Way, all, some, one, Flow, flow, Children,
 use Rattle.diagram.specs.Count.{flow-nodes, children-nodes, child-nodes, member-nodes, members-nodes}
 use Rattle.diagram.specs.Depth.{flow-depth, children-depth, child-depth, member-depth, members-depth}
 use Rattle.diagram.specs.Sizes.{flow-sized, children-sized, child-sized, member-sized, members-sized}
-use Rattle.diagram.proofs.Truth.{clash, is-false, and-l, and-r, or-l, or-r}
+use Rattle.base.proofs.Truth.{clash, is-false, and-l, and-r, or-l, or-r}
 use Rattle.lexer.specs.Words.{named, code}
 use Rattle.grammar.specs.Tokens.{opening, closing, comma, colon, key, group-key, replicator-key, bit, digits, pars-tokens, ref-tokens, flow-tokens, children-tokens, child-tokens, member-tokens, members-tokens}
 use Rattle.grammar.specs.Named.{all-named, flow-named, children-named, child-named, member-named, members-named}

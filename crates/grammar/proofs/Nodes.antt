@@ -7,7 +7,7 @@ use native.Mathlib.Omega.{arith}
 use lib.Dec.{leb}
 use Rattle.diagram.specs.Tree.{Name, Way, all, some, one, flow, Children, Child, plain, loop, group, replicator, Member, leaf, inner, Members}
 use Rattle.diagram.specs.Sizes.{flow-sized, children-sized, child-sized, member-sized, members-sized}
-use Rattle.diagram.proofs.Truth.{and-l, and-r, and-i}
+use Rattle.base.proofs.Truth.{and-l, and-r, and-i}
 use Rattle.lexer.specs.Classes.{between}
 use Rattle.lexer.specs.Words.{named}
 use Rattle.grammar.specs.Tokens.{opening, closing, colon, bit, digits, group-key, replicator-key, ref-tokens, flow-tokens, children-tokens, child-tokens, member-tokens}

@@ -7,7 +7,7 @@ use Prim.Native.Nat.{ℕ, zero, suc, _+_, _≤_}
 use native.Mathlib.Omega.{arith}
 use lib.ListN.{length, take, drop, length-drop, take-append-drop}
 use Rattle.diagram.specs.Tree.{Name}
-use Rattle.diagram.proofs.Truth.{and-l, and-r, and-i, cases, not-e}
+use Rattle.base.proofs.Truth.{and-l, and-r, and-i, cases, not-e}
 use Rattle.lexer.specs.Classes.{class-of, worded, blank}
 use Rattle.lexer.specs.Words.{front, blanks, short, every}
 use Rattle.lexer.specs.Spans.{Span, width, cut, spans, spans-of, tokens}

@@ -8,7 +8,7 @@ use lib.Dec.{eqb, leb}
 use borrow.Author.Tests.{leb-true, lt-leb}
 use Rattle.diagram.specs.Tree.{Name, Way, all, some, one, Flow, flow, Children, none, next, Child, plain, loop, group, replicator, Member, leaf, inner, Members, end, also}
 use Rattle.diagram.specs.Sizes.{flow-sized, children-sized, child-sized, member-sized, members-sized}
-use Rattle.diagram.proofs.Truth.{and-l, and-r, and-i, or-l, or-r, not-i}
+use Rattle.base.proofs.Truth.{and-l, and-r, and-i, or-l, or-r, not-i}
 use Rattle.lexer.specs.Classes.{class-of, foreign, worded}
 use Rattle.lexer.specs.Words.{keywords, keyword, short, every, lettered, named}
 use Rattle.lexer.specs.Spans.{tokens}

@@ -7,7 +7,7 @@ use Prim.Native.Nat.{ℕ, suc, _+_, _≤_, _<_}
 use native.Mathlib.Omega.{arith}
 use lib.ListN.{length, take}
 use Rattle.diagram.specs.Tree.{Name}
-use Rattle.diagram.proofs.Truth.{and-l, and-r}
+use Rattle.base.proofs.Truth.{and-l, and-r}
 use Rattle.lexer.specs.Words.{code}
 use Rattle.grammar.specs.Machine.{Want, Move, off, big, push, Outcome, whole, stop, expand, proceed, run}
 use Rattle.grammar.specs.Derives.{token, all-tokens}

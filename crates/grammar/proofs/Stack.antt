@@ -8,7 +8,7 @@ use lib.Dec.{eqb, ltb, leb}
 use borrow.Author.Tests.{eqb-true}
 use Rattle.diagram.specs.Tree.{Name, Way, all, some, one, Children, Child, plain, loop, group, replicator, Member, leaf, inner, Members}
 use Rattle.diagram.specs.Sizes.{children-sized, child-sized, member-sized, members-sized}
-use Rattle.diagram.proofs.Truth.{and-l}
+use Rattle.base.proofs.Truth.{and-l}
 use Rattle.lexer.specs.Classes.{between}
 use Rattle.lexer.specs.Words.{named, code}
 use Rattle.grammar.specs.Tokens.{opening, closing, comma, colon, key, bit, digits, pars-tokens, children-tokens, child-tokens, member-tokens, members-tokens}

@@ -9,7 +9,7 @@ use lib.Dec.{eqb}
 use borrow.Author.Tests.{eqb-true, eq-eqb, ne-eqb}
 use Rattle.diagram.specs.Tree.{Name, all, some, one, Children, none, next, Members, end, also}
 use Rattle.diagram.specs.Sizes.{children-sized, child-sized, member-sized, members-sized}
-use Rattle.diagram.proofs.Truth.{and-l, and-r, and-i}
+use Rattle.base.proofs.Truth.{and-l, and-r, and-i}
 use Rattle.lexer.specs.Classes.{between}
 use Rattle.lexer.specs.Words.{named, code}
 use Rattle.grammar.specs.Tokens.{closing, comma, bit, pars-tokens, ref-tokens, children-tokens, members-tokens}

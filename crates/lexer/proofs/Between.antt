@@ -6,7 +6,7 @@ use Prim.Native.Nat.{ℕ, zero, suc, _-_, _≤_, _<_}
 use native.Mathlib.Omega.{arith}
 use lib.Dec.{eqb, leb}
 use borrow.Author.Tests.{le-leb, leb-true}
-use Rattle.diagram.proofs.Truth.{and-l, and-r, and-i, is-false}
+use Rattle.base.proofs.Truth.{and-l, and-r, and-i, is-false}
 use Rattle.lexer.specs.Classes.{between, class-of, within, foreign}
 use Rattle.lexer.specs.Words.{front}
 use Rattle.lexer.specs.Scanned.{first-foreign}

@@ -8,9 +8,10 @@ use native.Mathlib.Omega.{arith}
 use lib.ListN.{length, take, drop, getD, set, length-drop}
 use lib.Seq.{getD-drop, drop-drop, take-all}
 use borrow.Author.Tests.{le-leb, lt-leb}
+use Rattle.base.specs.Fill.{fill}
+use Rattle.base.proofs.Filled.{fill-none, fill-more}
 use Rattle.lexer.specs.Words.{blanks, code}
 use Rattle.lexer.specs.Spans.{Span, width, spans-of, codes, places}
-use Rattle.lexer.specs.Fill.{fill}
 use Rattle.lexer.specs.Scanned.{first-long}
 use Rattle.lexer.proofs.Slices.{bytes-length}
 use Rattle.lexer.proofs.Steps.{width-some, width-le, from, from-start, from-end, from-skip, from-token}
@@ -57,42 +58,6 @@ module _ (text : List ℕ) (at e : ℕ) (so : Short-so-far text at) (h : at < le
 pub short-all : (text : List ℕ) (at : ℕ) → Short-so-far text at → length text ≤ at → length text ≡ first-long (spans-of text) (length text)
 unfolding first-long
 short-all text at so h = sym (so .1 ∙ rw (from-end text at h))
-
--- A lent list keeps its length.
-pub fill-length : (xs vs : List ℕ) → length (fill xs vs) ≡ length xs
-unfolding fill
-fill-length [] vs = refl
-fill-length (x ∷ xs) [] = refl
-fill-length (x ∷ xs) (v ∷ vs) = ap suc (fill-length xs vs)
-
--- What was written over the front of a list that is long enough, and what stands past it.
-pub fill-front : (xs vs : List ℕ) → length vs ≤ length xs → take (length vs) (fill xs vs) ≡ vs
-unfolding fill
-fill-front [] [] h = refl
-fill-front [] (v ∷ vs) h = let z : ⊥ = omega arith in absurd z
-fill-front (x ∷ xs) [] h = refl
-fill-front (x ∷ xs) (v ∷ vs) h = ap (λ (l : List ℕ). v ∷ l) (fill-front xs vs (omega arith))
-
-pub fill-past : (xs vs : List ℕ) → drop (length vs) (fill xs vs) ≡ drop (length vs) xs
-unfolding fill
-fill-past [] [] = refl
-fill-past [] (v ∷ vs) = refl
-fill-past (x ∷ xs) [] = refl
-fill-past (x ∷ xs) (v ∷ vs) = fill-past xs vs
-
--- Writing one value more over the front of a lent list.
-pub fill-none : (xs : List ℕ) → fill xs [] ≡ xs
-unfolding fill
-fill-none [] = refl
-fill-none (x ∷ xs) = refl
-
-pub fill-more : (xs vs : List ℕ) (n : ℕ) → n < length vs → set (fill xs (take n vs)) n (getD vs n 0) ≡ fill xs (take (suc n) vs)
-unfolding fill
-fill-more xs [] n h = let z : ⊥ = omega arith in absurd z
-fill-more [] (v ∷ vs) zero h = refl
-fill-more (x ∷ xs) (v ∷ vs) zero h = rw (fill-none xs)
-fill-more [] (v ∷ vs) (suc n) h = refl
-fill-more (x ∷ xs) (v ∷ vs) (suc n) h = rw (fill-more xs vs n (omega arith))
 
 -- The front of a list that is written up to a place.
 next-of : (xs : List ℕ) (vs : List ℕ) (n v : ℕ) (ys zs : List ℕ) → n < length vs → getD vs n 0 ≡ v → ys ≡ fill xs (take n vs) → zs ≡ set ys n v

@@ -10,7 +10,7 @@ use lib.ListN.{length, take, drop, getD, length-drop}
 use lib.Seq.{take-suc, take-all, length-take-le, getD-take, getD-drop, drop-cons}
 use Rattle.diagram.specs.Tree.{Name}
 use Rattle.diagram.specs.Names.{same}
-use Rattle.diagram.proofs.Truth.{is-false}
+use Rattle.base.proofs.Truth.{is-false}
 use Rattle.diagram.proofs.Equal.{same-decides}
 
 pub differ : (m n : Name) → (m ≡ n → ⊥) → false ≡ same m n

@@ -8,7 +8,7 @@ use native.Mathlib.Omega.{arith}
 use lib.ListN.{length, take, drop, getD, length-drop, length-map, List·getD-map}
 use lib.Seq.{drop-drop, getD-take}
 use Rattle.diagram.specs.Tree.{Name}
-use Rattle.diagram.proofs.Truth.{clash}
+use Rattle.base.proofs.Truth.{clash}
 use Rattle.lexer.specs.Classes.{between, class-of, worded}
 use Rattle.lexer.specs.Words.{front, blanks, word-at, word-code, code}
 use Rattle.lexer.specs.Spans.{Span, width, cut, spans, spans-of, tokens, codes, places}

@@ -8,7 +8,7 @@ use lib.ListN.{length, take, drop, getD, length-drop}
 use borrow.Author.Tests.{eq-eqb, ne-eqb, lt-ltb, le-ltb, le-leb, lt-leb}
 use Rattle.diagram.specs.Tree.{Name}
 use Rattle.diagram.specs.Names.{same}
-use Rattle.diagram.proofs.Truth.{is-false}
+use Rattle.base.proofs.Truth.{is-false}
 use Rattle.lexer.specs.Classes.{between, class-of, letter, worded}
 use Rattle.lexer.specs.Words.{front, place-in, keywords, keyword, lettered, numeral, word-code, code}
 use Rattle.lexer.specs.Spans.{width}

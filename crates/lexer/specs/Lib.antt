@@ -1,5 +1,4 @@
 pub mod Classes
 pub mod Words
 pub mod Spans
-pub mod Fill
 pub mod Scanned

@@ -7,7 +7,7 @@ use lib.ListN.{length}
 use Rattle.lexer.specs.Classes.{foreign}
 use Rattle.lexer.specs.Words.{front, short}
 use Rattle.lexer.specs.Spans.{Span, spans-of}
-use Rattle.lexer.specs.Fill.{fill}
+use Rattle.base.specs.Fill.{fill}
 use Rattle.lexer.specs.declared.Scan.{Scan}
 use Rattle.lexer.specs.declared.Scan.the-variants.{Tokens, Refused}
 

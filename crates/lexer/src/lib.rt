@@ -6,7 +6,7 @@ ghost use Rattle.lexer.specs.Classes.{class-of, within, worded};
 ghost use Rattle.lexer.specs.Words.{front, blanks, word-at, keyword as keyword-of, numeral as numeral-of, word-code, code as code-of};
 ghost use Rattle.lexer.specs.Spans.{spans-of, width, codes as codes-of, places as places-of};
 ghost use Rattle.lexer.specs.Scanned.{first-foreign, first-long, scan-of, written};
-ghost use Rattle.lexer.specs.Fill.{fill};
+ghost use Rattle.base.specs.Fill.{fill};
 
 // The class of each byte: 0 foreign, 1 to 4 the signs ( ) , : in this order, 5 letter, 6 digit, 7 underscore, 8 blank.
 const CLASS: [u8; 256] = [
@@ -507,16 +507,7 @@ fn first_long(text: &[u8]) -> usize
     text.len()
 }
 
-// A store that does nothing past the end of what is lent; for bytes, and for places.
-pub fn put_byte(bytes: &mut [u8], n: usize, b: u8)
-    ensures { λ r. ⌜ now (bytes .exit) ≡ set (now (bytes .entry)) n b ⌝ }
-{
-    if bytes.len() <= n {
-        return;
-    }
-    bytes[n] = b;
-}
-
+// As `base::put_byte`, for places.
 fn put_start(starts: &mut [u16], n: usize, at: u16)
     ensures { λ r. ⌜ now (starts .exit) ≡ set (now (starts .entry)) n at ⌝ }
 {
@@ -538,7 +529,7 @@ fn tokens(text: &[u8], codes: &mut [u8], starts: &mut [u16]) -> usize
     while at < text.len() {
         let e = token_end(text, at);
         let c = code(text, at, e);
-        put_byte(codes, n, c);
+        base::put_byte(codes, n, c);
         put_start(starts, n, at as u16);
         n += 1;
         at = skip(text, e);

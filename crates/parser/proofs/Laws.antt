@@ -12,7 +12,7 @@ use lib.Dec.{eqb, ltb, leb}
 use lib.ListN.{length, getD, drop-of-length-le, List·getD-eq-default}
 use lib.Seq.{drop-cons}
 use borrow.Author.Tests.{ltb-true, ltb-false, lt-ltb, le-ltb, le-leb, lt-leb, eq-eqb, ne-eqb}
-use Rattle.diagram.proofs.Truth.{cases}
+use Rattle.base.proofs.Truth.{cases}
 use Rattle.lexer.specs.Classes.{between}
 use Rattle.grammar.specs.Machine.{Want, sign, number, params, param, node, more, others, Move, off, big, push, Outcome, stop, member, child, ref, parts, full, begin, expand, proceed, run}
 use Rattle.parser.specs.declared.Step.{Step}

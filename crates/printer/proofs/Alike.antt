@@ -6,7 +6,7 @@ use Prim.Native.Nat.{ℕ, _≤_}
 use native.Mathlib.Omega.{arith}
 use lib.ListN.{length}
 use Rattle.diagram.specs.Tree.{Flow}
-use Rattle.diagram.proofs.Truth.{cases}
+use Rattle.base.proofs.Truth.{cases}
 use Rattle.lexer.specs.Classes.{blank}
 use Rattle.lexer.specs.Spans.{tokens}
 use Rattle.grammar.specs.Tokens.{flow-tokens}

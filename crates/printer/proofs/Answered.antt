@@ -4,7 +4,7 @@ use mathlib.Core.List.{List}
 use Prim.Native.Nat.{ℕ, _≤_, _<_}
 use lib.ListN.{length}
 use borrow.Author.Tests.{lt-ltb, le-ltb}
-use Rattle.lexer.specs.Fill.{fill}
+use Rattle.base.specs.Fill.{fill}
 use Rattle.grammar.specs.Printed.{printed}
 use Rattle.reader.specs.Answers.{read-of}
 use Rattle.reader.specs.declared.Answer.{Answer}

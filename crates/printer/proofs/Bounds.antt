@@ -9,8 +9,8 @@ use lib.Dec.{ltb}
 use lib.ListN.{length, take}
 use borrow.Author.Tests.{ltb-false, le-ltb}
 use Rattle.diagram.specs.Tree.{Flow}
-use Rattle.diagram.proofs.Truth.{cases}
-use Rattle.lexer.proofs.Filled.{fill-length, fill-front, fill-past}
+use Rattle.base.proofs.Truth.{cases}
+use Rattle.base.proofs.Filled.{fill-length, fill-front, fill-past}
 use Rattle.grammar.specs.Printed.{printed}
 use Rattle.reader.specs.Answers.{read-of}
 use Rattle.reader.specs.Accepted.{Accepted}

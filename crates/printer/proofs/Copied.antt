@@ -8,11 +8,11 @@ use native.Mathlib.Numerals.{add-one}
 use native.Mathlib.Omega.{arith}
 use lib.ListN.{length, getD, take, drop, set, length-drop, drop-of-length-le}
 use lib.Seq.{drop-cons, drop-drop, getD-drop, take-all}
-use Rattle.diagram.proofs.Truth.{not-e}
+use Rattle.base.proofs.Truth.{not-e}
 use Rattle.lexer.specs.Classes.{blank}
 use Rattle.lexer.specs.Words.{blanks}
-use Rattle.lexer.specs.Fill.{fill}
-use Rattle.lexer.proofs.Filled.{fill-none, fill-more}
+use Rattle.base.specs.Fill.{fill}
+use Rattle.base.proofs.Filled.{fill-none, fill-more}
 use Rattle.grammar.specs.Printed.{printed}
 use Rattle.grammar.proofs.Lexed.{stops, front-stop}
 use Rattle.grammar.proofs.Printing.{printed-front}

@@ -4,7 +4,7 @@ use mathlib.Core.List.{List}
 use Prim.Native.Nat.{ℕ}
 use lib.Dec.{ltb}
 use lib.ListN.{length}
-use Rattle.lexer.specs.Fill.{fill}
+use Rattle.base.specs.Fill.{fill}
 use Rattle.grammar.specs.Printed.{printed}
 use Rattle.reader.specs.Answers.{read-of}
 use Rattle.reader.specs.declared.Answer.{Answer}

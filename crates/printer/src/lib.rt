@@ -1,6 +1,6 @@
 ghost use mathlib.Core.Path.{_≡_};
 ghost use lib.ListN.{length};
-ghost use Rattle.lexer.specs.Fill.{fill};
+ghost use Rattle.base.specs.Fill.{fill};
 ghost use Rattle.grammar.specs.Printed.{printed};
 ghost use Rattle.printer.specs.Prints.{print-answer, print-of, left-by};
 use reader::Answer;
@@ -19,7 +19,7 @@ fn copy(text: &[u8], out: &mut [u8]) -> usize
     let mut n: usize = 0;
     let mut at = lexer::skip(text, 0);
     while at < text.len() {
-        lexer::put_byte(out, n, text[at]);
+        base::put_byte(out, n, text[at]);
         n += 1;
         at = lexer::skip(text, at + 1);
     }

@@ -4,7 +4,7 @@ use mathlib.Core.Logic.{_⊎_, inl, inr, _↔_, Iff·trans}
 use mathlib.Core.Bool.{true, false, cond}
 use mathlib.Core.List.{List, [], _∷_, _++_}
 use Prim.Native.Nat.{ℕ}
-use Rattle.diagram.proofs.Truth.{cases, or-l}
+use Rattle.base.proofs.Truth.{cases, or-l}
 use Rattle.process.specs.Process.{and, Process, join, owns}
 use Rattle.process.specs.Runs.{All, Both, Whole, Begins}
 use Rattle.process.specs.Bits.{clears}

@@ -12,7 +12,7 @@ use Rattle.diagram.specs.Tree.{Flow, flow, Children, none, next, Child, plain, 
 use Rattle.diagram.specs.Count.{flow-events, children-events, child-events, loop-events, member-events, members-events}
 use Rattle.diagram.specs.Sizes.{flow-sized, children-sized, child-sized, member-sized, members-sized}
 use Rattle.diagram.specs.Flows.{may-be-solid, none-solid, one-solid, solid, each-flow, children-flows, child-flows, member-flows, members-flows}
-use Rattle.diagram.proofs.Truth.{and-l, and-r}
+use Rattle.base.proofs.Truth.{and-l, and-r}
 use Rattle.process.specs.Process.{Event, Joint, seq, Process, event, join, again, rounds}
 use Rattle.process.specs.Expand.{leaf-copy, reset-of, joint, copies, flow-process, children-process, child-process, loop-process, member-process, members-process}
 use Rattle.process.specs.Runs.{Whole}

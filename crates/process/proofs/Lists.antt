@@ -4,7 +4,7 @@ use mathlib.Core.Logic.{_⊎_, inl, inr}
 use mathlib.Core.Bool.{Bool, true, false, _||_, true≢false, or-comm}
 use mathlib.Core.List.{List, [], _∷_, _++_, append-nil, concat, concat-eq-append, eq-nil-or-concat, cons≢nil, head-eq-of-cons-eq, tail-eq-of-cons-eq}
 use Prim.Native.Nat.{ℕ}
-use Rattle.diagram.proofs.Truth.{cases, is-false, or-l, or-r, or-e}
+use Rattle.base.proofs.Truth.{cases, is-false, or-l, or-r, or-e}
 use Rattle.process.specs.Runs.{All, Mix, done, left, right}
 
 abbrev cons-eq : {x y : ℕ} {u v : List ℕ} → x ≡ y → u ≡ v → x ∷ u ≡ y ∷ v

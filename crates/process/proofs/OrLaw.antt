@@ -4,7 +4,7 @@ use mathlib.Core.Logic.{_⊎_, inl, inr, _↔_, Iff·trans, Iff·rfl}
 use mathlib.Core.Bool.{true, not, _&&_, _||_}
 use mathlib.Core.List.{List, [], _∷_, _++_}
 use Prim.Native.Nat.{ℕ}
-use Rattle.diagram.proofs.Truth.{clash, or-l, or-r, or-e}
+use Rattle.base.proofs.Truth.{clash, or-l, or-r, or-e}
 use Rattle.process.specs.Process.{or, Process, join, owns}
 use Rattle.process.specs.Runs.{Either, Both, Whole, Begins}
 use Rattle.process.specs.Bits.{Bits, clears}

@@ -6,7 +6,7 @@ use mathlib.Core.List.{List, [], _∷_, _++_, append-nil, append-assoc, cons≢n
 use Prim.Native.Nat.{ℕ}
 use lib.Dec.{eqb}
 use borrow.Author.Tests.{eqb-true, eq-eqb}
-use Rattle.diagram.proofs.Truth.{cases, clash, is-false, or-r, not-i}
+use Rattle.base.proofs.Truth.{cases, clash, is-false, or-r, not-i}
 use Rattle.process.specs.Process.{Event, Process, rounds, owns}
 use Rattle.process.specs.Runs.{Runs, All, Rounds, stop, more, Whole, Begins}
 use Rattle.process.specs.Bits.{Bits, blank, clears, taking, run, after}

@@ -9,7 +9,7 @@ use Rattle.diagram.specs.Sizes.{flow-sized}
 use Rattle.diagram.specs.Names.{flow-names}
 use Rattle.diagram.specs.Parameters.{flow-parameters}
 use Rattle.diagram.specs.Flows.{each-flow}
-use Rattle.diagram.proofs.Truth.{and-l, and-r, clash, not-e}
+use Rattle.base.proofs.Truth.{and-l, and-r, clash, not-e}
 use Rattle.diagram.proofs.Kept.{keeps?, keeps-decided}
 use Rattle.process.specs.Process.{owns}
 use Rattle.process.specs.Expand.{expand, flow-process}

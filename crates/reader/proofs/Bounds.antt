@@ -9,7 +9,7 @@ use lib.Dec.{ltb}
 use lib.ListN.{length, getD, List·getD-eq-default}
 use borrow.Author.Tests.{ltb-true, ltb-false}
 use Rattle.diagram.specs.Tree.{Flow}
-use Rattle.diagram.proofs.Truth.{cases}
+use Rattle.base.proofs.Truth.{cases}
 use Rattle.lexer.specs.Spans.{places}
 use Rattle.lexer.proofs.Spans.{tokens-length, places-length, places-below}
 use Rattle.reader.specs.Answers.{read-of}

@@ -8,7 +8,7 @@ use native.Mathlib.Omega.{arith}
 use lib.Dec.{ltb, leb}
 use lib.ListN.{length, getD, length-map, List·getD-map}
 use borrow.Author.Tests.{lt-ltb, le-ltb, le-leb, lt-leb, ltb-true, ltb-false, leb-true, leb-false, not-false}
-use Rattle.diagram.proofs.Truth.{clash, cases, not-i, not-e}
+use Rattle.base.proofs.Truth.{clash, cases, not-i, not-e}
 use Rattle.lexer.specs.Classes.{foreign}
 use Rattle.lexer.specs.Words.{front}
 use Rattle.lexer.specs.Spans.{Span, spans-of, tokens, places}

@@ -13,7 +13,7 @@ use Rattle.diagram.specs.Tree.{Name, Way, all, some, one, Flow, flow, Children,
 use Rattle.diagram.specs.Count.{flow-nodes, flow-copies, flow-events}
 use Rattle.diagram.specs.Stored.{blank-node}
 use Rattle.diagram.specs.declared.Kind.the-variants.{Flow as FlowKind, Leaf, Loop}
-use Rattle.diagram.proofs.Truth.{cases, is-false}
+use Rattle.base.proofs.Truth.{cases, is-false}
 use Rattle.lexer.specs.Words.{word-at, code}
 use Rattle.lexer.specs.Spans.{tokens, codes, places}
 use Rattle.grammar.proofs.Codes.{in-range}

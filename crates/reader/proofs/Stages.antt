@@ -6,11 +6,11 @@ use native.Mathlib.Omega.{arith}
 use lib.ListN.{length, take}
 use lib.Seq.{length-take-le}
 use Rattle.lexer.specs.Spans.{spans-of, codes, places}
-use Rattle.lexer.specs.Fill.{fill}
+use Rattle.base.specs.Fill.{fill}
 use Rattle.lexer.specs.Scanned.{scan-of, written}
 use Rattle.lexer.specs.declared.Scan.{Scan}
 use Rattle.lexer.specs.declared.Scan.the-variants.{Tokens, Refused as Unscanned}
-use Rattle.lexer.proofs.Filled.{fill-length, fill-front}
+use Rattle.base.proofs.Filled.{fill-length, fill-front}
 use Rattle.lexer.proofs.Spans.{codes-length, places-length, tokens-bounded}
 use Rattle.grammar.specs.Machine.{Outcome, whole, stop, outcome}
 use Rattle.grammar.proofs.Limited.{whole-none-big}

@@ -10,7 +10,7 @@ use lib.Dec.{ltb}
 use lib.ListN.{length, getD, List·getD-eq-default}
 use borrow.Author.Tests.{leb-true, ltb-true, ltb-false}
 use Rattle.diagram.specs.Tree.{Name, Flow}
-use Rattle.diagram.proofs.Truth.{and-l, and-r, cases, not-e}
+use Rattle.base.proofs.Truth.{and-l, and-r, cases, not-e}
 use Rattle.lexer.specs.Classes.{class-of, worded, foreign}
 use Rattle.lexer.specs.Words.{short, every, code}
 use Rattle.lexer.specs.Spans.{tokens, codes, places}

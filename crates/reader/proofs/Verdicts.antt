@@ -9,7 +9,7 @@ use lib.Dec.{ltb}
 use borrow.Author.Tests.{lt-ltb, le-ltb, ltb-true, ltb-false}
 use Rattle.diagram.specs.Tree.{Flow}
 use Rattle.diagram.specs.Count.{flow-copies, flow-events}
-use Rattle.diagram.proofs.Truth.{cases}
+use Rattle.base.proofs.Truth.{cases}
 use Rattle.rules.specs.Counted.{capped}
 use Rattle.rules.specs.Judged.{refuse, counted, verdict}
 use Rattle.rules.specs.Sites.{Site, flow-sites, first-twice, first-broken}

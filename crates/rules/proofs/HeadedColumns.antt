@@ -7,7 +7,7 @@ use native.Mathlib.Numerals.{add-one}
 use lib.ListN.{length, drop}
 use lib.Seq.{drop-drop}
 use Rattle.diagram.specs.Tree.{Name}
-use Rattle.diagram.proofs.Truth.{cases}
+use Rattle.base.proofs.Truth.{cases}
 use Rattle.grammar.specs.Limits.{keyed, count-of}
 use Rattle.rules.specs.Heads.{Head, head, heads, opened, keys, depths, by-columns}
 

@@ -9,7 +9,7 @@ use lib.ListN.{length, drop, getD}
 use borrow.Author.Tests.{ne-eqb, le-leb, lt-leb, leb-true}
 use Rattle.diagram.specs.Tree.{Name}
 use Rattle.diagram.specs.Names.{equal, same, new}
-use Rattle.diagram.proofs.Truth.{and-l}
+use Rattle.base.proofs.Truth.{and-l}
 use Rattle.lexer.specs.Classes.{between}
 use Rattle.rules.specs.Heads.{Head, par-count, strong-of, pars-back, head, by-columns}
 use Rattle.rules.specs.Kept.{titled, unheard, names-kept, parameters-kept, solids, one-of, solids-kept, strongs-kept}

@@ -11,7 +11,7 @@ use lib.ListN.{length, drop, getD, set, drop-of-length-le, length-drop, length-s
 use lib.Seq.{drop-cons, drop-drop, getD-drop}
 use borrow.Author.Tests.{ne-eqb, le-leb, lt-leb}
 use Rattle.lexer.specs.Classes.{between}
-use Rattle.lexer.specs.Fill.{fill}
+use Rattle.base.specs.Fill.{fill}
 use Rattle.rules.specs.Heads.{flowing, copying, reach, extent, solid-of, par-count, strong-of, opened, keys, depths}
 
 pub past-end : (l : List ℕ) (n : ℕ) → length l ≤ n → 0 ≡ getD l n 0

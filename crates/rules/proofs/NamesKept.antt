@@ -6,7 +6,7 @@ use mathlib.Core.List.{List, [], _∷_, _++_}
 use Prim.Native.Nat.{ℕ, suc}
 use Rattle.diagram.specs.Tree.{Name, Flow, flow, Children, none, next, Child, plain, loop, group, replicator, Member, leaf, inner, Members, end, also}
 use Rattle.diagram.specs.Names.{same, new, differ, flow-names, children-names, child-names, member-names, members-names}
-use Rattle.diagram.proofs.Truth.{agree}
+use Rattle.base.proofs.Truth.{agree}
 use Rattle.diagram.proofs.Equal.{same-decides}
 use Rattle.rules.specs.Heads.{Head}
 use Rattle.rules.specs.Kept.{titled, names-kept, fault}

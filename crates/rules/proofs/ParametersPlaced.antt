@@ -9,7 +9,7 @@ use Rattle.diagram.specs.Tree.{Name, Flow, flow, Children, none, next, Child, p
 use Rattle.diagram.specs.Names.{equal, same, new}
 use Rattle.diagram.specs.Parameters.{surrounded}
 use Rattle.diagram.specs.Flows.{solid}
-use Rattle.diagram.proofs.Truth.{agree}
+use Rattle.base.proofs.Truth.{agree}
 use Rattle.diagram.proofs.Equal.{all-same-decides}
 use Rattle.rules.specs.Heads.{Head, flowing, copying}
 use Rattle.rules.specs.Kept.{around, parameters-kept, fault}

@@ -7,7 +7,7 @@ use mathlib.Core.List.{List, [], _∷_}
 use Prim.Native.Nat.{ℕ}
 use Rattle.diagram.specs.Tree.{Name, Flow, flow, Children, none, next, Child, plain, loop, group, replicator, Member, leaf, inner, Members, end, also}
 use Rattle.diagram.specs.Flows.{each-flow, children-flows, child-flows, member-flows, members-flows}
-use Rattle.diagram.proofs.Truth.{clash, is-false, or-l}
+use Rattle.base.proofs.Truth.{clash, is-false, or-l}
 use Rattle.rules.specs.Heads.{Head, flowing, leafy}
 use Rattle.rules.specs.Kept.{titled, fault}
 use Rattle.rules.specs.Sites.{Site, site, first-broken, flow-sites, children-sites, child-sites, member-sites, members-sites}

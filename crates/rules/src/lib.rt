@@ -6,7 +6,7 @@ ghost use lib.Dec.{eqb};
 ghost use lib.ListN.{length, getD, drop, set};
 ghost use Rattle.diagram.specs.Tree.{Name};
 ghost use Rattle.lexer.specs.Classes.{between};
-ghost use Rattle.lexer.specs.Fill.{fill};
+ghost use Rattle.base.specs.Fill.{fill};
 ghost use Rattle.lexer.specs.Words.{word-at};
 ghost use Rattle.rules.specs.Heads.{reach as reach-of, extent, solid-of, par-count, strong-of, opened as opened-of, keys as keys-of, depths as depths-of, by-columns, name-in};
 ghost use Rattle.rules.specs.Kept.{may-be-solid, one-of, fault};

@@ -2,7 +2,8 @@
 use Prim.Native.Nat.{_-_}
 use mathlib.Core.Path.{ap, _∙_}
 use lib.ListN.{length}
-use Rattle.lexer.proofs.Filled.{end-after, less-left, fill-length, Midway, midway-start, midway-again, midway-end}
+use Rattle.base.proofs.Filled.{fill-length}
+use Rattle.lexer.proofs.Filled.{end-after, less-left, Midway, midway-start, midway-again, midway-end}
 use borrow.Author.Needs.{needs}
 use native.Mathlib.Omega.{arith}
 use Rattle.lexer.proofs.tokens.Statement.{statement}

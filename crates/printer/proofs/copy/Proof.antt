@@ -8,7 +8,7 @@ use Rattle.printer.proofs.copy.Statement.{statement}
 use Rattle.printer.proofs.copy.Tie as tie
 use Rattle.printer.proofs.copy.Reads as reads
 use Rattle.printer.proofs.copy.Lts as lts
-use Rattle.lexer.proofs.put_byte.Reads as put-byte-reads
+use Rattle.base.proofs.put_byte.Reads as put-byte-reads
 use Rattle.lexer.proofs.skip.Reads as skip-reads
 
 abbrev Inv-loop : tie.InvT-loop

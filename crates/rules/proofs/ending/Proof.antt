@@ -3,7 +3,7 @@ use lib.ListN.{getD}
 use lib.Dec.{eqb}
 use borrow.Author.Tests.{eq-eqb, ne-eqb}
 use borrow.Author.Needs.{needs}
-use Rattle.diagram.proofs.Truth.{or-l, or-r}
+use Rattle.base.proofs.Truth.{or-l, or-r}
 use Rattle.rules.proofs.LawsTokens.{ending-one, ending-two}
 use Rattle.rules.proofs.ending.Statement.{statement}
 use Rattle.rules.proofs.ending.Tie as tie

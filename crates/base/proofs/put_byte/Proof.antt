@@ -1,9 +1,9 @@
--- `lexer::put_byte` meets its contract: past the end nothing is set.
+-- `base::put_byte` meets its contract: past the end nothing is set.
 use mathlib.Core.Path.{sym}
 use lib.Seq.{set-out}
 use borrow.Author.Needs.{needs}
-use Rattle.lexer.proofs.put_byte.Statement.{statement}
-use Rattle.lexer.proofs.put_byte.Tie as tie
+use Rattle.base.proofs.put_byte.Statement.{statement}
+use Rattle.base.proofs.put_byte.Tie as tie
 
 returns : tie.Need-returns
 returns c = sym (set-out _ _ _ (c .if1 .taken))

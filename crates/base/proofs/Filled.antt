@@ -1,0 +1,43 @@
+-- Laws of a lent list after values were written over its front, for every crate that writes one.
+use mathlib.Core.Path.{_≡_, refl, ap}
+use mathlib.Core.List.{List, [], _∷_}
+use Prim.Native.Nat.{ℕ, zero, suc, _≤_, _<_}
+use native.Mathlib.Omega.{arith}
+use lib.ListN.{length, take, drop, getD, set}
+use Rattle.base.specs.Fill.{fill}
+
+-- A lent list keeps its length.
+pub fill-length : (xs vs : List ℕ) → length (fill xs vs) ≡ length xs
+unfolding fill
+fill-length [] vs = refl
+fill-length (x ∷ xs) [] = refl
+fill-length (x ∷ xs) (v ∷ vs) = ap suc (fill-length xs vs)
+
+-- What was written over the front of a list that is long enough, and what stands past it.
+pub fill-front : (xs vs : List ℕ) → length vs ≤ length xs → take (length vs) (fill xs vs) ≡ vs
+unfolding fill
+fill-front [] [] h = refl
+fill-front [] (v ∷ vs) h = let z : ⊥ = omega arith in absurd z
+fill-front (x ∷ xs) [] h = refl
+fill-front (x ∷ xs) (v ∷ vs) h = ap (λ (l : List ℕ). v ∷ l) (fill-front xs vs (omega arith))
+
+pub fill-past : (xs vs : List ℕ) → drop (length vs) (fill xs vs) ≡ drop (length vs) xs
+unfolding fill
+fill-past [] [] = refl
+fill-past [] (v ∷ vs) = refl
+fill-past (x ∷ xs) [] = refl
+fill-past (x ∷ xs) (v ∷ vs) = fill-past xs vs
+
+-- Writing one value more over the front of a lent list.
+pub fill-none : (xs : List ℕ) → fill xs [] ≡ xs
+unfolding fill
+fill-none [] = refl
+fill-none (x ∷ xs) = refl
+
+pub fill-more : (xs vs : List ℕ) (n : ℕ) → n < length vs → set (fill xs (take n vs)) n (getD vs n 0) ≡ fill xs (take (suc n) vs)
+unfolding fill
+fill-more xs [] n h = let z : ⊥ = omega arith in absurd z
+fill-more [] (v ∷ vs) zero h = refl
+fill-more (x ∷ xs) (v ∷ vs) zero h = rw (fill-none xs)
+fill-more [] (v ∷ vs) (suc n) h = refl
+fill-more (x ∷ xs) (v ∷ vs) (suc n) h = rw (fill-more xs vs n (omega arith))

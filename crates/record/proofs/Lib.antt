@@ -1,0 +1,4 @@
+pub mod Bits
+pub mod Strays
+pub mod Fields
+pub mod Bytes
