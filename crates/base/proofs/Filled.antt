@@ -1,9 +1,10 @@
 -- Laws of a lent list after values were written over its front, for every crate that writes one.
-use mathlib.Core.Path.{_≡_, refl, ap}
+use mathlib.Core.Path.{_≡_, refl, sym, ap, _∙_}
 use mathlib.Core.List.{List, [], _∷_}
 use Prim.Native.Nat.{ℕ, zero, suc, _≤_, _<_}
 use native.Mathlib.Omega.{arith}
 use lib.ListN.{length, take, drop, getD, set}
+use lib.Seq.{getD-take}
 use Rattle.base.specs.Fill.{fill}
 
 -- A lent list keeps its length.
@@ -20,6 +21,9 @@ fill-front [] [] h = refl
 fill-front [] (v ∷ vs) h = let z : ⊥ = omega arith in absurd z
 fill-front (x ∷ xs) [] h = refl
 fill-front (x ∷ xs) (v ∷ vs) h = ap (λ (l : List ℕ). v ∷ l) (fill-front xs vs (omega arith))
+
+pub fill-at : (xs vs : List ℕ) (i : ℕ) → i < length vs → length vs ≤ length xs → getD (fill xs vs) i 0 ≡ getD vs i 0
+fill-at xs vs i l h = sym (getD-take (length vs) (fill xs vs) i 0 l) ∙ rw (fill-front xs vs h)
 
 pub fill-past : (xs vs : List ℕ) → drop (length vs) (fill xs vs) ≡ drop (length vs) xs
 unfolding fill

@@ -1,20 +1,17 @@
 -- A record's bytes: what `store` writes, `load` reads.
-use mathlib.Core.Path.{_≡_, refl, sym, ap, _∙_}
-use mathlib.Core.List.{List, [], _∷_, _++_}
-use Prim.Native.Nat.{ℕ, zero, suc, _+_, _-_, _*_, _/_, _%_, _^_, _≤_, _<_}
-use native.Mathlib.Nat.{div-add-mod', div-eq-of-lt, mod-eq-of-lt, mod-lt, add-zero, zero-lt-suc}
+use mathlib.Core.Path.{_≡_, refl, ap, _∙_}
+use mathlib.Core.List.{List, [], _∷_}
+use Prim.Native.Nat.{ℕ, zero, suc, _+_, _≤_, _<_}
 use native.Mathlib.Numerals.{add-one}
 use native.Mathlib.Omega.{arith}
 use lib.ListN.{length, getD, set, take, length-append, List·getD-append}
-use lib.Seq.{ext-getD, getD-at, take-all}
-use lib.Dec.{eqb, lit<}
-use lib.Pow.{shr-shr, pow-add, pow-pos, low}
+use lib.Seq.{getD-at, take-all}
+use lib.Dec.{eqb}
 use borrow.Author.Tests.{eqb-true, eqb-false}
 use Rattle.base.specs.Fill.{fill}
 use Rattle.base.proofs.Truth.{by-cases}
 use Rattle.base.proofs.Filled.{fill-more}
-use Rattle.record.specs.Bytes.{field, words-of, byte-of, bytes-to, bytes-of}
-use Rattle.record.proofs.Fields.{field-joined}
+use Rattle.record.specs.Bytes.{byte-of, bytes-to, bytes-of}
 
 pub bytes-length : (ws : List ℕ) (n : ℕ) → length (bytes-to ws n) ≡ n
 unfolding bytes-to

@@ -2,3 +2,4 @@ pub mod Bits
 pub mod Strays
 pub mod Fields
 pub mod Bytes
+pub mod Back

@@ -1,17 +1,16 @@
 -- What a stray bit is, and that it is found word by word.
 use mathlib.Core.Path.{_≡_, refl, sym, ap, _∙_}
-use mathlib.Core.Bool.{Bool, true, false, not, _&&_, _||_}
+use mathlib.Core.Bool.{Bool, true, false, not, _&&_}
 use mathlib.Core.List.{List}
-use mathlib.Core.Logic.{_⊎_, ⊎-elim}
+use mathlib.Core.Logic.{⊎-elim}
 use Prim.Native.Nat.{ℕ, zero, suc, _+_, _-_, _*_, _/_, _%_, _^_, _≤_, _<_}
-use native.Mathlib.Nat.{div-eq-of-lt, le-of-lt, lt-of-lt-of-le, lt-trans, mod-eq-of-lt, mod-lt, zero-lt-suc}
-use native.Mathlib.Numerals.{add-one}
+use native.Mathlib.Nat.{div-eq-of-lt, le-of-lt, lt-of-lt-of-le, lt-trans, mod-eq-of-lt, mod-lt, zero-div, zero-lt-suc, zero-mod}
 use native.Mathlib.Omega.{arith}
 use lib.ListN.{getD}
 use lib.Dec.{eqb, ltb}
-use lib.Pow.{pow-pos, pow-lt, mod-pow-add, shr-mono}
-use borrow.Author.Tests.{eqb-true, eqb-false, eq-eqb, ltb-true, ltb-false, le-ltb, lt-ltb}
-use Rattle.base.proofs.Truth.{by-cases, clash, is-false, and-l, and-r, and-i, or-e, or-l, or-r, not-i, not-e, agree}
+use lib.Pow.{pow-pos, pow-lt, mod-pow-add}
+use borrow.Author.Tests.{eqb-true, eqb-false, eq-eqb, ltb-true, ltb-false, lt-ltb}
+use Rattle.base.proofs.Truth.{by-cases, and-l, and-r, and-i, or-e, or-l, or-r, not-i, not-e, agree}
 use Rattle.record.specs.Bits.{bit-at, clear-between}
 use Rattle.record.proofs.Bits.{one-shl}
 
@@ -35,27 +34,31 @@ clear-each ws first (suc end) f =
     (by-cases (ltb end first) (λ l. or-l (not (bit-at ws end)) l)
     (λ l. or-r (ltb end first) (not-i (f end (omega arith) (ltb-false end first l)))))
 
+-- Numbers with the same low k bits have the same remainder by 2 ^ k.
+one-more : (w k : ℕ) → w % 2 ^ suc k ≡ w / 2 ^ k % 2 * 2 ^ k + w % 2 ^ k
+one-more w k = let q : suc k ≡ 1 + k = omega arith in ap (λ (x : ℕ). w % 2 ^ x) q ∙ mod-pow-add w 1 k
+
+pub low-same : (x y k : ℕ) → ((j : ℕ) → j < k → x / 2 ^ j % 2 ≡ y / 2 ^ j % 2) → x % 2 ^ k ≡ y % 2 ^ k
+low-same x y zero f = omega arith
+low-same x y (suc k) f = one-more x k ∙ rw (f k (omega arith), low-same x y k (λ j h. f j (omega arith))) (sym (one-more y k))
+
 -- The low k bits of a number are clear exactly if it is 0 but for higher ones.
 module _ (w : ℕ) where
-  one-more : (k : ℕ) → w % 2 ^ suc k ≡ w / 2 ^ k % 2 * 2 ^ k + w % 2 ^ k
-  one-more k = let q : suc k ≡ 1 + k = omega arith in ap (λ (x : ℕ). w % 2 ^ x) q ∙ mod-pow-add w 1 k
-
-  pub low-clear : (k : ℕ) → ((j : ℕ) → j < k → w / 2 ^ j % 2 ≡ 0) → w % 2 ^ k ≡ 0
-  low-clear zero f = omega arith
-  low-clear (suc k) f = one-more k ∙ rw (f k (omega arith), low-clear k (λ j h. f j (omega arith))) (omega arith)
+  low-clear : (k : ℕ) → ((j : ℕ) → j < k → w / 2 ^ j % 2 ≡ 0) → w % 2 ^ k ≡ 0
+  low-clear k f = low-same w 0 k (λ j h. rw (zero-div (2 ^ j)) (f j h)) ∙ zero-mod (2 ^ k)
 
   split-zero : (k y r : ℕ) → y * 2 ^ k + r ≡ 0 → (y ≡ 0) × (r ≡ 0)
   split-zero k zero r e = (refl, omega arith)
   split-zero k (suc y) r e = let p = pow-pos k in let z : ⊥ = omega arith in absurd z
 
-  pub clear-low : (k : ℕ) → w % 2 ^ k ≡ 0 → (j : ℕ) → j < k → w / 2 ^ j % 2 ≡ 0
+  clear-low : (k : ℕ) → w % 2 ^ k ≡ 0 → (j : ℕ) → j < k → w / 2 ^ j % 2 ≡ 0
   clear-low zero e j h = let z : ⊥ = omega arith in absurd z
   clear-low (suc k) e j h =
-      let s = split-zero k (w / 2 ^ k % 2) (w % 2 ^ k) (sym (one-more k) ∙ e) in
+      let s = split-zero k (w / 2 ^ k % 2) (w % 2 ^ k) (sym (one-more w k) ∙ e) in
       by-cases (eqb j k) (λ q. rw (eqb-true j k q) (s .0)) (λ q. clear-low k (s .1) j (omega (arith, eqb-false j k q)))
 
 -- Bit j of word i, counted from below.
-word-bit : (ws : List ℕ) (i j : ℕ) → i < 8 → j < 64 → bit-at ws (64 * i + (63 - j)) ≡ eqb (getD ws i 0 / 2 ^ j % 2) 1
+pub word-bit : (ws : List ℕ) (i j : ℕ) → i < 8 → j < 64 → bit-at ws (64 * i + (63 - j)) ≡ eqb (getD ws i 0 / 2 ^ j % 2) 1
 unfolding bit-at
 word-bit ws i j h k =
     let q : (64 * i + (63 - j)) / 64 ≡ i = omega arith in

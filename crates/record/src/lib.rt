@@ -25,8 +25,8 @@ pub fn bit(bits: &[u64; 8], e: usize) -> bool
         return false;
     }
     let w = bits[e / 64];
-    let k = 63 - e % 64;
-    (w >> k) % 2 == 1
+    let down = 63 - e % 64;
+    (w >> down) % 2 == 1
 }
 
 // The words with one bit set; no bit from 512 on changes anything.

@@ -1,6 +1,5 @@
 -- `record::bit` meets its contract, which says what the code does.
 use mathlib.Core.Path.{refl, sym}
-use native.Mathlib.Omega.{arith}
 use borrow.Author.Needs.{needs}
 use borrow.Author.Tests.{lt-ltb}
 use Rattle.record.specs.Bits.{bit-at}
@@ -17,8 +16,8 @@ mul-w c = search needs
 element-copy-out-w : tie.Need-element-copy-out-w
 element-copy-out-w c = search needs
 
-sub-k : tie.Need-sub-k
-sub-k c = search needs
+sub-down : tie.Need-sub-down
+sub-down c = search needs
 
 shr-result : tie.Need-shr-result
 shr-result c = search needs
@@ -28,4 +27,4 @@ unfolding bit-at
 returns-2 c = rw (lt-ltb (c .before .before .args .e) 512 (c .before .if1 .left)) refl
 
 pub bit-spec : {M : Type 1} → statement M
-bit-spec = tie.close (tie.spec returns mul-w element-copy-out-w sub-k shr-result returns-2)
+bit-spec = tie.close (tie.spec returns mul-w element-copy-out-w sub-down shr-result returns-2)

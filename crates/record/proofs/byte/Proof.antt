@@ -1,14 +1,10 @@
 -- `record::byte` meets its contract: past the end there are only zeros.
-use native.Mathlib.Omega.{arith}
 use mathlib.Core.Path.{sym}
 use lib.Dec.{lit<}
 use lib.ListN.{List·getD-eq-default}
 use borrow.Author.Needs.{needs}
 use Rattle.record.proofs.byte.Statement.{statement}
 use Rattle.record.proofs.byte.Tie as tie
-use Rattle.record.proofs.byte.Reads as reads
-use Rattle.record.proofs.byte.Lts as lts
-use Rattle.record.proofs.wide.Reads as wide-reads
 
 returns : tie.Need-returns
 returns c = (sym (List·getD-eq-default (c .before .before .args .bytes .now) 0 (c .if1 .taken)), lit< tt)

@@ -1,5 +1,5 @@
 -- `record::clear` meets its contract: after i turns i bits are cleared, and from 512 on there is nothing to clear.
-use mathlib.Core.Path.{_≡_, refl, sym, ap, _∙_}
+use mathlib.Core.Path.{_≡_, ap, _∙_}
 use Prim.Native.Nat.{_≤_, _-_, _+_}
 use Rattle.record.specs.Bits.{clear-bits}
 use Rattle.record.proofs.Bits.{clear-bits-none, clear-bits-more, clear-bits-past}
@@ -7,9 +7,6 @@ use borrow.Author.Needs.{needs}
 use native.Mathlib.Omega.{arith}
 use Rattle.record.proofs.clear.Statement.{statement}
 use Rattle.record.proofs.clear.Tie as tie
-use Rattle.record.proofs.clear.Reads as reads
-use Rattle.record.proofs.clear.Lts as lts
-use Rattle.record.proofs.clear_bit.Reads as clear-bit-reads
 
 abbrev Inv-loop : tie.InvT-loop
 Inv-loop first count b₀ i₀ b i = (i ≤ count) × (first + i ≤ 512) × (b ≡ clear-bits b₀ first i)

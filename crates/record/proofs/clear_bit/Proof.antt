@@ -1,5 +1,5 @@
 -- `record::clear_bit` meets its contract: the shifted 1 is the number whose only bit is the wanted one.
-use mathlib.Core.Path.{sym, _∙_}
+use mathlib.Core.Path.{sym}
 use Prim.Native.Nat.{_-_, _%_}
 use native.Mathlib.Omega.{arith}
 use lib.Bits.{bitOr, bitXor}

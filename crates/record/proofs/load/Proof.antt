@@ -1,12 +1,8 @@
 -- `record::load` meets its contract, word by word.
-use native.Mathlib.Omega.{arith}
 use Rattle.record.specs.Bytes.{words-of}
 use borrow.Author.Needs.{needs}
 use Rattle.record.proofs.load.Statement.{statement}
 use Rattle.record.proofs.load.Tie as tie
-use Rattle.record.proofs.load.Reads as reads
-use Rattle.record.proofs.load.Lts as lts
-use Rattle.record.proofs.long.Reads as long-reads
 
 long-requires : tie.Need-long-requires
 long-requires c κs = search needs

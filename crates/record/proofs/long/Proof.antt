@@ -1,12 +1,8 @@
 -- `record::long` meets its contract: eight bytes are four and four.
-use native.Mathlib.Omega.{arith}
 use Rattle.record.proofs.Fields.{eight}
 use borrow.Author.Needs.{needs}
 use Rattle.record.proofs.long.Statement.{statement}
 use Rattle.record.proofs.long.Tie as tie
-use Rattle.record.proofs.long.Reads as reads
-use Rattle.record.proofs.long.Lts as lts
-use Rattle.record.proofs.quad.Reads as quad-reads
 
 quad-requires : tie.Need-quad-requires
 quad-requires c κs = search needs

@@ -4,9 +4,6 @@ use Rattle.record.proofs.Fields.{field-one, field-more}
 use borrow.Author.Needs.{needs}
 use Rattle.record.proofs.quad.Statement.{statement}
 use Rattle.record.proofs.quad.Tie as tie
-use Rattle.record.proofs.quad.Reads as reads
-use Rattle.record.proofs.quad.Lts as lts
-use Rattle.record.proofs.byte.Reads as byte-reads
 
 byte-requires : tie.Need-byte-requires
 byte-requires c κs = search needs

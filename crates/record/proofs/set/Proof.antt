@@ -1,8 +1,8 @@
 -- `record::set` meets its contract: the shifted 1 is the number whose only bit is the wanted one.
-use mathlib.Core.Path.{sym, _∙_}
+use mathlib.Core.Path.{sym}
 use Prim.Native.Nat.{_-_, _%_}
 use native.Mathlib.Omega.{arith}
-use lib.Bits.{bitOr, bitXor}
+use lib.Bits.{bitOr}
 use borrow.Author.Needs.{needs}
 use Rattle.record.proofs.Bits.{one-shl, change-in, change-out}
 use Rattle.record.proofs.set.Statement.{statement}

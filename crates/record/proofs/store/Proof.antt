@@ -1,5 +1,5 @@
 -- `record::store` meets its contract: after i turns the first i bytes are written, as far as there is room.
-use mathlib.Core.Path.{_≡_, refl, sym, ap, _∙_}
+use mathlib.Core.Path.{_≡_, sym, ap, _∙_}
 use Prim.Native.Nat.{_≤_, _-_}
 use lib.ListN.{take, length}
 use Rattle.base.specs.Fill.{fill}
@@ -10,9 +10,6 @@ use borrow.Author.Needs.{needs}
 use native.Mathlib.Omega.{arith}
 use Rattle.record.proofs.store.Statement.{statement}
 use Rattle.record.proofs.store.Tie as tie
-use Rattle.record.proofs.store.Reads as reads
-use Rattle.record.proofs.store.Lts as lts
-use Rattle.base.proofs.put_byte.Reads as put-byte-reads
 
 abbrev Inv-loop : tie.InvT-loop
 Inv-loop out₀ bits i₀ out i = (i ≤ 64) × (out ≡ fill out₀ (take i (bytes-of bits)))

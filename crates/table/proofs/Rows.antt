@@ -1,0 +1,90 @@
+-- The rows of a table: what a sound row says, and the sheet of the rows' values.
+use mathlib.Core.Path.{_≡_, refl, _∙_}
+use mathlib.Core.Bool.{Bool, true, false, _&&_}
+use mathlib.Core.List.{List}
+use mathlib.Core.Logic.{⊎-elim}
+use Prim.Native.Nat.{ℕ, zero, suc, _+_, _<_, _≤_}
+use native.Mathlib.Numerals.{add-one}
+use native.Mathlib.Omega.{arith}
+use lib.Dec.{ltb, eqb}
+use lib.ListN.{length, getD, take, set, length-append}
+use lib.Seq.{getD-take, take-suc-set}
+use borrow.Author.Tests.{lt-ltb, ltb-true, eq-eqb, ne-eqb, eqb-true, eqb-false}
+use Rattle.base.proofs.Truth.{cases, agree, and-l, and-r}
+use Rattle.table.specs.Fields.{events, row-word, kind-of, left-of, right-of}
+use Rattle.table.specs.Sound.{row-sound, rows-sound}
+use Rattle.table.specs.Values.{row-value, row-values}
+use Rattle.table.proofs.Each.{each-below}
+
+-- That a number is 0, as a bound.
+below-one : (r : ℕ) → ltb r 1 ≡ eqb r 0
+below-one r =
+    agree (ltb r 1) (eqb r 0) (λ e. eq-eqb r 0 (omega (arith, ltb-true r 1 e))) (λ e. lt-ltb r 1 (omega (arith, eqb-true r 0 e)))
+
+-- A row's soundness as two bounds, by its kind.
+module _ (w n i : ℕ) where
+  pub bounds-bit : kind-of w ≡ 0 → (ltb (left-of w) n && ltb (right-of w) 1) ≡ row-sound w n i
+  unfolding row-sound
+  bounds-bit k = simp (eq-eqb _ _ k, below-one (right-of w))
+
+  pub bounds-not : kind-of w ≡ 1 → (ltb (left-of w) i && ltb (right-of w) 1) ≡ row-sound w n i
+  unfolding row-sound
+  bounds-not k = simp (k, below-one (right-of w))
+
+  pub bounds-two : 2 ≤ kind-of w → (ltb (left-of w) i && ltb (right-of w) i) ≡ row-sound w n i
+  unfolding row-sound
+  bounds-two h = simp (ne-eqb (kind-of w) 0 (λ q. omega arith), ne-eqb (kind-of w) 1 (λ q. omega arith))
+
+-- What a sound row says.
+module _ (w n i : ℕ) (ok : row-sound w n i ≡ true) where
+  pub bit-below : kind-of w ≡ 0 → left-of w < n
+  bit-below k = ltb-true _ _ (and-l (ltb (left-of w) n) _ (bounds-bit w n i k ∙ ok))
+
+  pub left-below : (kind-of w ≡ 0 → ⊥) → left-of w < i
+  unfolding row-sound
+  left-below k = ltb-true _ _ (and-l (ltb (left-of w) i) _ (simp (ne-eqb _ _ k) at ok))
+
+  pub right-below : 2 ≤ kind-of w → right-of w < i
+  right-below h = ltb-true _ _ (and-r (ltb (left-of w) i) _ (bounds-two w n i h ∙ ok))
+
+  -- So the rows that it names stand on the sheet, and it reads only the rows before it.
+  pub left-on-sheet : i < 12288 → (kind-of w ≡ 0 → ⊥) → left-of w < 12288
+  left-on-sheet h k = omega (arith, left-below k)
+
+  pub right-on-sheet : i < 12288 → 2 ≤ kind-of w → right-of w < 12288
+  right-on-sheet h k = omega (arith, right-below k)
+
+  pub value-before : (bits : List ℕ) (vs : List Bool) → row-value w bits vs ≡ row-value w bits (take i vs)
+  unfolding row-value
+  value-before bits vs =
+      ⊎-elim (λ (e : eqb (kind-of w) 0 ≡ true). simp e)
+      (λ (e : eqb (kind-of w) 0 ≡ false). let k = eqb-false (kind-of w) 0 e in let l = getD-take i vs (left-of w) false (left-below k) in
+      ⊎-elim (λ (f : eqb (kind-of w) 1 ≡ true). simp (e, f, l))
+      (λ (f : eqb (kind-of w) 1 ≡ false). let j = eqb-false (kind-of w) 1 f in
+      simp (e, f, l, getD-take i vs (right-of w) false (right-below (omega (arith, k, j)))))
+      (cases (eqb (kind-of w) 1)))
+      (cases (eqb (kind-of w) 0))
+
+-- Of the first m rows, each is sound if all are.
+pub rows-each : (t : List ℕ) (m i : ℕ) → rows-sound t m ≡ true → i < m → row-sound (row-word t i) (events t) i ≡ true
+unfolding rows-sound
+rows-each t = each-below (rows-sound t) (λ i. row-sound (row-word t i) (events t) i) (λ k. refl)
+
+-- The values of the rows, and the sheet where they stand.
+module _ (t bits : List ℕ) where
+  pub values-length : (m : ℕ) → length (row-values t bits m) ≡ m
+  unfolding row-values
+  values-length zero = refl
+  values-length (suc m) = simp (length-append, values-length m) (omega arith)
+
+  -- One more row on the sheet.
+  pub values-more : (sheet : List Bool) (i : ℕ) (v : Bool) → i < length sheet → take i sheet ≡ row-values t bits i
+      → row-sound (row-word t i) (events t) i ≡ true → v ≡ row-value (row-word t i) bits sheet
+      → take (i + 1) (set sheet i v) ≡ row-values t bits (i + 1)
+  unfolding row-values
+  values-more sheet i v h q ok p =
+      rw (add-one, take-suc-set sheet i v h, q, p, value-before (row-word t i) (events t) i ok bits sheet, q)
+
+  pub values-at : (sheet : List Bool) (m g : ℕ) → take m sheet ≡ row-values t bits m → g < m
+      → getD sheet g false ≡ getD (row-values t bits m) g false
+  values-at sheet m g q h = rw (← q, getD-take m sheet g false h)

@@ -1,0 +1,67 @@
+-- `table::finished` meets its contract: what the first look refuses is passed on; then the last row says.
+use mathlib.Core.Path.{_≡_, refl, sym, _∙_}
+use borrow.Author.Needs.{needs}
+use Rattle.table.specs.Steps.{admit-of}
+use Rattle.table.specs.declared.Answer.the-variants.{Done}
+use Rattle.table.proofs.Answered.{long-table, last-on-sheet, sheet-ended, finished-passed, finished-yes, finished-no}
+use Rattle.table.proofs.finished.Statement.{statement}
+use Rattle.table.proofs.finished.Tie as tie
+
+admit-requires : tie.Need-admit-requires
+admit-requires c κs = refl
+
+enum-told : tie.Need-enum-told
+enum-told c = search needs
+
+enum-told-2 : tie.Need-enum-told-2
+enum-told-2 c = search needs
+
+unasked-requires : tie.Need-unasked-requires
+unasked-requires c κs = search needs
+
+returns : tie.Need-returns
+returns c =
+    c .unasked .ensures ∙ finished-passed _ _ _ _ _ (c .before .enum-told2 .given .1) (c .before .before .before .admit .ensures .0)
+
+-- The first look let the call go on.
+admitted : (c : tie.After-enum-told)
+    → admit-of (c .before .before .before .before .before .before .before .args .table .now) (c .before .before .before .before .before .before .before .args .before .bits) ≡ Done
+admitted c = sym (c .before .before .admit .ensures .0) ∙ c .enum-told .given .1
+
+half-requires : tie.Need-half-requires
+half-requires c κs = long-table _ _ (admitted c)
+
+sub-last : tie.Need-sub-last
+sub-last c = last-on-sheet _ _ (admitted (c .before)) _ (c .half .ensures .0) .0
+
+array-read-if1 : tie.Need-array-read-if1
+array-read-if1 c = last-on-sheet _ _ (admitted (c .before)) _ (c .half .ensures .0) .1
+
+returns-2 : tie.Need-returns-2
+returns-2 c =
+    let told = c .before .before in
+    let d = admitted told in
+    let q = told .before .before .admit .ensures .1 (told .enum-told .given .1) in
+    finished-yes _ _ d (sym (sheet-ended _ _ d _ q _ (c .before .half .ensures .0)) ∙ c .if1 .taken)
+
+returns-3 : tie.Need-returns-3
+returns-3 c =
+    let told = c .before .before in
+    let d = admitted told in
+    let q = told .before .before .admit .ensures .1 (told .enum-told .given .1) in
+    finished-no _ _ d (sym (sheet-ended _ _ d _ q _ (c .before .half .ensures .0)) ∙ c .if1 .left)
+
+pub finished-spec : {M : Type 1} → statement M
+finished-spec =
+    tie.close
+    (tie.spec
+    admit-requires
+    enum-told
+    enum-told-2
+    unasked-requires
+    returns
+    half-requires
+    sub-last
+    array-read-if1
+    returns-2
+    returns-3)

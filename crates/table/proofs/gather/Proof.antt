@@ -1,0 +1,86 @@
+-- `table::gather` meets its contract: after e turns the bits are those of the events below e.
+use mathlib.Core.Path.{_≡_, refl, sym, ap, _∙_}
+use Prim.Native.Nat.{_≤_, _-_}
+use lib.ListN.{take}
+use mathlib.Core.Logic.{⊎-elim}
+use Rattle.table.specs.Steps.{offered}
+use Rattle.table.proofs.Answered.{gather-on-sheet, gather-yes, gather-no}
+use borrow.Author.Needs.{needs}
+use native.Mathlib.Omega.{arith}
+use Rattle.table.proofs.gather.Statement.{statement}
+use Rattle.table.proofs.gather.Tie as tie
+use Rattle.table.proofs.gather.Reads as reads
+use Rattle.table.proofs.gather.Lts as lts
+use Rattle.record.proofs.set.Reads as set-reads
+use Rattle.table.proofs.word.Reads as word-reads
+
+abbrev Inv-loop : tie.InvT-loop
+Inv-loop t n m sheet o₀ e₀ o e = (e ≤ n) × (o ≡ offered t (take m sheet) e)
+
+abbrev μ-loop : tie.MeasureT-loop
+μ-loop t n m sheet o₀ e₀ o e = n - e
+
+loop-holds : tie.Need-loop-holds Inv-loop μ-loop
+unfolding offered
+loop-holds c = (omega arith, refl)
+
+mul-word : tie.Need-mul-word Inv-loop μ-loop
+mul-word c = search needs
+
+add-word : tie.Need-add-word Inv-loop μ-loop
+add-word c = search needs
+
+word-requires : tie.Need-word-requires Inv-loop μ-loop
+word-requires c κs = search needs
+
+element-copy-out-if1 : tie.Need-element-copy-out-if1 Inv-loop μ-loop
+element-copy-out-if1 c =
+    let start = c .before .before .before .before in
+    let a = start .args in
+    let l = c .before .before .loop in
+    gather-on-sheet (a .t .now) (a .sheet .now) (a .n) (a .m) (l .e) (c .word .result) (start .pre .0) (start .pre .1) (c .before .loop-test .taken) (c .word .ensures .0)
+
+set-requires : tie.Need-set-requires Inv-loop μ-loop
+set-requires c κs = search needs
+
+add-e : tie.Need-add-e Inv-loop μ-loop
+add-e c = search needs
+
+loop-less : tie.Need-loop-less Inv-loop μ-loop
+loop-less c = search needs
+
+loop-again : tie.Need-loop-again Inv-loop μ-loop
+loop-again c =
+    let start = c .before .before .before .before .before .before in
+    let a = start .args in
+    let l = c .before .before .before .before .loop in
+    let w = c .before .before .word in
+    let h = c .before .before .before .loop-test .taken in (
+      omega arith,
+      ⊎-elim
+          (λ y. y .2 ∙ gather-yes (a .t .now) (a .sheet .now) (a .n) (a .m) (l .e) (w .result) (start .pre .0) (start .pre .1) h (w .ensures .0) (l .o) (y .1 .result)
+          (y .0 .taken) (l .inv .1) (y .1 .ensures))
+          (λ x. x .1 ∙ gather-no (a .t .now) (a .sheet .now) (a .n) (a .m) (l .e) (w .result) (start .pre .0) (start .pre .1) h (w .ensures .0) (l .o) (x .0 .left)
+          (l .inv .1))
+          (c .if1 .came),
+    )
+
+returns : tie.Need-returns Inv-loop μ-loop
+returns c = let q : c .before .loop .e ≡ c .before .before .before .args .n = omega arith in rw (← q) (c .before .loop .inv .1)
+
+pub gather-spec : {M : Type 1} → statement M
+gather-spec =
+    tie.close
+    (tie.spec
+    Inv-loop
+    μ-loop
+    loop-holds
+    mul-word
+    add-word
+    word-requires
+    element-copy-out-if1
+    set-requires
+    add-e
+    loop-less
+    loop-again
+    returns)

@@ -1,0 +1,95 @@
+-- `table::step` meets its contract: what the first look refuses is passed on; then 14, 15, or the event's bit set and its run cleared.
+use mathlib.Core.Path.{_≡_, refl, sym, _∙_}
+use Prim.Native.Nat.{_<_}
+use native.Mathlib.Omega.{arith}
+use borrow.Author.Needs.{needs}
+use Rattle.table.specs.Fields.{events}
+use Rattle.table.specs.Steps.{admit-of}
+use Rattle.table.specs.declared.Answer.the-variants.{Done}
+use Rattle.table.proofs.Answered.{long-table, few-events, in-table, guard-on-sheet, sheet-allows, step-passed, step-14, step-15, step-done}
+use Rattle.table.proofs.step.Statement.{statement}
+use Rattle.table.proofs.step.Tie as tie
+
+admit-requires : tie.Need-admit-requires
+admit-requires c κs = refl
+
+enum-told : tie.Need-enum-told
+enum-told c = search needs
+
+enum-told-2 : tie.Need-enum-told-2
+enum-told-2 c = search needs
+
+returns : tie.Need-returns
+returns c = step-passed _ _ _ _ _ _ (c .enum-told2 .given .1) (c .before .before .admit .ensures .0)
+
+-- The first look let the call go on.
+admitted : (c : tie.After-enum-told)
+    → admit-of (c .before .before .before .before .before .before .before .args .table .now) (c .before .before .before .before .before .before .before .args .before .bits) ≡ Done
+admitted c = sym (c .before .before .admit .ensures .0) ∙ c .enum-told .given .1
+
+-- There is such an event.
+below : (c : tie.Else1)
+    → c .before .before .before .before .before .before .before .before .before .args .event
+    < events (c .before .before .before .before .before .before .before .before .before .args .table .now)
+below c = rw (← (c .before .half .ensures .0)) (c .if1 .left)
+
+half-requires : tie.Need-half-requires
+half-requires c κs = let l = long-table _ _ (admitted c) in omega (arith, l)
+
+returns-2 : tie.Need-returns-2
+returns-2 c =
+    step-14 _ _ _ (admitted (c .before .before)) (rw (← (c .before .half .ensures .0)) (c .if1 .taken))
+
+mul-word : tie.Need-mul-word
+mul-word c = omega (arith, below c, few-events _ _ (admitted (c .before .before)))
+
+add-word : tie.Need-add-word
+add-word c = omega (arith, below c, few-events _ _ (admitted (c .before .before)))
+
+word-requires : tie.Need-word-requires
+word-requires c κs = in-table _ _ (admitted (c .before .before)) _ (below c)
+
+array-read-if2 : tie.Need-array-read-if2
+array-read-if2 c = guard-on-sheet _ _ (admitted (c .before .before .before)) _ _ (below (c .before)) (c .word .ensures .0)
+
+set-requires : tie.Need-set-requires
+set-requires c κs = search needs
+
+clear-requires : tie.Need-clear-requires
+clear-requires c κs = search needs
+
+returns-3 : tie.Need-returns-3
+returns-3 c =
+    let word = c .before .before .before in
+    let d = admitted (word .before .before .before) in
+    let b = below (word .before) in
+    let w = word .word .ensures .0 in
+    let q = word .before .before .before .before .before .admit .ensures .1 (word .before .before .before .enum-told .given .1) in
+    step-done _ _ _ d b _ _ _ (sym (sheet-allows _ _ d _ q _ _ b w) ∙ c .before .before .if2 .taken) w (c .before .set .ensures) (c .clear .ensures)
+
+returns-4 : tie.Need-returns-4
+returns-4 c =
+    let word = c .before in
+    let d = admitted (word .before .before .before) in
+    let b = below (word .before) in
+    let q = word .before .before .before .before .before .admit .ensures .1 (word .before .before .before .enum-told .given .1) in
+    step-15 _ _ _ d b (sym (sheet-allows _ _ d _ q _ _ b (word .word .ensures .0)) ∙ c .if2 .left)
+
+pub step-spec : {M : Type 1} → statement M
+step-spec =
+    tie.close
+    (tie.spec
+    admit-requires
+    enum-told
+    enum-told-2
+    returns
+    half-requires
+    returns-2
+    mul-word
+    add-word
+    word-requires
+    array-read-if2
+    set-requires
+    clear-requires
+    returns-3
+    returns-4)

@@ -1,0 +1,115 @@
+-- `table::work_out` meets its contract: up to the first row that is not sound, the sheet has the values.
+use mathlib.Core.Path.{_≡_, refl, sym, ap, _∙_}
+use mathlib.Core.Bool.{true}
+use mathlib.Core.Logic.{⊎-elim}
+use Prim.Native.Nat.{_≤_, _-_}
+use lib.ListN.{length, take, length-set}
+use Rattle.base.proofs.Truth.{clash}
+use Rattle.table.specs.Sound.{rows-sound}
+use Rattle.table.specs.Values.{row-values}
+use Rattle.table.proofs.Worked.{rows-more, row-now, worked-more}
+use borrow.Author.Needs.{needs}
+use native.Mathlib.Omega.{arith}
+use Rattle.table.proofs.work_out.Statement.{statement}
+use Rattle.table.proofs.work_out.Tie as tie
+use Rattle.table.proofs.work_out.Reads as reads
+use Rattle.table.proofs.work_out.Lts as lts
+use Rattle.table.proofs.row_sound.Reads as row-sound-reads
+use Rattle.table.proofs.row_value.Reads as row-value-reads
+use Rattle.table.proofs.word.Reads as word-reads
+
+abbrev Inv-loop : tie.InvT-loop
+Inv-loop t n m bits sheet₀ base ok₀ i₀ sheet ok i =
+    (i ≤ m) × (length sheet ≡ 12288) × (ok ≡ rows-sound t i) × (ok ≡ true → take i sheet ≡ row-values t bits i)
+
+abbrev μ-loop : tie.MeasureT-loop
+μ-loop t n m bits sheet₀ base ok₀ i₀ sheet ok i = m - i
+
+mul-base : tie.Need-mul-base Inv-loop μ-loop
+mul-base c = search needs
+
+add-base : tie.Need-add-base Inv-loop μ-loop
+add-base c = search needs
+
+loop-holds : tie.Need-loop-holds Inv-loop μ-loop
+unfolding rows-sound row-values
+loop-holds c = (omega arith, c .before .pre .1, refl, λ y. refl)
+
+mul-word : tie.Need-mul-word Inv-loop μ-loop
+mul-word c = search needs
+
+add-word : tie.Need-add-word Inv-loop μ-loop
+add-word c = search needs
+
+word-requires : tie.Need-word-requires Inv-loop μ-loop
+word-requires c κs = search needs
+
+row-sound-requires : tie.Need-row-sound-requires Inv-loop μ-loop
+row-sound-requires c κs = search needs
+
+row-value-requires : tie.Need-row-value-requires Inv-loop μ-loop
+row-value-requires c κs =
+    let start = c .before .before .before .before .before .before .before in
+    let p = start .pre .0 in
+    let a = start .args in
+    let l = c .before .before .before .before .before .loop in
+    let judged = c .before .before in (
+      row-now (a .t .now) (a .n) (l .i) (judged .before .word .result) (l .ok) (judged .row-sound .result) (p .n-is) (judged .before .word .ensures .0) (judged .row-sound .ensures)
+          (c .before .if1 .taken),
+      p .n-most,
+      omega (arith, p .m-most),
+    )
+
+element-write-sheet : tie.Need-element-write-sheet Inv-loop μ-loop
+element-write-sheet c = omega (arith, c .before .before .before .before .before .before .before .before .pre .0 .m-most)
+
+add-i : tie.Need-add-i Inv-loop μ-loop
+add-i c = search needs
+
+loop-less : tie.Need-loop-less Inv-loop μ-loop
+loop-less c = search needs
+
+loop-again : tie.Need-loop-again Inv-loop μ-loop
+loop-again c =
+    let start = c .before .before .before .before .before .before in
+    let p = start .pre .0 in
+    let a = start .args in
+    let l = c .before .before .before .before .loop in
+    let w = c .before .before .word in
+    let s = c .before .row-sound in
+    let more = rows-more (a .t .now) (a .n) (l .i) (w .result) (l .ok) (s .result) (p .n-is) (w .ensures .0) (s .ensures) (l .inv .2) in
+    ⊎-elim
+    (λ y. (
+      omega arith,
+      ap length (y .3) ∙ length-set (l .sheet) (l .i) (y .2 .result) ∙ l .inv .1,
+      more,
+      worked-more (a .t .now) (a .n) (l .i) (w .result) (l .ok) (s .result) (p .n-is) (w .ensures .0) (s .ensures) (a .bits .now) (l .sheet) (c .if1 .sheet)
+          (y .2 .result) (rw (l .inv .1) (omega (arith, p .m-most))) (l .inv .3) (y .2 .ensures) (y .3),
+    ))
+    (λ x. (omega arith, ap length (x .1) ∙ l .inv .1, more, λ yes. absurd (clash yes (x .0 .left))))
+    (c .if1 .came)
+
+returns : tie.Need-returns Inv-loop μ-loop
+returns c =
+    let q : c .before .loop .i ≡ c .before .before .before .args .m = omega arith in
+    rw (← q) (c .before .loop .inv .2, c .before .loop .inv .3)
+
+pub work-out-spec : {M : Type 1} → statement M
+work-out-spec =
+    tie.close
+    (tie.spec
+    Inv-loop
+    μ-loop
+    mul-base
+    add-base
+    loop-holds
+    mul-word
+    add-word
+    word-requires
+    row-sound-requires
+    row-value-requires
+    element-write-sheet
+    add-i
+    loop-less
+    loop-again
+    returns)

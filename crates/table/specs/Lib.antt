@@ -1,0 +1,5 @@
+pub mod Fields
+pub mod Sound
+pub mod Shaped
+pub mod Values
+pub mod Steps

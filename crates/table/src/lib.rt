@@ -1,0 +1,311 @@
+ghost use mathlib.Core.Path.{_≡_};
+ghost use mathlib.Core.Bool.{true, false};
+ghost use Prim.Native.Nat.{ℕ, _+_, _*_, _<_, _≤_, _^_};
+ghost use lib.ListN.{length, getD, take};
+ghost use Rattle.record.specs.Bytes.{field};
+ghost use Rattle.table.specs.Fields.{events, rows};
+ghost use Rattle.table.specs.Sound.{event-sound, row-sound, events-sound, rows-sound, sound};
+ghost use Rattle.table.specs.Shaped.{size-of, Shaped};
+ghost use Rattle.table.specs.Values.{row-value, row-values};
+ghost use Rattle.table.specs.Steps.{check-of, admit-of, step-of, unasked, finished-of, offered, offer-of, offer-left};
+use record::Record;
+
+// Sound, done or offered; or the refusal with its number and place.
+pub enum Answer {
+    Done,
+    Refused(u8, usize),
+}
+
+// A step's answer, and the record after it: where the answer is a refusal, the record before it.
+pub struct Stepped {
+    pub answer: Answer,
+    pub after: Record,
+}
+
+// Whether a run is finished; or the refusal with its number and place.
+pub enum Finish {
+    No,
+    Yes,
+    Refused(u8, usize),
+}
+
+// The numbers of events and of rows, or that a table's length does not fit them.
+enum Size {
+    Of(usize, usize),
+    Wrong,
+}
+
+fn wide(x: u8) -> usize
+    ensures { λ r. ⌜ (r ≡ x) × (r < 256) ⌝ }
+{
+    x as usize
+}
+
+// The 16 bits at i.
+fn half(t: &[u8], i: usize) -> usize
+    requires { ⌜ i + 1 < length (now t) ⌝ }
+    ensures { λ r. ⌜ (r ≡ field 2 (now (t .entry)) i) × (r < 65536) ⌝ }
+{
+    wide(t[i]) * 256 + wide(t[i + 1])
+}
+
+// The 32 bits at i.
+fn word(t: &[u8], i: usize) -> usize
+    requires { ⌜ i + 3 < length (now t) ⌝ }
+    ensures { λ r. ⌜ (r ≡ field 4 (now (t .entry)) i) × (r < 2 ^ 32) ⌝ }
+{
+    ((wide(t[i]) * 256 + wide(t[i + 1])) * 256 + wide(t[i + 2])) * 256 + wide(t[i + 3])
+}
+
+// Whether the length fits the numbers of events and of rows, and these the limits.
+fn measure(t: &[u8]) -> Size
+    ensures { λ r. ⌜ r ≡ size-of (now (t .entry)) ⌝ }
+{
+    if t.len() < 4 {
+        return Size::Wrong;
+    }
+    let n = half(t, 0);
+    let m = half(t, 2);
+    let most = (n <= 512) & ((1 <= m) & ((m <= 12288) & (t.len() == 4 + 4 * n + 4 * m)));
+    if (1 <= n) & most {
+        return Size::Of(n, m);
+    }
+    Size::Wrong
+}
+
+// Of event e's record, where there are m rows.
+fn event_sound(w: usize, m: usize, e: usize) -> bool
+    ensures { λ r. ⌜ r ≡ event-sound w m e ⌝ }
+{
+    let guard = w / 262144;
+    let first = w / 512 % 512;
+    let count = w % 512;
+    let end = if count == 0 { 0 } else { e };
+    (guard < m) & (first + count == end)
+}
+
+// Of row i, where there are n events: left is below the one number, right below the other.
+fn row_sound(w: usize, n: usize, i: usize) -> bool
+    ensures { λ r. ⌜ r ≡ row-sound w n i ⌝ }
+{
+    let kind = w / 1073741824;
+    let left = w / 32768 % 32768;
+    let right = w % 32768;
+    let a = if kind == 0 { n } else { i };
+    let b = if kind < 2 { 1 } else { i };
+    (left < a) & (right < b)
+}
+
+fn events_sound(t: &[u8], n: usize, m: usize) -> bool
+    requires { ⌜ Shaped (now t) n m ⌝ }
+    ensures { λ r. ⌜ r ≡ events-sound (now (t .entry)) n ⌝ }
+{
+    let mut ok = true;
+    let mut e = 0;
+    while e < n {
+        let w = word(t, 4 + 4 * e);
+        let this = event_sound(w, m, e);
+        ok = ok & this;
+        e += 1;
+    }
+    ok
+}
+
+fn rows_sound(t: &[u8], n: usize, m: usize) -> bool
+    requires { ⌜ Shaped (now t) n m ⌝ }
+    ensures { λ r. ⌜ r ≡ rows-sound (now (t .entry)) m ⌝ }
+{
+    let base = 4 + 4 * n;
+    let mut ok = true;
+    let mut i = 0;
+    while i < m {
+        let w = word(t, base + 4 * i);
+        let this = row_sound(w, n, i);
+        ok = ok & this;
+        i += 1;
+    }
+    ok
+}
+
+// Whether a table is sound; else number 12.
+pub fn check(table: &[u8]) -> Answer
+    ensures { λ r. ⌜ r ≡ check-of (now (table .entry)) ⌝ }
+{
+    let size = measure(table);
+    let Size::Of(n, m) = size else {
+        return Answer::Refused(12, 0);
+    };
+    let events = events_sound(table, n, m);
+    let rows = rows_sound(table, n, m);
+    if events & rows {
+        return Answer::Done;
+    }
+    Answer::Refused(12, 0)
+}
+
+// The value of a sound row, from the control bits and the rows before it.
+fn row_value(w: usize, n: usize, i: usize, bits: &[u64; 8], sheet: &[bool; 12288]) -> bool
+    requires { ⌜ (row-sound w n i ≡ true) × (n ≤ 512) × (i < 12288) ⌝ }
+    ensures { λ r. ⌜ r ≡ row-value w (now (bits .entry)) (now (sheet .entry)) ⌝ }
+{
+    let kind = w / 1073741824;
+    let left = w / 32768 % 32768;
+    let right = w % 32768;
+    if kind == 0 {
+        return record::bit(bits, left);
+    }
+    let x = sheet[left];
+    if kind == 1 {
+        return !x;
+    }
+    let y = sheet[right];
+    if kind == 2 {
+        return x & y;
+    }
+    x | y
+}
+
+// Whether all rows are sound, and the values of all rows up to the first that is not, lowest row first.
+fn work_out(t: &[u8], n: usize, m: usize, bits: &[u64; 8], sheet: &mut [bool; 12288]) -> bool
+    requires { ⌜ Shaped (now t) n m × (length (now sheet) ≡ 12288) ⌝ }
+    ensures { λ r. ⌜ r ≡ rows-sound (now (t .entry)) m ⌝ }
+    ensures { λ r. ⌜ (r ≡ true → take m (now (sheet .exit)) ≡ row-values (now (t .entry)) (now (bits .entry)) m) ⌝ }
+{
+    let base = 4 + 4 * n;
+    let mut ok = true;
+    let mut i = 0;
+    while i < m {
+        let w = word(t, base + 4 * i);
+        let this = row_sound(w, n, i);
+        ok = ok & this;
+        if ok {
+            let v = row_value(w, n, i, bits, sheet);
+            sheet[i] = v;
+        }
+        i += 1;
+    }
+    ok
+}
+
+// What every call but `check` looks at first, numbers 12 and 13; where there is neither, the sheet has the values of the rows.
+fn admit(t: &[u8], bits: &[u64; 8], sheet: &mut [bool; 12288]) -> Answer
+    requires { ⌜ length (now sheet) ≡ 12288 ⌝ }
+    ensures { λ r. ⌜ r ≡ admit-of (now (t .entry)) (now (bits .entry)) ⌝ }
+    ensures { λ r. ⌜ (r ≡ Answer.Done → take (rows (now (t .entry))) (now (sheet .exit)) ≡ row-values (now (t .entry)) (now (bits .entry)) (rows (now (t .entry)))) ⌝ }
+{
+    let size = measure(t);
+    let Size::Of(n, m) = size else {
+        return Answer::Refused(12, 0);
+    };
+    let events = events_sound(t, n, m);
+    let rows = work_out(t, n, m, bits, sheet);
+    if events & rows {
+        if record::stray(bits, n) {
+            return Answer::Refused(13, 0);
+        }
+        return Answer::Done;
+    }
+    Answer::Refused(12, 0)
+}
+
+// The event is taken if the table is sound, the record has no stray bit, there is such an event and its guard row says yes.
+pub fn step(table: &[u8], before: Record, event: u64) -> Stepped
+    ensures { λ r. ⌜ r ≡ step-of (now (table .entry)) before event ⌝ }
+{
+    let bits = before.bits;
+    let mut sheet = [false; 12288];
+    let answer = admit(table, &bits, &mut sheet);
+    let Answer::Done = answer else {
+        return Stepped {
+            answer,
+            after: before,
+        };
+    };
+    let e = event as usize;
+    if half(table, 0) <= e {
+        return Stepped {
+            answer: Answer::Refused(14, 0),
+            after: before,
+        };
+    }
+    let w = word(table, 4 + 4 * e);
+    let guard = w / 262144;
+    if sheet[guard] {
+        let set = record::set(bits, e);
+        let cleared = record::clear(set, w / 512 % 512, w % 512);
+        return Stepped {
+            answer: Answer::Done,
+            after: Record { bits: cleared },
+        };
+    }
+    Stepped {
+        answer: Answer::Refused(15, 0),
+        after: before,
+    }
+}
+
+fn unasked(answer: Answer) -> Finish
+    ensures { λ r. ⌜ r ≡ unasked answer ⌝ }
+{
+    let Answer::Refused(number, place) = answer else {
+        return Finish::No;
+    };
+    Finish::Refused(number, place)
+}
+
+// Whether the last row says yes, of a sound table and a record with no stray bit.
+pub fn finished(table: &[u8], before: Record) -> Finish
+    ensures { λ r. ⌜ r ≡ finished-of (now (table .entry)) before ⌝ }
+{
+    let bits = before.bits;
+    let mut sheet = [false; 12288];
+    let answer = admit(table, &bits, &mut sheet);
+    let Answer::Done = answer else {
+        return unasked(answer);
+    };
+    let last = half(table, 2) - 1;
+    if sheet[last] {
+        return Finish::Yes;
+    }
+    Finish::No
+}
+
+// The bits of the events that a step would take, from a sound table and its rows' values.
+fn gather(t: &[u8], n: usize, m: usize, sheet: &[bool; 12288]) -> [u64; 8]
+    requires { ⌜ Shaped (now t) n m × (events-sound (now t) n ≡ true) ⌝ }
+    ensures { λ r. ⌜ r ≡ offered (now (t .entry)) (take m (now (sheet .entry))) n ⌝ }
+{
+    let mut o = [0u64; 8];
+    let mut e = 0;
+    while e < n {
+        let w = word(t, 4 + 4 * e);
+        let guard = w / 262144;
+        if sheet[guard] {
+            let p = record::set(o, e);
+            o = p;
+        }
+        e += 1;
+    }
+    o
+}
+
+// The bit of each event that a step would take, in 64 bytes; bytes past them stay. Number 1 for a buffer of under 64 bytes, before all others.
+pub fn offer(table: &[u8], before: Record, out: &mut [u8]) -> Answer
+    ensures { λ r. ⌜ r ≡ offer-of (now (table .entry)) before (now (out .entry)) ⌝ }
+    ensures { λ r. ⌜ now (out .exit) ≡ offer-left (now (table .entry)) before (now (out .entry)) (offer-of (now (table .entry)) before (now (out .entry))) ⌝ }
+{
+    if out.len() < 64 {
+        return Answer::Refused(1, 0);
+    }
+    let bits = before.bits;
+    let mut sheet = [false; 12288];
+    let answer = admit(table, &bits, &mut sheet);
+    let Answer::Done = answer else {
+        return answer;
+    };
+    let n = half(table, 0);
+    let m = half(table, 2);
+    let o = gather(table, n, m, &sheet);
+    record::store(out, o);
+    answer
+}
