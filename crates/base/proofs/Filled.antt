@@ -4,6 +4,7 @@ use mathlib.Core.List.{List, [], _∷_}
 use Prim.Native.Nat.{ℕ, zero, suc, _≤_, _<_}
 use native.Mathlib.Omega.{arith}
 use lib.ListN.{length, take, drop, getD, set}
+use lib.Seq.{take-all}
 use lib.Seq.{getD-take}
 use Rattle.base.specs.Fill.{fill}
 
@@ -45,3 +46,8 @@ fill-more [] (v ∷ vs) zero h = refl
 fill-more (x ∷ xs) (v ∷ vs) zero h = rw (fill-none xs)
 fill-more [] (v ∷ vs) (suc n) h = refl
 fill-more (x ∷ xs) (v ∷ vs) (suc n) h = rw (fill-more xs vs n (omega arith))
+
+-- Values as many as the list has leave nothing of it.
+pub fill-whole : (xs vs : List ℕ) → length vs ≡ length xs → fill xs vs ≡ vs
+fill-whole xs vs h =
+    sym (take-all (length vs) (fill xs vs) (omega (arith, h, fill-length xs vs))) ∙ fill-front xs vs (omega (arith, h))

@@ -1,0 +1,21 @@
+-- `adl_check` meets its contract: the number of the answer.
+use native.Mathlib.Omega.{arith}
+use mathlib.Core.Path.{ap, _∙_}
+use Rattle.firmware.specs.Calls.{number}
+use borrow.Author.Needs.{needs}
+use Rattle.firmware.proofs.adl_check.Statement.{statement}
+use Rattle.firmware.proofs.adl_check.Tie as tie
+use Rattle.firmware.proofs.number_of.Reads as number-of-reads
+use Rattle.table.proofs.check.Reads as check-reads
+
+check-requires : tie.Need-check-requires
+check-requires c κs = search needs
+
+number-of-requires : tie.Need-number-of-requires
+number-of-requires c κs = search needs
+
+returns : tie.Need-returns
+returns c = c .number-of .ensures ∙ ap number (c .before .check .ensures)
+
+pub adl-check-spec : {M : Type 1} → statement M
+adl-check-spec = tie.close (tie.spec check-requires number-of-requires returns)

@@ -1,0 +1,55 @@
+-- `adl_finished` meets its contract, answer by answer.
+use native.Mathlib.Omega.{arith}
+use Rattle.firmware.proofs.Called.{finished-short, finished-told}
+use borrow.Author.Needs.{needs}
+use Rattle.firmware.proofs.adl_finished.Statement.{statement}
+use Rattle.firmware.proofs.adl_finished.Tie as tie
+use Rattle.record.proofs.load.Reads as load-reads
+use Rattle.table.proofs.finished.Reads as finished-reads
+
+returns : tie.Need-returns
+returns c = finished-short _ _ (c .if1 .taken)
+
+load-requires : tie.Need-load-requires
+load-requires c κs = search needs
+
+finished-requires : tie.Need-finished-requires
+finished-requires c κs = search needs
+
+enum-told : tie.Need-enum-told
+enum-told c = search needs
+
+enum-told-2 : tie.Need-enum-told-2
+enum-told-2 c = search needs
+
+enum-known-finish : tie.Need-enum-known-finish
+enum-known-finish c = search needs
+
+returns-2 : tie.Need-returns-2
+returns-2 c =
+    let asked = c .before .before in
+    finished-told _ _ (asked .before .before .if1 .left) _ (asked .before .load .ensures) _ _ (asked .finished .ensures) (c .enum-told .given .1)
+
+returns-3 : tie.Need-returns-3
+returns-3 c =
+    let asked = c .before .before in
+    finished-told _ _ (asked .before .before .if1 .left) _ (asked .before .load .ensures) _ _ (asked .finished .ensures) (c .enum-told2 .given .1)
+
+returns-4 : tie.Need-returns-4
+returns-4 c =
+    let asked = c .before .before .before in
+    finished-told _ _ (asked .before .before .if1 .left) _ (asked .before .load .ensures) _ _ (asked .finished .ensures) (c .before .finish .given .1)
+
+pub adl-finished-spec : {M : Type 1} → statement M
+adl-finished-spec =
+    tie.close
+    (tie.spec
+    returns
+    load-requires
+    finished-requires
+    enum-told
+    enum-told-2
+    enum-known-finish
+    returns-2
+    returns-3
+    returns-4)

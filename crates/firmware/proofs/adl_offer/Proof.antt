@@ -1,0 +1,36 @@
+-- `adl_offer` meets its contract: 1, or the number of the answer, with the bytes that it leaves.
+use native.Mathlib.Omega.{arith}
+use mathlib.Core.Path.{ap, _∙_}
+use Rattle.firmware.proofs.Called.{offer-short, offer-told}
+use borrow.Author.Needs.{needs}
+use Rattle.firmware.proofs.adl_offer.Statement.{statement}
+use Rattle.firmware.proofs.adl_offer.Tie as tie
+use Rattle.firmware.proofs.number_of.Reads as number-of-reads
+use Rattle.record.proofs.load.Reads as load-reads
+use Rattle.table.proofs.offer.Reads as offer-reads
+
+returns : tie.Need-returns
+returns c = offer-short _ _ _ (c .if1 .taken)
+
+load-requires : tie.Need-load-requires
+load-requires c κs = search needs
+
+offer-requires : tie.Need-offer-requires
+offer-requires c κs = search needs
+
+number-of-requires : tie.Need-number-of-requires
+number-of-requires c κs = search needs
+
+same-length : tie.Need-same-length
+same-length c = c .before .before .before .offer .kept .1 .1 .0
+
+returns-2 : tie.Need-returns-2
+returns-2 c =
+    let offered = c .before .before .before in
+    offer-told _ _ _ (offered .before .before .before .if1 .left) _ (offered .before .before .load .ensures) _ _ _ (offered .offer .ensures)
+    (c .number-of .ensures)
+
+pub adl-offer-spec : {M : Type 1} → statement M
+adl-offer-spec =
+    tie.close
+    (tie.spec returns load-requires offer-requires number-of-requires same-length returns-2)

@@ -1,0 +1,76 @@
+ghost use mathlib.Core.Path.{_≡_};
+ghost use Rattle.firmware.specs.Calls.{number, finish-number, check-number, step-number, step-bytes, finished-number, offer-number, offer-bytes};
+use record::Record;
+use table::Answer;
+use table::Finish;
+
+// The number that stands for an answer.
+fn number_of(answer: Answer) -> u8
+    ensures { λ r. ⌜ r ≡ number answer ⌝ }
+{
+    let Answer::Refused(number, _) = answer else {
+        return 0;
+    };
+    number
+}
+
+// 0 for a sound table, else 12.
+#[no_mangle]
+pub extern "C" fn adl_check(table: &[u8]) -> u8
+    ensures { λ r. ⌜ r ≡ check-number (now (table .entry)) ⌝ }
+{
+    let answer = table::check(table);
+    number_of(answer)
+}
+
+// 0 for an event that was taken: the record's 64 bytes are then those after it. A refusal leaves them.
+#[no_mangle]
+pub extern "C" fn adl_step(table: &[u8], bytes: &mut [u8], event: u64) -> u8
+    ensures { λ r. ⌜ r ≡ step-number (now (table .entry)) (now (bytes .entry)) event ⌝ }
+    ensures { λ r. ⌜ now (bytes .exit) ≡ step-bytes (now (table .entry)) (now (bytes .entry)) event ⌝ }
+{
+    if bytes.len() != 64 {
+        return 1;
+    }
+    let bits = record::load(bytes);
+    let stepped = table::step(table, Record { bits }, event);
+    let answer = stepped.answer;
+    let Answer::Done = answer else {
+        return number_of(answer);
+    };
+    let after = stepped.after;
+    let bits = after.bits;
+    record::store(bytes, bits);
+    0
+}
+
+// 0 for an offer: 64 bytes are written then, and those past them stay. A refusal leaves all.
+#[no_mangle]
+pub extern "C" fn adl_offer(table: &[u8], bytes: &[u8], out: &mut [u8]) -> u8
+    ensures { λ r. ⌜ r ≡ offer-number (now (table .entry)) (now (bytes .entry)) (now (out .entry)) ⌝ }
+    ensures { λ r. ⌜ now (out .exit) ≡ offer-bytes (now (table .entry)) (now (bytes .entry)) (now (out .entry)) ⌝ }
+{
+    if bytes.len() != 64 {
+        return 1;
+    }
+    let bits = record::load(bytes);
+    let answer = table::offer(table, Record { bits }, out);
+    number_of(answer)
+}
+
+// 255 for a finished run, 0 for one that is not.
+#[no_mangle]
+pub extern "C" fn adl_finished(table: &[u8], bytes: &[u8]) -> u8
+    ensures { λ r. ⌜ r ≡ finished-number (now (table .entry)) (now (bytes .entry)) ⌝ }
+{
+    if bytes.len() != 64 {
+        return 1;
+    }
+    let bits = record::load(bytes);
+    let finish = table::finished(table, Record { bits });
+    match finish {
+        Finish::No => 0,
+        Finish::Yes => 255,
+        Finish::Refused(number, _) => number,
+    }
+}
