@@ -52,6 +52,10 @@ pub not-e : (a : Bool) → not a ≡ true → a ≡ false
 not-e true e = absurd (false≢true e)
 not-e false e = refl
 
+pub not-no : (a : Bool) → not a ≡ false → a ≡ true
+not-no true e = refl
+not-no false e = absurd (true≢false e)
+
 -- Tests that come out true together are the same.
 pub agree : (a b : Bool) → (a ≡ true → b ≡ true) → (b ≡ true → a ≡ true) → a ≡ b
 agree true b f g = sym (f refl)

@@ -1,8 +1,17 @@
 ghost use mathlib.Core.Path.{_≡_};
+ghost use lib.Dec.{eqb};
+ghost use lib.ListN.{length};
 ghost use Rattle.firmware.specs.Calls.{number, finish-number, check-number, step-number, step-bytes, finished-number, offer-number, offer-bytes};
 use record::Record;
 use table::Answer;
 use table::Finish;
+
+// Whether bytes are as many as a record has; else number 1.
+fn is_record(bytes: &[u8]) -> bool
+    ensures { λ r. ⌜ r ≡ eqb (length (now (bytes .entry))) 64 ⌝ }
+{
+    bytes.len() == 64
+}
 
 // The number that stands for an answer.
 fn number_of(answer: Answer) -> u8
@@ -29,7 +38,7 @@ pub extern "C" fn adl_step(table: &[u8], bytes: &mut [u8], event: u64) -> u8
     ensures { λ r. ⌜ r ≡ step-number (now (table .entry)) (now (bytes .entry)) event ⌝ }
     ensures { λ r. ⌜ now (bytes .exit) ≡ step-bytes (now (table .entry)) (now (bytes .entry)) event ⌝ }
 {
-    if bytes.len() != 64 {
+    if !is_record(bytes) {
         return 1;
     }
     let bits = record::load(bytes);
@@ -50,7 +59,7 @@ pub extern "C" fn adl_offer(table: &[u8], bytes: &[u8], out: &mut [u8]) -> u8
     ensures { λ r. ⌜ r ≡ offer-number (now (table .entry)) (now (bytes .entry)) (now (out .entry)) ⌝ }
     ensures { λ r. ⌜ now (out .exit) ≡ offer-bytes (now (table .entry)) (now (bytes .entry)) (now (out .entry)) ⌝ }
 {
-    if bytes.len() != 64 {
+    if !is_record(bytes) {
         return 1;
     }
     let bits = record::load(bytes);
@@ -63,7 +72,7 @@ pub extern "C" fn adl_offer(table: &[u8], bytes: &[u8], out: &mut [u8]) -> u8
 pub extern "C" fn adl_finished(table: &[u8], bytes: &[u8]) -> u8
     ensures { λ r. ⌜ r ≡ finished-number (now (table .entry)) (now (bytes .entry)) ⌝ }
 {
-    if bytes.len() != 64 {
+    if !is_record(bytes) {
         return 1;
     }
     let bits = record::load(bytes);

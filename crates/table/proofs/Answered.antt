@@ -180,3 +180,9 @@ module _ (t : List ℕ) (before : Record) (lent : List ℕ) where
     unfolding offer-of
     offer-done a vs n m o out p q s N M O W =
         (rw (le-ltb (length lent) 64 h) q, rw (le-ltb (length lent) 64 h, ← q, p) (W ∙ rw (O, N, M, s)))
+
+    pub offer-ready : admit-of t (before .bits) ≡ Done
+        → (offer-of t before lent ≡ Done)
+        × (offer-left t before lent (offer-of t before lent) ≡ fill lent (bytes-of (offered t (sheet t (before .bits)) (events t))))
+    unfolding offer-of
+    offer-ready d = (rw (le-ltb (length lent) 64 h, d), rw (le-ltb (length lent) 64 h, d))

@@ -5,3 +5,4 @@ pub mod Valued
 pub mod Events
 pub mod Worked
 pub mod Answered
+pub mod Bounds

@@ -3,3 +3,4 @@ pub mod Sound
 pub mod Shaped
 pub mod Values
 pub mod Steps
+pub mod Bounds

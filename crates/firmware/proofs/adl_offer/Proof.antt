@@ -1,16 +1,16 @@
 -- `adl_offer` meets its contract: 1, or the number of the answer, with the bytes that it leaves.
-use native.Mathlib.Omega.{arith}
-use mathlib.Core.Path.{ap, _∙_}
+use mathlib.Core.Path.{sym, _∙_}
 use Rattle.firmware.proofs.Called.{offer-short, offer-told}
+use Rattle.base.proofs.Truth.{not-e, not-no}
 use borrow.Author.Needs.{needs}
 use Rattle.firmware.proofs.adl_offer.Statement.{statement}
 use Rattle.firmware.proofs.adl_offer.Tie as tie
-use Rattle.firmware.proofs.number_of.Reads as number-of-reads
-use Rattle.record.proofs.load.Reads as load-reads
-use Rattle.table.proofs.offer.Reads as offer-reads
+
+is-record-requires : tie.Need-is-record-requires
+is-record-requires c κs = search needs
 
 returns : tie.Need-returns
-returns c = offer-short _ _ _ (c .if1 .taken)
+returns c = offer-short _ _ _ (sym (c .before .is-record .ensures) ∙ not-e _ (c .if1 .taken))
 
 load-requires : tie.Need-load-requires
 load-requires c κs = search needs
@@ -27,10 +27,17 @@ same-length c = c .before .before .before .offer .kept .1 .1 .0
 returns-2 : tie.Need-returns-2
 returns-2 c =
     let offered = c .before .before .before in
-    offer-told _ _ _ (offered .before .before .before .if1 .left) _ (offered .before .before .load .ensures) _ _ _ (offered .offer .ensures)
+    offer-told _ _ _ (sym (offered .before .before .before .before .is-record .ensures) ∙ not-no _ (offered .before .before .before .if1 .left)) _ (offered .before .before .load .ensures) _ _ _ (offered .offer .ensures)
     (c .number-of .ensures)
 
 pub adl-offer-spec : {M : Type 1} → statement M
 adl-offer-spec =
     tie.close
-    (tie.spec returns load-requires offer-requires number-of-requires same-length returns-2)
+    (tie.spec
+    is-record-requires
+    returns
+    load-requires
+    offer-requires
+    number-of-requires
+    same-length
+    returns-2)

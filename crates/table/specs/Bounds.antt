@@ -1,0 +1,52 @@
+-- Property 1, for tables: every answer is a result or one numbered refusal, each exactly under its condition, and a refusal leaves what was lent.
+use mathlib.Core.Path.{_≡_}
+use mathlib.Core.Bool.{true, false}
+use mathlib.Core.List.{List}
+use Prim.Native.Nat.{ℕ, _≤_, _<_}
+use lib.ListN.{length}
+use Rattle.base.specs.Fill.{fill}
+use Rattle.record.specs.Bits.{stray-from}
+use Rattle.record.specs.Bytes.{bytes-of}
+use Rattle.record.specs.declared.Record.{Record}
+use Rattle.table.specs.Fields.{events}
+use Rattle.table.specs.Sound.{sound}
+use Rattle.table.specs.Values.{sheet, allows, ended}
+use Rattle.table.specs.Steps.{taken, refused, unasked, offered}
+use Rattle.table.specs.declared.Answer.{Answer}
+use Rattle.table.specs.declared.Answer.the-variants.{Done, Refused}
+use Rattle.table.specs.declared.Finish.{Finish}
+use Rattle.table.specs.declared.Finish.the-variants.{No, Yes}
+use Rattle.table.specs.declared.Stepped.{Stepped}
+
+pub data Check-answer (t : List ℕ) (a : Answer) : Type 0 where
+  is-sound : a ≡ Done → sound t ≡ true → Check-answer t a
+  not-sound : a ≡ Refused 12 0 → sound t ≡ false → Check-answer t a
+
+-- Neither 12 nor 13.
+pub record Ready (t bits : List ℕ) : Type 0 where
+  pub its-table : sound t ≡ true
+  pub its-bits : stray-from bits (events t) ≡ false
+
+-- Number 12, or 13.
+pub data Away (t bits : List ℕ) (a : Answer) : Type 0 where
+  unsound : a ≡ Refused 12 0 → sound t ≡ false → Away t bits a
+  bit-past : a ≡ Refused 13 0 → sound t ≡ true → stray-from bits (events t) ≡ true → Away t bits a
+
+pub data Step-answer (t : List ℕ) (before : Record) (e : ℕ) (s : Stepped) : Type 0 where
+  event-taken : s ≡ record { answer = Done; after = record { bits = taken t (before .bits) e } } → Ready t (before .bits) → e < events t
+      → allows t (sheet t (before .bits)) e ≡ true → Step-answer t before e s
+  step-away : (a : Answer) → s ≡ refused before a → Away t (before .bits) a → Step-answer t before e s
+  past-events : s ≡ refused before (Refused 14 0) → Ready t (before .bits) → events t ≤ e → Step-answer t before e s
+  guard-says-no : s ≡ refused before (Refused 15 0) → Ready t (before .bits) → e < events t → allows t (sheet t (before .bits)) e ≡ false
+      → Step-answer t before e s
+
+pub data Finish-answer (t : List ℕ) (before : Record) (f : Finish) : Type 0 where
+  run-finished : f ≡ Yes → Ready t (before .bits) → ended t (sheet t (before .bits)) ≡ true → Finish-answer t before f
+  run-open : f ≡ No → Ready t (before .bits) → ended t (sheet t (before .bits)) ≡ false → Finish-answer t before f
+  finished-away : (a : Answer) → f ≡ unasked a → Away t (before .bits) a → Finish-answer t before f
+
+pub data Offer-answer (t : List ℕ) (before : Record) (lent : List ℕ) (a : Answer) (left : List ℕ) : Type 0 where
+  offer-made : a ≡ Done → 64 ≤ length lent → Ready t (before .bits)
+      → left ≡ fill lent (bytes-of (offered t (sheet t (before .bits)) (events t))) → Offer-answer t before lent a left
+  buffer-short : a ≡ Refused 1 0 → length lent < 64 → left ≡ lent → Offer-answer t before lent a left
+  offer-away : 64 ≤ length lent → Away t (before .bits) a → left ≡ lent → Offer-answer t before lent a left
