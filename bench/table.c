@@ -123,6 +123,8 @@ static void print_times(void) {
     compare("step, E 16, R 64, random kinds", step, step_plain, MANY);
     build(16, 64, pattern_row);
     compare("step, E 16, R 64, kinds 0 1 2 3 in turn", step, step_plain, MANY);
+    build(1, 1, random_row);
+    compare("step, E 1, R 1: what a step costs before its rows", step, step_plain, MANY);
     build(512, 12288, random_row);
     compare("step, E 512, R 12288, random kinds", step, step_plain, FEW);
     compare("check, the same table", check, check_plain, FEW);

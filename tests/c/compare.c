@@ -247,12 +247,12 @@ static int make_any_table(void) {
 
 /* Records: blank, or any bits below E; some with bits at or past E too. What stands past the 64 bytes is never looked at. */
 static void make_record(uint32_t events) {
-    uint32_t share = any(1, 99), stray = events < 512 && percent(20);
+    uint32_t share = any(1, 99), past = events < 512 && percent(20);
     for (size_t i = 0; i < ROOM; i++) record[i] = i < ADL_RECORD_BYTES ? 0 : (uint8_t)any(0, 255);
     if (!percent(25)) {
         for (uint32_t e = 0; e < events; e++) put_bit(record, e, percent(share));
     }
-    if (!stray) return;
+    if (!past) return;
     if (percent(30)) put_bit(record, events, 1);
     else if (percent(30)) put_bit(record, 511, 1);
     else put_bit(record, any(events, 511), 1);

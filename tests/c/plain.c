@@ -3,7 +3,7 @@
 
 #include <string.h>
 
-enum { DONE = 0, FINISHED = 255, SHORT_BUFFER = 1, UNSOUND_TABLE = 12, STRAY_BIT = 13, NO_EVENT = 14, NOT_NOW = 15 };
+enum { DONE = 0, FINISHED = 255, SHORT_BUFFER = 1, UNSOUND_TABLE = 12, BIT_PAST_EVENTS = 13, NO_EVENT = 14, NOT_NOW = 15 };
 enum { RECORD_BYTES = 64, OFFER_BYTES = 64, MOST_EVENTS = 512, MOST_ROWS = 12288 };
 enum { CONTROL_BIT = 0, NOT = 1, BOTH = 2, EITHER = 3 };
 
@@ -70,7 +70,7 @@ static uint8_t mask_of(uint32_t bit) {
 }
 
 /* Whether the record has a set bit at or past E: in the byte that E falls into, unless that is a whole one, or in a later byte. */
-static int has_stray_bit(const uint8_t *record, uint32_t events) {
+static int has_bit_past_events(const uint8_t *record, uint32_t events) {
     uint32_t byte = events / 8;
     if (events % 8 != 0) {
         if (record[byte] & (0xFF >> (events % 8))) return 1;
@@ -83,37 +83,37 @@ static int has_stray_bit(const uint8_t *record, uint32_t events) {
 }
 
 /* Works out every row of a sound table, lowest first; a row names only lower ones, so what it names is there. */
-static void fill_sheet(const uint8_t *table, const uint8_t *record, uint8_t *sheet) {
+static void fill_values(const uint8_t *table, const uint8_t *record, uint8_t *values) {
     uint32_t events = events_of(table), rows = rows_of(table);
     for (uint32_t r = 0; r < rows; r++) {
         uint32_t row = entry(table, events + r), left = left_of(row), right = right_of(row);
         switch (kind_of(row)) {
         case CONTROL_BIT:
-            sheet[r] = (record[left / 8] & mask_of(left)) != 0;
+            values[r] = (record[left / 8] & mask_of(left)) != 0;
             break;
         case NOT:
-            sheet[r] = !sheet[left];
+            values[r] = !values[left];
             break;
         case BOTH:
-            sheet[r] = sheet[left] && sheet[right];
+            values[r] = values[left] && values[right];
             break;
         case EITHER:
-            sheet[r] = sheet[left] || sheet[right];
+            values[r] = values[left] || values[right];
             break;
         }
     }
 }
 
 uint8_t plain_step(const uint8_t *table, size_t table_len, uint8_t *record, size_t record_len, uint64_t event) {
-    uint8_t sheet[MOST_ROWS] = {0};
+    uint8_t values[MOST_ROWS] = {0};
     if (record_len != RECORD_BYTES) return SHORT_BUFFER;
     if (plain_check(table, table_len) != DONE) return UNSOUND_TABLE;
-    if (has_stray_bit(record, events_of(table))) return STRAY_BIT;
+    if (has_bit_past_events(record, events_of(table))) return BIT_PAST_EVENTS;
     if (event >= events_of(table)) return NO_EVENT;
-    fill_sheet(table, record, sheet);
+    fill_values(table, record, values);
 
     uint32_t number = (uint32_t)event, taken = entry(table, number);
-    if (!sheet[guard_of(taken)]) return NOT_NOW;
+    if (!values[guard_of(taken)]) return NOT_NOW;
     for (uint32_t bit = first_of(taken); bit < first_of(taken) + count_of(taken); bit++) {
         record[bit / 8] &= (uint8_t)~mask_of(bit);
     }
@@ -122,24 +122,24 @@ uint8_t plain_step(const uint8_t *table, size_t table_len, uint8_t *record, size
 }
 
 uint8_t plain_offer(const uint8_t *table, size_t table_len, const uint8_t *record, size_t record_len, uint8_t *out, size_t out_len) {
-    uint8_t sheet[MOST_ROWS] = {0};
+    uint8_t values[MOST_ROWS] = {0};
     if (record_len != RECORD_BYTES || out_len < OFFER_BYTES) return SHORT_BUFFER;
     if (plain_check(table, table_len) != DONE) return UNSOUND_TABLE;
-    if (has_stray_bit(record, events_of(table))) return STRAY_BIT;
-    fill_sheet(table, record, sheet);
+    if (has_bit_past_events(record, events_of(table))) return BIT_PAST_EVENTS;
+    fill_values(table, record, values);
 
     memset(out, 0, OFFER_BYTES);
     for (uint32_t e = 0; e < events_of(table); e++) {
-        if (sheet[guard_of(entry(table, e))]) out[e / 8] |= mask_of(e);
+        if (values[guard_of(entry(table, e))]) out[e / 8] |= mask_of(e);
     }
     return DONE;
 }
 
 uint8_t plain_finished(const uint8_t *table, size_t table_len, const uint8_t *record, size_t record_len) {
-    uint8_t sheet[MOST_ROWS] = {0};
+    uint8_t values[MOST_ROWS] = {0};
     if (record_len != RECORD_BYTES) return SHORT_BUFFER;
     if (plain_check(table, table_len) != DONE) return UNSOUND_TABLE;
-    if (has_stray_bit(record, events_of(table))) return STRAY_BIT;
-    fill_sheet(table, record, sheet);
-    return sheet[rows_of(table) - 1] ? FINISHED : DONE;
+    if (has_bit_past_events(record, events_of(table))) return BIT_PAST_EVENTS;
+    fill_values(table, record, values);
+    return values[rows_of(table) - 1] ? FINISHED : DONE;
 }

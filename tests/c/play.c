@@ -237,26 +237,26 @@ static void play_points(const struct line *line) {
     }
 }
 
-/* Refusal 1, and that it comes before all others: the table is unsound or the record has a stray bit in half of the tries. */
+/* Refusal 1, and that it comes before all others: the table is unsound or the record has a bit past E in half of the tries. */
 static void play_lengths(void) {
     static const size_t wrong[] = {0, 1, 8, 32, 63, 65, 72, 128};
     struct table t;
-    uint8_t record[ROOM] = {128}, stray[ROOM];
+    uint8_t record[ROOM] = {128}, all_set[ROOM];
     build_t(&t);
-    memset(stray, 255, ROOM);
+    memset(all_set, 255, ROOM);
     for (int unsound = 0; unsound < 2; unsound++) {
         if (unsound) t.length--;
         for (size_t i = 0; i < sizeof wrong / sizeof wrong[0]; i++) {
             at("record of %zu bytes, %s table", wrong[i], unsound ? "unsound" : "sound");
             want_refusal(&t, record, wrong[i], 1, ADL_SHORT_BUFFER);
-            want_refusal(&t, stray, wrong[i], UINT64_MAX, ADL_SHORT_BUFFER);
+            want_refusal(&t, all_set, wrong[i], UINT64_MAX, ADL_SHORT_BUFFER);
             want_offer(&t, record, wrong[i], 0, ADL_SHORT_BUFFER, NULL);
             want_offer(&t, record, wrong[i], ROOM, ADL_SHORT_BUFFER, NULL);
         }
         for (size_t out_len = 0; out_len < ADL_OFFER_BYTES; out_len++) {
             at("offer buffer of %zu bytes, %s table", out_len, unsound ? "unsound" : "sound");
             want_offer(&t, record, ADL_RECORD_BYTES, out_len, ADL_SHORT_BUFFER, NULL);
-            want_offer(&t, stray, ADL_RECORD_BYTES, out_len, ADL_SHORT_BUFFER, NULL);
+            want_offer(&t, all_set, ADL_RECORD_BYTES, out_len, ADL_SHORT_BUFFER, NULL);
         }
     }
 }
@@ -269,7 +269,7 @@ static void build_bit_0(struct table *t, uint32_t events) {
 }
 
 /* Refusal 13: each of the 512 bits alone, set in the record of a table with this many events. It comes before 14 and 15. */
-static void play_stray_bits(uint32_t events) {
+static void play_bits_past(uint32_t events) {
     struct table t;
     build_bit_0(&t, events);
     for (uint32_t bit = 0; bit < 512; bit++) {
@@ -291,9 +291,9 @@ static void play_stray_bits(uint32_t events) {
     }
 }
 
-static void play_all_stray_bits(void) {
+static void play_all_bits_past(void) {
     static const uint32_t events[] = {1, 2, 7, 8, 9, 63, 64, 65, 255, 256, 257, 504, 511, 512};
-    for (size_t i = 0; i < sizeof events / sizeof events[0]; i++) play_stray_bits(events[i]);
+    for (size_t i = 0; i < sizeof events / sizeof events[0]; i++) play_bits_past(events[i]);
 }
 
 /* The truth tables of the four kinds: event e is guarded by row e. */
@@ -325,8 +325,8 @@ static void play_kinds(void) {
 
 /* A table that should be sound or not. Unsound, it is turned away with 12 by all calls; that comes after 1 and before all others. */
 static void want_table(const struct table *t, uint8_t answer, const char *why) {
-    uint8_t blank[ROOM] = {0}, stray[ROOM];
-    memset(stray, 255, ROOM);
+    uint8_t blank[ROOM] = {0}, all_set[ROOM];
+    memset(all_set, 255, ROOM);
     at("%s: %s", answer == ADL_SOUND ? "sound" : "unsound", why);
     want_check(t, answer);
     want_refusal(t, blank, ADL_RECORD_BYTES - 1, 0, ADL_SHORT_BUFFER);
@@ -336,7 +336,7 @@ static void want_table(const struct table *t, uint8_t answer, const char *why) {
     }
     want_refusal(t, blank, ADL_RECORD_BYTES, 0, answer);
     want_refusal(t, blank, ADL_RECORD_BYTES, UINT64_MAX, answer);
-    want_refusal(t, stray, ADL_RECORD_BYTES, UINT64_MAX, answer);
+    want_refusal(t, all_set, ADL_RECORD_BYTES, UINT64_MAX, answer);
 }
 
 static void play_table_lengths(void) {
@@ -584,7 +584,7 @@ static void play_all(void) {
         play_points(&lines[i]);
     }
     play_lengths();
-    play_all_stray_bits();
+    play_all_bits_past();
     play_kinds();
     play_table_lengths();
     play_sizes();

@@ -5,6 +5,7 @@ use mathlib.Core.List.{List}
 use Prim.Native.Nat.{ℕ}
 use lib.Dec.{eqb}
 use lib.ListN.{length}
+use Rattle.base.specs.Fill.{fill}
 use Rattle.record.specs.Bytes.{words-of, bytes-of}
 use Rattle.record.specs.declared.Record.{Record}
 use Rattle.table.specs.Steps.{check-of, step-of, finished-of, offer-of, offer-left}
@@ -39,9 +40,9 @@ with-record bytes n = cond (eqb (length bytes) 64) n 1
 unfoldable pub step-number : List ℕ → List ℕ → ℕ → ℕ
 step-number t bytes e = with-record bytes (number (step-of t (record-of bytes) e .answer))
 
--- The record's bytes by the answer: a refusal leaves them.
+-- The record's bytes by the answer: those of the record after the event over those before it; a refusal leaves them.
 abbrev pub left-bytes : List ℕ → List ℕ → Answer → List ℕ
-left-bytes bytes bits Done = bytes-of bits
+left-bytes bytes bits Done = fill bytes (bytes-of bits)
 left-bytes bytes bits (Refused n place) = bytes
 
 unfoldable pub step-bytes : List ℕ → List ℕ → ℕ → List ℕ

@@ -1,7 +1,7 @@
 ghost use mathlib.Core.Path.{_≡_};
 ghost use lib.Dec.{eqb};
 ghost use lib.ListN.{length};
-ghost use Rattle.firmware.specs.Calls.{number, finish-number, check-number, step-number, step-bytes, finished-number, offer-number, offer-bytes};
+ghost use Rattle.firmware.specs.Calls.{number, left-bytes, check-number, step-number, step-bytes, finished-number, offer-number, offer-bytes};
 use record::Record;
 use table::Answer;
 use table::Finish;
@@ -21,6 +21,16 @@ fn number_of(answer: Answer) -> u8
         return 0;
     };
     number
+}
+
+// What a step leaves of a record's bytes: those of the record after it where the event was taken, and else what was there.
+fn leave(bytes: &mut [u8], answer: Answer, bits: [u64; 8])
+    ensures { λ _. ⌜ now (bytes .exit) ≡ left-bytes (now (bytes .entry)) bits answer ⌝ }
+{
+    let Answer::Done = answer else {
+        return;
+    };
+    record::store(bytes, bits);
 }
 
 // 0 for a sound table, else 12.
@@ -44,13 +54,10 @@ pub extern "C" fn adl_step(table: &[u8], bytes: &mut [u8], event: u64) -> u8
     let bits = record::load(bytes);
     let stepped = table::step(table, Record { bits }, event);
     let answer = stepped.answer;
-    let Answer::Done = answer else {
-        return number_of(answer);
-    };
     let after = stepped.after;
-    let bits = after.bits;
-    record::store(bytes, bits);
-    0
+    let words = after.bits;
+    leave(bytes, answer, words);
+    number_of(answer)
 }
 
 // 0 for an offer: 64 bytes are written then, and those past them stay. A refusal leaves all.
@@ -62,8 +69,8 @@ pub extern "C" fn adl_offer(table: &[u8], bytes: &[u8], out: &mut [u8]) -> u8
     if !is_record(bytes) {
         return 1;
     }
-    let bits = record::load(bytes);
-    let answer = table::offer(table, Record { bits }, out);
+    let held = record::load(bytes);
+    let answer = table::offer(table, Record { bits: held }, out);
     number_of(answer)
 }
 

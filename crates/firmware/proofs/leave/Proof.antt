@@ -1,0 +1,31 @@
+-- `firmware::leave` meets its contract: only where the answer is done is anything written.
+use native.Mathlib.Omega.{arith}
+use mathlib.Core.Path.{ap, _∙_}
+use lib.ListN.{length}
+use Rattle.base.proofs.Filled.{fill-length}
+use Rattle.firmware.proofs.Called.{left-done}
+use borrow.Author.Needs.{needs}
+use Rattle.firmware.proofs.leave.Statement.{statement}
+use Rattle.firmware.proofs.leave.Tie as tie
+
+enum-told : tie.Need-enum-told
+enum-told c = search needs
+
+enum-told-2 : tie.Need-enum-told-2
+enum-told-2 c = search needs
+
+returns : tie.Need-returns
+returns c = search needs
+
+store-requires : tie.Need-store-requires
+store-requires c κs = search needs
+
+same-length : tie.Need-same-length
+same-length c = ap length (c .before .before .store .ensures) ∙ fill-length _ _
+
+returns-2 : tie.Need-returns-2
+returns-2 c = left-done _ _ _ _ (c .before .before .before .before .enum-told .given .1) (c .before .before .store .ensures)
+
+pub leave-spec : {M : Type 1} → statement M
+leave-spec =
+    tie.close (tie.spec enum-told enum-told-2 returns store-requires same-length returns-2)
