@@ -1,10 +1,15 @@
 -- The control bits of a run record: "The run record holds eight 64-bit words; bit 0 is the top bit of the first." A record is here the list of its words.
+use mathlib.Core.Path.{_≡_}
 use mathlib.Core.Bool.{Bool, true, not, cond, _&&_, _||_}
 use mathlib.Core.List.{List}
-use Prim.Native.Nat.{ℕ, zero, suc, _+_, _-_, _/_, _%_, _^_}
+use Prim.Native.Nat.{ℕ, zero, suc, _+_, _-_, _/_, _%_, _^_, _<_}
 use lib.Bits.{bitOr, bitXor}
 use lib.Dec.{eqb, ltb}
-use lib.ListN.{getD, set}
+use lib.ListN.{length, getD, set}
+
+-- What a record's words are: eight, of 64 bits each.
+abbrev pub Words : List ℕ → Type 0
+Words ws = (length ws ≡ 8) × ((i : ℕ) → i < 8 → getD ws i 0 < 2 ^ 64)
 
 -- "Event e has control bit e": whether it is set. There are 512 bits.
 unfoldable pub bit-at : List ℕ → ℕ → Bool

@@ -22,7 +22,7 @@ unfolding check-of
 check-answered t = by-cases (sound t) (λ e. is-sound (rw e) e) (λ e. not-sound (rw e) e)
 
 -- The first look: number 12 or 13, or neither.
-first-look : {P : Type 0} (t bits : List ℕ) → (Ready t bits → admit-of t bits ≡ Done → P)
+pub first-look {ℓ} : {P : Type ℓ} (t bits : List ℕ) → (Ready t bits → admit-of t bits ≡ Done → P)
     → ((n : ℕ) → admit-of t bits ≡ Refused n 0 → Away t bits (Refused n 0) → P) → P
 first-look t bits f g =
     by-cases (sound t)
@@ -38,7 +38,7 @@ step-answered t before e =
     (λ r d. by-cases (ltb e (events t))
     (λ b. let h = ltb-true e (events t) b in
     by-cases (allows t (sheet t (before .bits)) e)
-    (λ y. event-taken (sym (step-done t before e d h _ _ _ y refl refl refl)) r h y)
+    (λ y. event-taken (sym (step-done t before e d h _ _ _ y refl refl refl)) record { ready = r; below = h; allowed = y })
     (λ y. guard-says-no (sym (step-15 t before e d h y)) r h y))
     (λ b. past-events (sym (step-14 t before e d (ltb-false e (events t) b))) r (ltb-false e (events t) b)))
     (λ n q a. step-away (Refused n 0) (sym (step-passed t before e (Refused n 0) n 0 refl (sym q))) a)
@@ -47,7 +47,7 @@ pub finished-answered : (t : List ℕ) (before : Record) → Finish-answer t bef
 finished-answered t before =
     first-look t (before .bits)
     (λ r d. by-cases (ended t (sheet t (before .bits)))
-    (λ y. run-finished (sym (finished-yes t before d y)) r y)
+    (λ y. run-finished (sym (finished-yes t before d y)) record { ready = r; says-so = y })
     (λ y. run-open (sym (finished-no t before d y)) r y))
     (λ n q a. finished-away (Refused n 0) (sym (finished-passed t before (Refused n 0) n 0 refl (sym q))) a)
 

@@ -6,3 +6,4 @@ pub mod Events
 pub mod Worked
 pub mod Answered
 pub mod Bounds
+pub mod Laws

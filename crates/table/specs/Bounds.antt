@@ -27,21 +27,31 @@ pub record Ready (t bits : List ℕ) : Type 0 where
   pub its-table : sound t ≡ true
   pub its-bits : stray-from bits (events t) ≡ false
 
+-- What a step with event e needs to be done: an event below E, whose guard row says yes.
+pub record Takes (t : List ℕ) (before : Record) (e : ℕ) : Type 0 where
+  pub ready : Ready t (before .bits)
+  pub below : e < events t
+  pub allowed : allows t (sheet t (before .bits)) e ≡ true
+
+-- What a run needs to be finished: a last row that says yes.
+pub record Ends (t : List ℕ) (before : Record) : Type 0 where
+  pub ready : Ready t (before .bits)
+  pub says-so : ended t (sheet t (before .bits)) ≡ true
+
 -- Number 12, or 13.
 pub data Away (t bits : List ℕ) (a : Answer) : Type 0 where
   unsound : a ≡ Refused 12 0 → sound t ≡ false → Away t bits a
   bit-past : a ≡ Refused 13 0 → sound t ≡ true → stray-from bits (events t) ≡ true → Away t bits a
 
 pub data Step-answer (t : List ℕ) (before : Record) (e : ℕ) (s : Stepped) : Type 0 where
-  event-taken : s ≡ record { answer = Done; after = record { bits = taken t (before .bits) e } } → Ready t (before .bits) → e < events t
-      → allows t (sheet t (before .bits)) e ≡ true → Step-answer t before e s
+  event-taken : s ≡ record { answer = Done; after = record { bits = taken t (before .bits) e } } → Takes t before e → Step-answer t before e s
   step-away : (a : Answer) → s ≡ refused before a → Away t (before .bits) a → Step-answer t before e s
   past-events : s ≡ refused before (Refused 14 0) → Ready t (before .bits) → events t ≤ e → Step-answer t before e s
   guard-says-no : s ≡ refused before (Refused 15 0) → Ready t (before .bits) → e < events t → allows t (sheet t (before .bits)) e ≡ false
       → Step-answer t before e s
 
 pub data Finish-answer (t : List ℕ) (before : Record) (f : Finish) : Type 0 where
-  run-finished : f ≡ Yes → Ready t (before .bits) → ended t (sheet t (before .bits)) ≡ true → Finish-answer t before f
+  run-finished : f ≡ Yes → Ends t before → Finish-answer t before f
   run-open : f ≡ No → Ready t (before .bits) → ended t (sheet t (before .bits)) ≡ false → Finish-answer t before f
   finished-away : (a : Answer) → f ≡ unasked a → Away t (before .bits) a → Finish-answer t before f
 

@@ -101,12 +101,12 @@ fn events_sound(t: &[u8], n: usize, m: usize) -> bool
     ensures { λ r. ⌜ r ≡ events-sound (now (t .entry)) n ⌝ }
 {
     let mut ok = true;
-    let mut e = 0;
-    while e < n {
-        let w = word(t, 4 + 4 * e);
-        let this = event_sound(w, m, e);
+    let mut i = 0;
+    while i < n {
+        let w = word(t, 4 + 4 * i);
+        let this = event_sound(w, m, i);
         ok = ok & this;
-        e += 1;
+        i += 1;
     }
     ok
 }

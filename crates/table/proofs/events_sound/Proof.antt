@@ -9,10 +9,10 @@ use Rattle.table.proofs.events_sound.Statement.{statement}
 use Rattle.table.proofs.events_sound.Tie as tie
 
 abbrev Inv-loop : tie.InvT-loop
-Inv-loop t n m ok₀ e₀ ok e = (e ≤ n) × (ok ≡ events-sound t e)
+Inv-loop t n m ok₀ i₀ ok i = (i ≤ n) × (ok ≡ events-sound t i)
 
 abbrev μ-loop : tie.MeasureT-loop
-μ-loop t n m ok₀ e₀ ok e = n - e
+μ-loop t n m ok₀ i₀ ok i = n - i
 
 loop-holds : tie.Need-loop-holds Inv-loop μ-loop
 unfolding events-sound
@@ -30,8 +30,8 @@ word-requires c κs = search needs
 event-sound-requires : tie.Need-event-sound-requires Inv-loop μ-loop
 event-sound-requires c κs = search needs
 
-add-e : tie.Need-add-e Inv-loop μ-loop
-add-e c = search needs
+add-i : tie.Need-add-i Inv-loop μ-loop
+add-i c = search needs
 
 loop-less : tie.Need-loop-less Inv-loop μ-loop
 loop-less c = search needs
@@ -41,7 +41,7 @@ unfolding events-sound
 loop-again c = (omega arith, rw add-one (cc))
 
 returns : tie.Need-returns Inv-loop μ-loop
-returns c = let h : c .before .loop .e ≡ c .before .before .before .args .n = omega arith in cc
+returns c = let h : c .before .loop .i ≡ c .before .before .before .args .n = omega arith in cc
 
 pub events-sound-spec : {M : Type 1} → statement M
 events-sound-spec =
@@ -54,7 +54,7 @@ events-sound-spec =
     add-word
     word-requires
     event-sound-requires
-    add-e
+    add-i
     loop-less
     loop-again
     returns)

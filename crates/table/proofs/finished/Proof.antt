@@ -1,5 +1,6 @@
 -- `table::finished` meets its contract: what the first look refuses is passed on; then the last row says.
 use mathlib.Core.Path.{_≡_, refl, sym, _∙_}
+use native.Mathlib.Omega.{arith}
 use borrow.Author.Needs.{needs}
 use Rattle.table.specs.Steps.{admit-of}
 use Rattle.table.specs.declared.Answer.the-variants.{Done}
@@ -35,7 +36,7 @@ sub-last : tie.Need-sub-last
 sub-last c = last-on-sheet _ _ (admitted (c .before)) _ (c .half .ensures .0) .0
 
 array-read-if1 : tie.Need-array-read-if1
-array-read-if1 c = last-on-sheet _ _ (admitted (c .before)) _ (c .half .ensures .0) .1
+array-read-if1 c = let l = last-on-sheet _ _ (admitted (c .before)) _ (c .half .ensures .0) in omega (arith, l .1)
 
 returns-2 : tie.Need-returns-2
 returns-2 c =

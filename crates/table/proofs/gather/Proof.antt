@@ -1,6 +1,6 @@
 -- `table::gather` meets its contract: after e turns the bits are those of the events below e.
-use mathlib.Core.Path.{_≡_, refl, sym, ap, _∙_}
-use Prim.Native.Nat.{_≤_, _-_}
+use mathlib.Core.Path.{_≡_, refl, _∙_}
+use Prim.Native.Nat.{_≤_, _<_, _-_}
 use lib.ListN.{take}
 use mathlib.Core.Logic.{⊎-elim}
 use Rattle.table.specs.Steps.{offered}
@@ -9,10 +9,6 @@ use borrow.Author.Needs.{needs}
 use native.Mathlib.Omega.{arith}
 use Rattle.table.proofs.gather.Statement.{statement}
 use Rattle.table.proofs.gather.Tie as tie
-use Rattle.table.proofs.gather.Reads as reads
-use Rattle.table.proofs.gather.Lts as lts
-use Rattle.record.proofs.set.Reads as set-reads
-use Rattle.table.proofs.word.Reads as word-reads
 
 abbrev Inv-loop : tie.InvT-loop
 Inv-loop t n m sheet o₀ e₀ o e = (e ≤ n) × (o ≡ offered t (take m sheet) e)
@@ -38,7 +34,7 @@ element-copy-out-if1 c =
     let start = c .before .before .before .before in
     let a = start .args in
     let l = c .before .before .loop in
-    gather-on-sheet (a .t .now) (a .sheet .now) (a .n) (a .m) (l .e) (c .word .result) (start .pre .0) (start .pre .1) (c .before .loop-test .taken) (c .word .ensures .0)
+    gather-on-sheet (a .t .now) (a .sheet .now) (a .n) (a .m) (l .e) (c .word .result) (start .pre .0) (start .pre .1) (omega arith) (c .word .ensures .0)
 
 set-requires : tie.Need-set-requires Inv-loop μ-loop
 set-requires c κs = search needs
@@ -55,7 +51,7 @@ loop-again c =
     let a = start .args in
     let l = c .before .before .before .before .loop in
     let w = c .before .before .word in
-    let h = c .before .before .before .loop-test .taken in (
+    let h : l .e < a .n = omega arith in (
       omega arith,
       ⊎-elim
           (λ y. y .2 ∙ gather-yes (a .t .now) (a .sheet .now) (a .n) (a .m) (l .e) (w .result) (start .pre .0) (start .pre .1) h (w .ensures .0) (l .o) (y .1 .result)

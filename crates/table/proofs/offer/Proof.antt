@@ -11,7 +11,7 @@ use Rattle.table.proofs.offer.Statement.{statement}
 use Rattle.table.proofs.offer.Tie as tie
 
 returns : tie.Need-returns
-returns c = offer-1 _ _ _ (c .if1 .taken)
+returns c = offer-1 _ _ _ (omega arith)
 
 admit-requires : tie.Need-admit-requires
 admit-requires c κs = refl

@@ -1,13 +1,9 @@
 -- `table::row_value` meets its contract, kind by kind; a sound row names only rows on the sheet.
-use native.Mathlib.Omega.{arith}
 use Rattle.table.proofs.Rows.{left-on-sheet, right-on-sheet}
 use Rattle.table.proofs.Valued.{at-least-two, value-0, value-1, value-2, value-3}
 use borrow.Author.Needs.{needs}
 use Rattle.table.proofs.row_value.Statement.{statement}
 use Rattle.table.proofs.row_value.Tie as tie
-use Rattle.table.proofs.row_value.Reads as reads
-use Rattle.table.proofs.row_value.Lts as lts
-use Rattle.record.proofs.bit.Reads as bit-reads
 
 bit-requires : tie.Need-bit-requires
 bit-requires c κs = search needs

@@ -1,12 +1,9 @@
 -- `table::unasked` meets its contract: the refusal, with its number and place.
-use native.Mathlib.Omega.{arith}
 use mathlib.Core.Path.{sym, ap}
 use Rattle.table.specs.Steps.{unasked}
 use borrow.Author.Needs.{needs}
 use Rattle.table.proofs.unasked.Statement.{statement}
 use Rattle.table.proofs.unasked.Tie as tie
-use Rattle.table.proofs.unasked.Reads as reads
-use Rattle.table.proofs.unasked.Lts as lts
 
 enum-known-answer : tie.Need-enum-known-answer
 enum-known-answer c = search needs

@@ -1,8 +1,8 @@
 -- `table::work_out` meets its contract: up to the first row that is not sound, the sheet has the values.
-use mathlib.Core.Path.{_≡_, refl, sym, ap, _∙_}
+use mathlib.Core.Path.{_≡_, refl, ap, _∙_}
 use mathlib.Core.Bool.{true}
 use mathlib.Core.Logic.{⊎-elim}
-use Prim.Native.Nat.{_≤_, _-_}
+use Prim.Native.Nat.{_+_, _≤_, _<_, _-_}
 use lib.ListN.{length, take, length-set}
 use Rattle.base.proofs.Truth.{clash}
 use Rattle.table.specs.Sound.{rows-sound}
@@ -12,11 +12,6 @@ use borrow.Author.Needs.{needs}
 use native.Mathlib.Omega.{arith}
 use Rattle.table.proofs.work_out.Statement.{statement}
 use Rattle.table.proofs.work_out.Tie as tie
-use Rattle.table.proofs.work_out.Reads as reads
-use Rattle.table.proofs.work_out.Lts as lts
-use Rattle.table.proofs.row_sound.Reads as row-sound-reads
-use Rattle.table.proofs.row_value.Reads as row-value-reads
-use Rattle.table.proofs.word.Reads as word-reads
 
 abbrev Inv-loop : tie.InvT-loop
 Inv-loop t n m bits sheet₀ base ok₀ i₀ sheet ok i =
@@ -78,15 +73,17 @@ loop-again c =
     let w = c .before .before .word in
     let s = c .before .row-sound in
     let more = rows-more (a .t .now) (a .n) (l .i) (w .result) (l .ok) (s .result) (p .n-is) (w .ensures .0) (s .ensures) (l .inv .2) in
+    let on : l .i + 1 ≤ a .m = omega arith in
+    let room : l .i < length (l .sheet) = rw (l .inv .1) (omega (arith, p .m-most)) in
     ⊎-elim
     (λ y. (
-      omega arith,
+      on,
       ap length (y .3) ∙ length-set (l .sheet) (l .i) (y .2 .result) ∙ l .inv .1,
       more,
       worked-more (a .t .now) (a .n) (l .i) (w .result) (l .ok) (s .result) (p .n-is) (w .ensures .0) (s .ensures) (a .bits .now) (l .sheet) (c .if1 .sheet)
-          (y .2 .result) (rw (l .inv .1) (omega (arith, p .m-most))) (l .inv .3) (y .2 .ensures) (y .3),
+          (y .2 .result) room (l .inv .3) (y .2 .ensures) (y .3),
     ))
-    (λ x. (omega arith, ap length (x .1) ∙ l .inv .1, more, λ yes. absurd (clash yes (x .0 .left))))
+    (λ x. (on, ap length (x .1) ∙ l .inv .1, more, λ yes. absurd (clash yes (x .0 .left))))
     (c .if1 .came)
 
 returns : tie.Need-returns Inv-loop μ-loop
