@@ -17,7 +17,7 @@ use Rattle.record.specs.Bits.{bit-at}
 use Rattle.record.specs.Bytes.{field, words-of, byte-of, bytes-of}
 use Rattle.record.proofs.Fields.{field-joined}
 use Rattle.record.proofs.Bytes.{bytes-length, byte-at}
-use Rattle.record.proofs.Strays.{low-same, word-bit}
+use Rattle.record.proofs.Beyond.{low-same, word-bit}
 
 -- ---- the words of a record's bytes, one after the other
 abbrev words-from : ℕ → List ℕ → ℕ → List ℕ

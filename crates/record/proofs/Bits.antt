@@ -1,4 +1,4 @@
--- The bits of a word and of a record after one of them is set or cleared, and what a stray bit is.
+-- The bits of a word and of a record after one of them is set or cleared.
 use mathlib.Core.Path.{_≡_, refl, sym, ap, _∙_}
 use mathlib.Core.Bool.{true, false, cond, _&&_}
 use mathlib.Core.List.{List, [], _∷_}

@@ -1,5 +1,5 @@
 pub mod Bits
-pub mod Strays
+pub mod Beyond
 pub mod Fields
 pub mod Bytes
 pub mod Back

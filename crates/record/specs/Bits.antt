@@ -36,5 +36,5 @@ clear-between ws first zero = true
 clear-between ws first (suc end) = clear-between ws first end && (ltb end first || not (bit-at ws end))
 
 -- Number 13, "the record has a set bit at or past E".
-abbrev pub stray-from : List ℕ → ℕ → Bool
-stray-from ws events = not (clear-between ws events 512)
+abbrev pub set-past : List ℕ → ℕ → Bool
+set-past ws events = not (clear-between ws events 512)

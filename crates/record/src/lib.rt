@@ -2,7 +2,7 @@ ghost use mathlib.Core.Path.{_≡_};
 ghost use Prim.Native.Nat.{_+_, _-_, _<_, _%_, _^_};
 ghost use lib.ListN.{getD};
 ghost use Rattle.base.specs.Fill.{fill};
-ghost use Rattle.record.specs.Bits.{bit-at, set-bit, clear-bit, clear-bits, stray-from};
+ghost use Rattle.record.specs.Bits.{bit-at, set-bit, clear-bit, clear-bits, set-past};
 ghost use Rattle.record.specs.Bytes.{field, words-of, bytes-of};
 ghost use Rattle.record.specs.Blank.{blank-record};
 
@@ -94,8 +94,8 @@ fn past(word: u64, start: usize, first: usize) -> u64
 }
 
 // Whether a bit at or past `first` is set.
-pub fn stray(bits: &[u64; 8], first: usize) -> bool
-    ensures { λ r. ⌜ r ≡ stray-from (now (bits .entry)) first ⌝ }
+pub fn set_past(bits: &[u64; 8], first: usize) -> bool
+    ensures { λ r. ⌜ r ≡ set-past (now (bits .entry)) first ⌝ }
 {
     let mut none = true;
     let mut i = 0;

@@ -10,13 +10,13 @@ use lib.Seq.{getD-take}
 use borrow.Author.Tests.{lt-ltb, le-ltb}
 use Rattle.base.specs.Fill.{fill}
 use Rattle.base.proofs.Truth.{by-cases, and-r}
-use Rattle.record.specs.Bits.{set-bit, clear-bits, stray-from}
+use Rattle.record.specs.Bits.{set-bit, clear-bits, set-past}
 use Rattle.record.specs.Bytes.{bytes-of}
 use Rattle.record.specs.declared.Record.{Record}
 use Rattle.table.specs.Fields.{events, rows, event-word, guard-of, first-of, count-of}
 use Rattle.table.specs.Sound.{sound, events-sound, rows-sound}
 use Rattle.table.specs.Shaped.{size-of, Shaped}
-use Rattle.table.specs.Values.{row-values, sheet, allows, ended}
+use Rattle.table.specs.Values.{row-values, values-of, allows, ended}
 use Rattle.table.specs.Steps.{admit-of, taken, refused, taken-or-not, step-of, unasked, finished-of, offered, offer-of, offer-left}
 use Rattle.table.specs.declared.Answer.{Answer}
 use Rattle.table.specs.declared.Answer.the-variants.{Done, Refused}
@@ -39,11 +39,11 @@ module _ (t bits : List ℕ) where
   unfolding admit-of
   admit-12 e = rw e
 
-  pub admit-13 : sound t ≡ true → stray-from bits (events t) ≡ true → Refused 13 0 ≡ admit-of t bits
+  pub admit-13 : sound t ≡ true → set-past bits (events t) ≡ true → Refused 13 0 ≡ admit-of t bits
   unfolding admit-of
   admit-13 e s = rw (e, s)
 
-  pub admit-done : sound t ≡ true → stray-from bits (events t) ≡ false → Done ≡ admit-of t bits
+  pub admit-done : sound t ≡ true → set-past bits (events t) ≡ false → Done ≡ admit-of t bits
   unfolding admit-of
   admit-done e s = rw (e, s)
 
@@ -51,7 +51,7 @@ module _ (t bits : List ℕ) where
   unfolding admit-of
   done-sound d = by-cases (sound t) (λ e. e) (λ e. absurd (not-done 12 0 (admit-12 e ∙ d)))
 
--- The first look, by what it found: the answer, and the sheet where it is done.
+-- The first look, by what it found: the answer, and, where it is done, what every row says.
 abbrev pub Looked : List ℕ → List ℕ → List Bool → Answer → Type 0
 Looked t bits vs a = (a ≡ admit-of t bits) × (a ≡ Done → take (rows t) vs ≡ row-values t bits (rows t))
 
@@ -63,7 +63,7 @@ module _ (t bits : List ℕ) (vs : List Bool) (n m : ℕ) (a b : Bool) (Z : size
   pub looked-12 : (a && b) ≡ false → Looked t bits vs (Refused 12 0)
   looked-12 e = (admit-12 t bits (sound-as t n m a b false Z A (B .0) e), λ z. absurd (not-done 12 0 z))
 
-  module _ (e : (a && b) ≡ true) (s : Bool) (S : s ≡ stray-from bits n) where
+  module _ (e : (a && b) ≡ true) (s : Bool) (S : s ≡ set-past bits n) where
     is-sound : sound t ≡ true
     is-sound = sound-as t n m a b true Z A (B .0) e
 
@@ -76,13 +76,13 @@ module _ (t bits : List ℕ) (vs : List Bool) (n m : ℕ) (a b : Bool) (Z : size
     pub looked-done : s ≡ false → Looked t bits vs Done
     looked-done y = (admit-done t bits is-sound (rw (← (shape .n-is), ← S) y), λ z. rw (← (shape .m-is)) (B .1 (and-r a b e)))
 
--- After the first look a table is sound, and the sheet has what every row says.
+-- After the first look a table is sound, and the list has what every row says.
 module _ (t bits : List ℕ) (d : admit-of t bits ≡ Done) where
   pub long-table : 3 < length t
   long-table = let s = sound-shaped t (done-sound t bits d) in omega (arith, s .size, s .n-least)
 
-  pub last-on-sheet : (m : ℕ) → m ≡ rows t → (1 ≤ m) × (m - 1 < 12288)
-  last-on-sheet m q = let s = sound-shaped t (done-sound t bits d) in (omega (arith, s .m-least), omega (arith, s .m-most))
+  pub last-below-most : (m : ℕ) → m ≡ rows t → (1 ≤ m) × (m - 1 < 12288)
+  last-below-most m q = let s = sound-shaped t (done-sound t bits d) in (omega (arith, s .m-least), omega (arith, s .m-most))
 
   pub few-events : events t ≤ 512
   few-events = sound-shaped t (done-sound t bits d) .n-most
@@ -94,20 +94,20 @@ module _ (t bits : List ℕ) (d : admit-of t bits ≡ Done) where
   gather-ready n m N M =
       let ok = done-sound t bits d in (shaped-as t n m (sound-shaped t ok) N M, rw N (sound-events t ok))
 
-  pub guard-on-sheet : (e w : ℕ) → e < events t → w ≡ event-word t e → guard-of w < 12288
-  guard-on-sheet e w h q =
+  pub guard-below-most : (e w : ℕ) → e < events t → w ≡ event-word t e → guard-of w < 12288
+  guard-below-most e w h q =
       let s = sound-shaped t (done-sound t bits d) in
       let g = sound-guard t e (done-sound t bits d) h in
       rw q (omega (arith, g, s .m-most))
 
   module _ (vs : List Bool) (q : take (rows t) vs ≡ row-values t bits (rows t)) where
-    pub sheet-ended : (m : ℕ) → m ≡ rows t → getD vs (m - 1) false ≡ ended t (sheet t bits)
-    sheet-ended m p =
+    pub values-ended : (m : ℕ) → m ≡ rows t → getD vs (m - 1) false ≡ ended t (values-of t bits)
+    values-ended m p =
         let s = sound-shaped t (done-sound t bits d) in
         rw p (values-at t bits vs (rows t) (rows t - 1) q (omega (arith, s .m-least)))
 
-    pub sheet-allows : (e w : ℕ) → e < events t → w ≡ event-word t e → getD vs (guard-of w) false ≡ allows t (sheet t bits) e
-    sheet-allows e w h p = rw p (values-at t bits vs (rows t) (guard-of (event-word t e)) q (sound-guard t e (done-sound t bits d) h))
+    pub values-allow : (e w : ℕ) → e < events t → w ≡ event-word t e → getD vs (guard-of w) false ≡ allows t (values-of t bits) e
+    values-allow e w h p = rw p (values-at t bits vs (rows t) (guard-of (event-word t e)) q (sound-guard t e (done-sound t bits d) h))
 
 module _ (t : List ℕ) (before : Record) (e : ℕ) where
   pub step-passed : (a : Answer) (number place : ℕ) → a ≡ Refused number place → a ≡ admit-of t (before .bits) → refused before a ≡ step-of t before e
@@ -120,11 +120,11 @@ module _ (t : List ℕ) (before : Record) (e : ℕ) where
     step-14 h = rw (d, le-ltb e (events t) h)
 
     module _ (h : e < events t) where
-      pub step-15 : allows t (sheet t (before .bits)) e ≡ false → refused before (Refused 15 0) ≡ step-of t before e
+      pub step-15 : allows t (values-of t (before .bits)) e ≡ false → refused before (Refused 15 0) ≡ step-of t before e
       unfolding step-of taken-or-not
       step-15 g = rw (d, lt-ltb e (events t) h, g)
 
-      pub step-done : (w : ℕ) (set cleared : List ℕ) → allows t (sheet t (before .bits)) e ≡ true → w ≡ event-word t e → set ≡ set-bit (before .bits) e
+      pub step-done : (w : ℕ) (set cleared : List ℕ) → allows t (values-of t (before .bits)) e ≡ true → w ≡ event-word t e → set ≡ set-bit (before .bits) e
           → cleared ≡ clear-bits set (first-of w) (count-of w) → record { answer = Done; after = record { bits = cleared } } ≡ step-of t before e
       unfolding step-of taken-or-not taken
       step-done w set cleared g p s c = rw (d, lt-ltb e (events t) h, g, c, s, p)
@@ -135,11 +135,11 @@ module _ (t : List ℕ) (before : Record) where
   finished-passed a number place p q = rw (← q, p)
 
   module _ (d : admit-of t (before .bits) ≡ Done) where
-    pub finished-yes : ended t (sheet t (before .bits)) ≡ true → Yes ≡ finished-of t before
+    pub finished-yes : ended t (values-of t (before .bits)) ≡ true → Yes ≡ finished-of t before
     unfolding finished-of
     finished-yes y = rw (d, y)
 
-    pub finished-no : ended t (sheet t (before .bits)) ≡ false → No ≡ finished-of t before
+    pub finished-no : ended t (values-of t (before .bits)) ≡ false → No ≡ finished-of t before
     unfolding finished-of
     finished-no y = rw (d, y)
 
@@ -148,8 +148,8 @@ module _ (t : List ℕ) (vs : List Bool) (n m e w : ℕ) (s : Shaped t n m) (ok 
   guard-in : guard-of w < m
   guard-in = rw (W, s .m-is) (guard-below (event-word t e) (rows t) e (events-each t n e ok h))
 
-  pub gather-on-sheet : guard-of w < 12288
-  gather-on-sheet = omega (arith, guard-in, s .m-most)
+  pub gather-below-most : guard-of w < 12288
+  gather-below-most = omega (arith, guard-in, s .m-most)
 
   its-guard : getD vs (guard-of w) false ≡ allows t (take m vs) e
   its-guard = sym (getD-take m vs (guard-of w) false guard-in) ∙ rw W
@@ -183,6 +183,6 @@ module _ (t : List ℕ) (before : Record) (lent : List ℕ) where
 
     pub offer-ready : admit-of t (before .bits) ≡ Done
         → (offer-of t before lent ≡ Done)
-        × (offer-left t before lent (offer-of t before lent) ≡ fill lent (bytes-of (offered t (sheet t (before .bits)) (events t))))
+        × (offer-left t before lent (offer-of t before lent) ≡ fill lent (bytes-of (offered t (values-of t (before .bits)) (events t))))
     unfolding offer-of
     offer-ready d = (rw (le-ltb (length lent) 64 h, d), rw (le-ltb (length lent) 64 h, d))

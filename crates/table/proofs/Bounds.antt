@@ -7,11 +7,11 @@ use lib.Dec.{ltb}
 use lib.ListN.{length}
 use borrow.Author.Tests.{ltb-true, ltb-false, le-ltb}
 use Rattle.base.proofs.Truth.{by-cases}
-use Rattle.record.specs.Bits.{stray-from}
+use Rattle.record.specs.Bits.{set-past}
 use Rattle.record.specs.declared.Record.{Record}
 use Rattle.table.specs.Fields.{events}
 use Rattle.table.specs.Sound.{sound}
-use Rattle.table.specs.Values.{sheet, allows, ended}
+use Rattle.table.specs.Values.{values-of, allows, ended}
 use Rattle.table.specs.Steps.{check-of, admit-of, taken, step-of, finished-of, offer-of, offer-left}
 use Rattle.table.specs.Bounds.{Check-answer, is-sound, not-sound, Ready, Away, unsound, bit-past, Step-answer, event-taken, step-away, past-events, guard-says-no, Finish-answer, run-finished, run-open, finished-away, Offer-answer, offer-made, buffer-short, offer-away}
 use Rattle.table.specs.declared.Answer.the-variants.{Done, Refused}
@@ -26,7 +26,7 @@ pub first-look {ℓ} : {P : Type ℓ} (t bits : List ℕ) → (Ready t bits → 
     → ((n : ℕ) → admit-of t bits ≡ Refused n 0 → Away t bits (Refused n 0) → P) → P
 first-look t bits f g =
     by-cases (sound t)
-    (λ e. by-cases (stray-from bits (events t))
+    (λ e. by-cases (set-past bits (events t))
     (λ s. g 13 (sym (admit-13 t bits e s)) (bit-past refl e s))
     (λ s. f record { its-table = e; its-bits = s } (sym (admit-done t bits e s))))
     (λ e. g 12 (sym (admit-12 t bits e)) (unsound refl e))
@@ -37,7 +37,7 @@ step-answered t before e =
     first-look t (before .bits)
     (λ r d. by-cases (ltb e (events t))
     (λ b. let h = ltb-true e (events t) b in
-    by-cases (allows t (sheet t (before .bits)) e)
+    by-cases (allows t (values-of t (before .bits)) e)
     (λ y. event-taken (sym (step-done t before e d h _ _ _ y refl refl refl)) record { ready = r; below = h; allowed = y })
     (λ y. guard-says-no (sym (step-15 t before e d h y)) r h y))
     (λ b. past-events (sym (step-14 t before e d (ltb-false e (events t) b))) r (ltb-false e (events t) b)))
@@ -46,7 +46,7 @@ step-answered t before e =
 pub finished-answered : (t : List ℕ) (before : Record) → Finish-answer t before (finished-of t before)
 finished-answered t before =
     first-look t (before .bits)
-    (λ r d. by-cases (ended t (sheet t (before .bits)))
+    (λ r d. by-cases (ended t (values-of t (before .bits)))
     (λ y. run-finished (sym (finished-yes t before d y)) record { ready = r; says-so = y })
     (λ y. run-open (sym (finished-no t before d y)) r y))
     (λ n q a. finished-away (Refused n 0) (sym (finished-passed t before (Refused n 0) n 0 refl (sym q))) a)

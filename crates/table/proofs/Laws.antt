@@ -11,16 +11,16 @@ use lib.ListN.{length, getD, drop, replicate, getD-replicate}
 use borrow.Author.Tests.{ltb-true, ltb-false, leb-true, lt-ltb, le-ltb, le-leb, eqb-true, eqb-false, eq-eqb, ne-eqb}
 use Rattle.base.proofs.Truth.{by-cases, is-false, and-l, and-r, and-i, agree}
 use Rattle.base.proofs.Filled.{fill-length, fill-past}
-use Rattle.record.specs.Bits.{Words, bit-at, set-bit, clear-between, stray-from}
+use Rattle.record.specs.Bits.{Words, bit-at, set-bit, clear-between, set-past}
 use Rattle.record.specs.Bytes.{words-of, bytes-of}
 use Rattle.record.specs.declared.Record.{Record}
 use Rattle.record.proofs.Bits.{bit-set-same, bit-set-other, bits-cleared, length-change, length-clear-bits, words-small-set, words-small-clear}
-use Rattle.record.proofs.Strays.{each-clear, clear-each}
+use Rattle.record.proofs.Beyond.{each-clear, clear-each}
 use Rattle.record.proofs.Bytes.{bytes-length}
 use Rattle.record.proofs.Back.{words-back}
 use Rattle.table.specs.Fields.{events, rows, event-word, first-of, count-of}
 use Rattle.table.specs.Sound.{sound}
-use Rattle.table.specs.Values.{sheet, allows, ended}
+use Rattle.table.specs.Values.{values-of, allows, ended}
 use Rattle.table.specs.Steps.{admit-of, taken, refused, step-of, finished-of, offered, offer-of, offer-left}
 use Rattle.table.specs.declared.Answer.{Answer}
 use Rattle.table.specs.declared.Answer.the-variants.{Done, Refused}
@@ -58,13 +58,13 @@ module _ (t : List ℕ) (before : Record) (e : ℕ) where
   by-step done refusal =
       first-look t (before .bits)
       (λ r a. by-cases (ltb e (events t))
-      (λ l. by-cases (allows t (sheet t (before .bits)) e)
+      (λ l. by-cases (allows t (values-of t (before .bits)) e)
       (λ g. done (record { ready = r; below = ltb-true e (events t) l; allowed = g }))
       (λ g. refusal 15 (step-15 t before e a (ltb-true e (events t) l) g)))
       (λ l. refusal 14 (step-14 t before e a (ltb-false e (events t) l))))
       (λ number a w. refusal number (step-passed t before e (Refused number 0) number 0 refl (sym a)))
 
-  -- A step is done exactly if the table is sound, the record has no stray bit, there is such an event and its guard row says yes.
+  -- A step is done exactly if the table is sound, the record has no set bit at or past E, there is such an event and its guard row says yes.
   pub done-exactly : (step-of t before e .answer ≡ Done) ↔ Takes t before e
   done-exactly = (
     λ d. by-step (λ k. k) (λ number q. absurd (not-done number 0 (ap (λ (s : Stepped). s .answer) q ∙ d))),
@@ -119,9 +119,9 @@ module _ (t : List ℕ) (before : Record) (e : ℕ) where
         (λ b. out (leb-true _ _ (and-l (leb (run-first t e) i) _ b)) (ltb-true _ _ (and-r (leb (run-first t e) i) _ b))) in
         step-bit i h ∙ rw (q, ne-eqb i e n)
 
-    -- The record after it has no stray bit either.
-    pub no-stray-after : stray-from (step-of t before e .after .bits) (events t) ≡ false
-    no-stray-after =
+    -- The record after it has no set bit at or past E either.
+    pub none-past-after : set-past (step-of t before e .after .bits) (events t) ≡ false
+    none-past-after =
         let k = done-exactly .0 d in
         let none = sym (Bool·not-not (clear-between (before .bits) (events t) 512)) ∙ ap not (k .ready .its-bits) in
         ap not
@@ -185,13 +185,13 @@ module _ (t : List ℕ) (before : Record) (lent : List ℕ) where
       (λ l. (ltb-false _ _ l, rw l at d))
 
   its-bit : offer-of t before lent ≡ Done → (e : ℕ) → e < 512
-      → bit-at (words-of (offer-leaves t before lent)) e ≡ (ltb e (events t) && allows t (sheet t (before .bits)) e)
+      → bit-at (words-of (offer-leaves t before lent)) e ≡ (ltb e (events t) && allows t (values-of t (before .bits)) e)
   its-bit d e h =
-      let o = offered-words t (sheet t (before .bits)) (events t) in
+      let o = offered-words t (values-of t (before .bits)) (events t) in
       let s = sound-shaped t (admitted t (before .bits) (offer-told d .1) .its-table) in
       ap (λ (a : Answer). bit-at (words-of (offer-left t before lent a)) e) d
-      ∙ ap (λ (ws : List ℕ). bit-at ws e) (words-back (offered t (sheet t (before .bits)) (events t)) lent (o .0) (o .1) (offer-told d .0))
-      ∙ offered-bit t (sheet t (before .bits)) (events t) e (s .n-most) h
+      ∙ ap (λ (ws : List ℕ). bit-at ws e) (words-back (offered t (values-of t (before .bits)) (events t)) lent (o .0) (o .1) (offer-told d .0))
+      ∙ offered-bit t (values-of t (before .bits)) (events t) e (s .n-most) h
 
   -- Its bit e is exactly whether a step with e would be done.
   pub offer-exactly : offer-of t before lent ≡ Done → (e : ℕ) → e < 512
@@ -214,7 +214,7 @@ module _ (t : List ℕ) (before : Record) (lent : List ℕ) where
     where
       after : (a : Answer) → (drop 64 (offer-left t before lent a) ≡ drop 64 lent) × (length (offer-left t before lent a) ≡ length lent)
       after Done =
-          let o = offered t (sheet t (before .bits)) (events t) in
+          let o = offered t (values-of t (before .bits)) (events t) in
           (rw (bytes-length o 64) at (fill-past lent (bytes-of o)), fill-length lent (bytes-of o))
       after (Refused number place) = (refl, refl)
 
@@ -223,11 +223,11 @@ module _ (t : List ℕ) (before : Record) (lent : List ℕ) where
   offer-refused number place d = ap (offer-left t before lent) d
 
 -- ---- a finished run
--- A run is finished exactly if the table is sound, the record has no stray bit and the last row says yes.
+-- A run is finished exactly if the table is sound, the record has no set bit at or past E and the last row says yes.
 pub finished-exactly : (t : List ℕ) (before : Record) → (finished-of t before ≡ Yes) ↔ Ends t before
 finished-exactly t before = (
   λ y. first-look t (before .bits)
-      (λ r a. by-cases (ended t (sheet t (before .bits))) (λ g. record { ready = r; says-so = g })
+      (λ r a. by-cases (ended t (values-of t (before .bits))) (λ g. record { ready = r; says-so = g })
       (λ g. let q = finished-no t before a g in let z : _≡_ {A = ℕ} 0 1 = cc in absurd (omega arith)))
       (λ number a w. let q = finished-passed t before (Refused number 0) number 0 refl (sym a) in let z : _≡_ {A = ℕ} 0 1 = cc in absurd (omega arith)),
   λ k. sym (finished-yes t before (ready-admitted t (before .bits) (k .ready)) (k .says-so)),

@@ -1,4 +1,4 @@
--- The rows of a table: what a sound row says, and the sheet of the rows' values.
+-- The rows of a table: what a sound row says, and the list of their values.
 use mathlib.Core.Path.{_≡_, refl, _∙_}
 use mathlib.Core.Bool.{Bool, true, false, _&&_}
 use mathlib.Core.List.{List}
@@ -47,12 +47,12 @@ module _ (w n i : ℕ) (ok : row-sound w n i ≡ true) where
   pub right-below : 2 ≤ kind-of w → right-of w < i
   right-below h = ltb-true _ _ (and-r (ltb (left-of w) i) _ (bounds-two w n i h ∙ ok))
 
-  -- So the rows that it names stand on the sheet, and it reads only the rows before it.
-  pub left-on-sheet : i < 12288 → (kind-of w ≡ 0 → ⊥) → left-of w < 12288
-  left-on-sheet h k = omega (arith, left-below k)
+  -- So there are the rows that it names, and it reads only the rows before it.
+  pub left-below-most : i < 12288 → (kind-of w ≡ 0 → ⊥) → left-of w < 12288
+  left-below-most h k = omega (arith, left-below k)
 
-  pub right-on-sheet : i < 12288 → 2 ≤ kind-of w → right-of w < 12288
-  right-on-sheet h k = omega (arith, right-below k)
+  pub right-below-most : i < 12288 → 2 ≤ kind-of w → right-of w < 12288
+  right-below-most h k = omega (arith, right-below k)
 
   pub value-before : (bits : List ℕ) (vs : List Bool) → row-value w bits vs ≡ row-value w bits (take i vs)
   unfolding row-value
@@ -70,21 +70,21 @@ pub rows-each : (t : List ℕ) (m i : ℕ) → rows-sound t m ≡ true → i < m
 unfolding rows-sound
 rows-each t = each-below (rows-sound t) (λ i. row-sound (row-word t i) (events t) i) (λ k. refl)
 
--- The values of the rows, and the sheet where they stand.
+-- The values of the rows, and the list where they stand.
 module _ (t bits : List ℕ) where
   pub values-length : (m : ℕ) → length (row-values t bits m) ≡ m
   unfolding row-values
   values-length zero = refl
   values-length (suc m) = simp (length-append, values-length m) (omega arith)
 
-  -- One more row on the sheet.
-  pub values-more : (sheet : List Bool) (i : ℕ) (v : Bool) → i < length sheet → take i sheet ≡ row-values t bits i
-      → row-sound (row-word t i) (events t) i ≡ true → v ≡ row-value (row-word t i) bits sheet
-      → take (i + 1) (set sheet i v) ≡ row-values t bits (i + 1)
+  -- One more row worked out.
+  pub values-more : (values : List Bool) (i : ℕ) (v : Bool) → i < length values → take i values ≡ row-values t bits i
+      → row-sound (row-word t i) (events t) i ≡ true → v ≡ row-value (row-word t i) bits values
+      → take (i + 1) (set values i v) ≡ row-values t bits (i + 1)
   unfolding row-values
-  values-more sheet i v h q ok p =
-      rw (add-one, take-suc-set sheet i v h, q, p, value-before (row-word t i) (events t) i ok bits sheet, q)
+  values-more values i v h q ok p =
+      rw (add-one, take-suc-set values i v h, q, p, value-before (row-word t i) (events t) i ok bits values, q)
 
-  pub values-at : (sheet : List Bool) (m g : ℕ) → take m sheet ≡ row-values t bits m → g < m
-      → getD sheet g false ≡ getD (row-values t bits m) g false
-  values-at sheet m g q h = rw (← q, getD-take m sheet g false h)
+  pub values-at : (values : List Bool) (m g : ℕ) → take m values ≡ row-values t bits m → g < m
+      → getD values g false ≡ getD (row-values t bits m) g false
+  values-at values m g q h = rw (← q, getD-take m values g false h)

@@ -23,8 +23,8 @@ module _ (t : List ℕ) (n i w : ℕ) (ok this : Bool) (N : n ≡ events t) (W :
   pub row-now : (ok && this) ≡ true → row-sound w n i ≡ true
   row-now y = sym S ∙ and-r ok this y
 
-  pub worked-more : (bits : List ℕ) (sheet next : List Bool) (v : Bool) → i < length sheet → (ok ≡ true → take i sheet ≡ row-values t bits i)
-      → v ≡ row-value w bits sheet → next ≡ set sheet i v → (ok && this) ≡ true → take (i + 1) next ≡ row-values t bits (i + 1)
-  worked-more bits sheet next v h f e q y =
+  pub worked-more : (bits : List ℕ) (values next : List Bool) (v : Bool) → i < length values → (ok ≡ true → take i values ≡ row-values t bits i)
+      → v ≡ row-value w bits values → next ≡ set values i v → (ok && this) ≡ true → take (i + 1) next ≡ row-values t bits (i + 1)
+  worked-more bits values next v h f e q y =
       ap (take (i + 1)) q
-      ∙ values-more t bits sheet i v h (f (and-l ok this y)) (sym its-row ∙ row-now y) (e ∙ ap (λ (x : ℕ). row-value x bits sheet) (W ∙ rw N))
+      ∙ values-more t bits values i v h (f (and-l ok this y)) (sym its-row ∙ row-now y) (e ∙ ap (λ (x : ℕ). row-value x bits values) (W ∙ rw N))

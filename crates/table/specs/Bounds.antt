@@ -5,12 +5,12 @@ use mathlib.Core.List.{List}
 use Prim.Native.Nat.{ℕ, _≤_, _<_}
 use lib.ListN.{length}
 use Rattle.base.specs.Fill.{fill}
-use Rattle.record.specs.Bits.{stray-from}
+use Rattle.record.specs.Bits.{set-past}
 use Rattle.record.specs.Bytes.{bytes-of}
 use Rattle.record.specs.declared.Record.{Record}
 use Rattle.table.specs.Fields.{events}
 use Rattle.table.specs.Sound.{sound}
-use Rattle.table.specs.Values.{sheet, allows, ended}
+use Rattle.table.specs.Values.{values-of, allows, ended}
 use Rattle.table.specs.Steps.{taken, refused, unasked, offered}
 use Rattle.table.specs.declared.Answer.{Answer}
 use Rattle.table.specs.declared.Answer.the-variants.{Done, Refused}
@@ -25,38 +25,38 @@ pub data Check-answer (t : List ℕ) (a : Answer) : Type 0 where
 -- Neither 12 nor 13.
 pub record Ready (t bits : List ℕ) : Type 0 where
   pub its-table : sound t ≡ true
-  pub its-bits : stray-from bits (events t) ≡ false
+  pub its-bits : set-past bits (events t) ≡ false
 
 -- What a step with event e needs to be done: an event below E, whose guard row says yes.
 pub record Takes (t : List ℕ) (before : Record) (e : ℕ) : Type 0 where
   pub ready : Ready t (before .bits)
   pub below : e < events t
-  pub allowed : allows t (sheet t (before .bits)) e ≡ true
+  pub allowed : allows t (values-of t (before .bits)) e ≡ true
 
 -- What a run needs to be finished: a last row that says yes.
 pub record Ends (t : List ℕ) (before : Record) : Type 0 where
   pub ready : Ready t (before .bits)
-  pub says-so : ended t (sheet t (before .bits)) ≡ true
+  pub says-so : ended t (values-of t (before .bits)) ≡ true
 
 -- Number 12, or 13.
 pub data Away (t bits : List ℕ) (a : Answer) : Type 0 where
   unsound : a ≡ Refused 12 0 → sound t ≡ false → Away t bits a
-  bit-past : a ≡ Refused 13 0 → sound t ≡ true → stray-from bits (events t) ≡ true → Away t bits a
+  bit-past : a ≡ Refused 13 0 → sound t ≡ true → set-past bits (events t) ≡ true → Away t bits a
 
 pub data Step-answer (t : List ℕ) (before : Record) (e : ℕ) (s : Stepped) : Type 0 where
   event-taken : s ≡ record { answer = Done; after = record { bits = taken t (before .bits) e } } → Takes t before e → Step-answer t before e s
   step-away : (a : Answer) → s ≡ refused before a → Away t (before .bits) a → Step-answer t before e s
   past-events : s ≡ refused before (Refused 14 0) → Ready t (before .bits) → events t ≤ e → Step-answer t before e s
-  guard-says-no : s ≡ refused before (Refused 15 0) → Ready t (before .bits) → e < events t → allows t (sheet t (before .bits)) e ≡ false
+  guard-says-no : s ≡ refused before (Refused 15 0) → Ready t (before .bits) → e < events t → allows t (values-of t (before .bits)) e ≡ false
       → Step-answer t before e s
 
 pub data Finish-answer (t : List ℕ) (before : Record) (f : Finish) : Type 0 where
   run-finished : f ≡ Yes → Ends t before → Finish-answer t before f
-  run-open : f ≡ No → Ready t (before .bits) → ended t (sheet t (before .bits)) ≡ false → Finish-answer t before f
+  run-open : f ≡ No → Ready t (before .bits) → ended t (values-of t (before .bits)) ≡ false → Finish-answer t before f
   finished-away : (a : Answer) → f ≡ unasked a → Away t (before .bits) a → Finish-answer t before f
 
 pub data Offer-answer (t : List ℕ) (before : Record) (lent : List ℕ) (a : Answer) (left : List ℕ) : Type 0 where
   offer-made : a ≡ Done → 64 ≤ length lent → Ready t (before .bits)
-      → left ≡ fill lent (bytes-of (offered t (sheet t (before .bits)) (events t))) → Offer-answer t before lent a left
+      → left ≡ fill lent (bytes-of (offered t (values-of t (before .bits)) (events t))) → Offer-answer t before lent a left
   buffer-short : a ≡ Refused 1 0 → length lent < 64 → left ≡ lent → Offer-answer t before lent a left
   offer-away : 64 ≤ length lent → Away t (before .bits) a → left ≡ lent → Offer-answer t before lent a left

@@ -5,12 +5,12 @@ use Prim.Native.Nat.{ℕ, zero, suc}
 use lib.Dec.{ltb}
 use lib.ListN.{length, replicate}
 use Rattle.base.specs.Fill.{fill}
-use Rattle.record.specs.Bits.{set-bit, clear-bits, stray-from}
+use Rattle.record.specs.Bits.{set-bit, clear-bits, set-past}
 use Rattle.record.specs.Bytes.{bytes-of}
 use Rattle.record.specs.declared.Record.{Record}
 use Rattle.table.specs.Fields.{events, event-word, first-of, count-of}
 use Rattle.table.specs.Sound.{sound}
-use Rattle.table.specs.Values.{sheet, allows, ended}
+use Rattle.table.specs.Values.{values-of, allows, ended}
 use Rattle.table.specs.declared.Answer.{Answer}
 use Rattle.table.specs.declared.Answer.the-variants.{Done, Refused}
 use Rattle.table.specs.declared.Finish.{Finish}
@@ -23,7 +23,7 @@ check-of t = cond (sound t) Done (Refused 12 0)
 
 -- Numbers 12 and 13, of a table and a record's words: what step, finished and offer look at first.
 unfoldable pub admit-of : List ℕ → List ℕ → Answer
-admit-of t bits = cond (sound t) (cond (stray-from bits (events t)) (Refused 13 0) Done) (Refused 12 0)
+admit-of t bits = cond (sound t) (cond (set-past bits (events t)) (Refused 13 0) Done) (Refused 12 0)
 
 -- "Event e has control bit e: set when e is taken." The event's record says which bits are cleared.
 unfoldable pub taken : List ℕ → List ℕ → ℕ → List ℕ
@@ -37,7 +37,7 @@ refused before answer = record { answer = answer; after = before }
 unfoldable pub taken-or-not : List ℕ → Record → ℕ → Stepped
 taken-or-not t before e =
     cond (ltb e (events t))
-    (cond (allows t (sheet t (before .bits)) e) (record { answer = Done; after = record { bits = taken t (before .bits) e } })
+    (cond (allows t (values-of t (before .bits)) e) (record { answer = Done; after = record { bits = taken t (before .bits) e } })
     (refused before (Refused 15 0))) (refused before (Refused 14 0))
 
 abbrev pub step-admitted : List ℕ → Record → ℕ → Answer → Stepped
@@ -53,7 +53,7 @@ unasked Done = No
 unasked (Refused number place) = Unasked number place
 
 abbrev pub finished-admitted : List ℕ → Record → Answer → Finish
-finished-admitted t before Done = cond (ended t (sheet t (before .bits))) Yes No
+finished-admitted t before Done = cond (ended t (values-of t (before .bits))) Yes No
 finished-admitted t before (Refused number place) = unasked (Refused number place)
 
 -- Whether a run is finished.
@@ -71,5 +71,5 @@ offer-of t before lent = cond (ltb (length lent) 64) (Refused 1 0) (admit-of t (
 
 -- "Offer writes 64 bytes: the bit of each event that a step would take."
 abbrev pub offer-left : List ℕ → Record → List ℕ → Answer → List ℕ
-offer-left t before lent Done = fill lent (bytes-of (offered t (sheet t (before .bits)) (events t)))
+offer-left t before lent Done = fill lent (bytes-of (offered t (values-of t (before .bits)) (events t)))
 offer-left t before lent (Refused number place) = lent

@@ -22,8 +22,8 @@ row-values t bits zero = []
 row-values t bits (suc i) = row-values t bits i ++ (row-value (row-word t i) bits (row-values t bits i) ∷ [])
 
 -- What every row of a table says.
-abbrev pub sheet : List ℕ → List ℕ → List Bool
-sheet t bits = row-values t bits (rows t)
+abbrev pub values-of : List ℕ → List ℕ → List Bool
+values-of t bits = row-values t bits (rows t)
 
 -- Whether event e's guard row says yes.
 abbrev pub allows : List ℕ → List Bool → ℕ → Bool

@@ -144,9 +144,9 @@ pub fn check(table: &[u8]) -> Answer
 }
 
 // The value of a sound row, from the control bits and the rows before it.
-fn row_value(w: usize, n: usize, i: usize, bits: &[u64; 8], sheet: &[bool; 12288]) -> bool
+fn row_value(w: usize, n: usize, i: usize, bits: &[u64; 8], values: &[bool; 12288]) -> bool
     requires { ⌜ (row-sound w n i ≡ true) × (n ≤ 512) × (i < 12288) ⌝ }
-    ensures { λ r. ⌜ r ≡ row-value w (now (bits .entry)) (now (sheet .entry)) ⌝ }
+    ensures { λ r. ⌜ r ≡ row-value w (now (bits .entry)) (now (values .entry)) ⌝ }
 {
     let kind = w / 1073741824;
     let left = w / 32768 % 32768;
@@ -154,22 +154,22 @@ fn row_value(w: usize, n: usize, i: usize, bits: &[u64; 8], sheet: &[bool; 12288
     if kind == 0 {
         return record::bit(bits, left);
     }
-    let x = sheet[left];
+    let x = values[left];
     if kind == 1 {
         return !x;
     }
-    let y = sheet[right];
+    let y = values[right];
     if kind == 2 {
         return x & y;
     }
     x | y
 }
 
-// Whether all rows are sound, and the values of all rows up to the first that is not, lowest row first.
-fn work_out(t: &[u8], n: usize, m: usize, bits: &[u64; 8], sheet: &mut [bool; 12288]) -> bool
-    requires { ⌜ Shaped (now t) n m × (length (now sheet) ≡ 12288) ⌝ }
+// Whether all rows are sound; works out the rows up to the first that is not, lowest row first.
+fn work_out(t: &[u8], n: usize, m: usize, bits: &[u64; 8], values: &mut [bool; 12288]) -> bool
+    requires { ⌜ Shaped (now t) n m × (length (now values) ≡ 12288) ⌝ }
     ensures { λ r. ⌜ r ≡ rows-sound (now (t .entry)) m ⌝ }
-    ensures { λ r. ⌜ (r ≡ true → take m (now (sheet .exit)) ≡ row-values (now (t .entry)) (now (bits .entry)) m) ⌝ }
+    ensures { λ r. ⌜ (r ≡ true → take m (now (values .exit)) ≡ row-values (now (t .entry)) (now (bits .entry)) m) ⌝ }
 {
     let base = 4 + 4 * n;
     let mut ok = true;
@@ -179,28 +179,28 @@ fn work_out(t: &[u8], n: usize, m: usize, bits: &[u64; 8], sheet: &mut [bool; 12
         let this = row_sound(w, n, i);
         ok = ok & this;
         if ok {
-            let v = row_value(w, n, i, bits, sheet);
-            sheet[i] = v;
+            let v = row_value(w, n, i, bits, values);
+            values[i] = v;
         }
         i += 1;
     }
     ok
 }
 
-// What every call but `check` looks at first, numbers 12 and 13; where there is neither, the sheet has the values of the rows.
-fn admit(t: &[u8], bits: &[u64; 8], sheet: &mut [bool; 12288]) -> Answer
-    requires { ⌜ length (now sheet) ≡ 12288 ⌝ }
+// What every call but `check` looks at first, numbers 12 and 13; where there is neither, `values` has what every row says.
+fn admit(t: &[u8], bits: &[u64; 8], values: &mut [bool; 12288]) -> Answer
+    requires { ⌜ length (now values) ≡ 12288 ⌝ }
     ensures { λ r. ⌜ r ≡ admit-of (now (t .entry)) (now (bits .entry)) ⌝ }
-    ensures { λ r. ⌜ (r ≡ Answer.Done → take (rows (now (t .entry))) (now (sheet .exit)) ≡ row-values (now (t .entry)) (now (bits .entry)) (rows (now (t .entry)))) ⌝ }
+    ensures { λ r. ⌜ (r ≡ Answer.Done → take (rows (now (t .entry))) (now (values .exit)) ≡ row-values (now (t .entry)) (now (bits .entry)) (rows (now (t .entry)))) ⌝ }
 {
     let size = measure(t);
     let Size::Of(n, m) = size else {
         return Answer::Refused(12, 0);
     };
     let events = events_sound(t, n, m);
-    let rows = work_out(t, n, m, bits, sheet);
+    let rows = work_out(t, n, m, bits, values);
     if events & rows {
-        if record::stray(bits, n) {
+        if record::set_past(bits, n) {
             return Answer::Refused(13, 0);
         }
         return Answer::Done;
@@ -208,13 +208,13 @@ fn admit(t: &[u8], bits: &[u64; 8], sheet: &mut [bool; 12288]) -> Answer
     Answer::Refused(12, 0)
 }
 
-// The event is taken if the table is sound, the record has no stray bit, there is such an event and its guard row says yes.
+// The event is taken if the table is sound, the record has no set bit at or past E, there is such an event and its guard row says yes.
 pub fn step(table: &[u8], before: Record, event: u64) -> Stepped
     ensures { λ r. ⌜ r ≡ step-of (now (table .entry)) before event ⌝ }
 {
     let bits = before.bits;
-    let mut sheet = [false; 12288];
-    let answer = admit(table, &bits, &mut sheet);
+    let mut values = [false; 12288];
+    let answer = admit(table, &bits, &mut values);
     let Answer::Done = answer else {
         return Stepped {
             answer,
@@ -230,7 +230,7 @@ pub fn step(table: &[u8], before: Record, event: u64) -> Stepped
     }
     let w = word(table, 4 + 4 * e);
     let guard = w / 262144;
-    if sheet[guard] {
+    if values[guard] {
         let set = record::set(bits, e);
         let cleared = record::clear(set, w / 512 % 512, w % 512);
         return Stepped {
@@ -253,34 +253,34 @@ fn unasked(answer: Answer) -> Finish
     Finish::Refused(number, place)
 }
 
-// Whether the last row says yes, of a sound table and a record with no stray bit.
+// Whether the last row says yes, of a sound table and a record with no set bit at or past E.
 pub fn finished(table: &[u8], before: Record) -> Finish
     ensures { λ r. ⌜ r ≡ finished-of (now (table .entry)) before ⌝ }
 {
     let bits = before.bits;
-    let mut sheet = [false; 12288];
-    let answer = admit(table, &bits, &mut sheet);
+    let mut values = [false; 12288];
+    let answer = admit(table, &bits, &mut values);
     let Answer::Done = answer else {
         return unasked(answer);
     };
     let last = half(table, 2) - 1;
-    if sheet[last] {
+    if values[last] {
         return Finish::Yes;
     }
     Finish::No
 }
 
 // The bits of the events that a step would take, from a sound table and its rows' values.
-fn gather(t: &[u8], n: usize, m: usize, sheet: &[bool; 12288]) -> [u64; 8]
+fn gather(t: &[u8], n: usize, m: usize, values: &[bool; 12288]) -> [u64; 8]
     requires { ⌜ Shaped (now t) n m × (events-sound (now t) n ≡ true) ⌝ }
-    ensures { λ r. ⌜ r ≡ offered (now (t .entry)) (take m (now (sheet .entry))) n ⌝ }
+    ensures { λ r. ⌜ r ≡ offered (now (t .entry)) (take m (now (values .entry))) n ⌝ }
 {
     let mut o = [0u64; 8];
     let mut e = 0;
     while e < n {
         let w = word(t, 4 + 4 * e);
         let guard = w / 262144;
-        if sheet[guard] {
+        if values[guard] {
             let p = record::set(o, e);
             o = p;
         }
@@ -298,14 +298,14 @@ pub fn offer(table: &[u8], before: Record, out: &mut [u8]) -> Answer
         return Answer::Refused(1, 0);
     }
     let bits = before.bits;
-    let mut sheet = [false; 12288];
-    let answer = admit(table, &bits, &mut sheet);
+    let mut values = [false; 12288];
+    let answer = admit(table, &bits, &mut values);
     let Answer::Done = answer else {
         return answer;
     };
     let n = half(table, 0);
     let m = half(table, 2);
-    let o = gather(table, n, m, &sheet);
+    let o = gather(table, n, m, &values);
     record::store(out, o);
     answer
 }

@@ -1,5 +1,5 @@
 -- `record::past` meets its contract: the remainder is the whole word where all of it counts, and 0 where none of it does.
-use Rattle.record.proofs.Strays.{past-all, past-none, past-some, past-some-not-zero}
+use Rattle.record.proofs.Beyond.{past-all, past-none, past-some, past-some-not-zero}
 use native.Mathlib.Omega.{arith}
 use borrow.Author.Needs.{needs}
 use Rattle.record.proofs.past.Statement.{statement}

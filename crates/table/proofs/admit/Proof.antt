@@ -1,4 +1,4 @@
--- `table::admit` meets its contract: 12, then 13; where there is neither, the loop over the rows has filled the sheet.
+-- `table::admit` meets its contract: 12, then 13; where there is neither, the loop over the rows has worked them out.
 use mathlib.Core.Path.{sym, _∙_}
 use borrow.Author.Needs.{needs}
 use Rattle.table.proofs.Sizes.{of-shaped}
@@ -27,22 +27,22 @@ work-out-requires c κs = (
   c .before .before .before .before .before .before .before .pre,
 )
 
-stray-requires : tie.Need-stray-requires
-stray-requires c κs = search needs
+set-past-requires : tie.Need-set-past-requires
+set-past-requires c κs = search needs
 
 returns-2 : tie.Need-returns-2
 returns-2 c =
     let worked = c .before .before .before in
     let sized = worked .before .before .before .before in
     looked-13 _ _ _ _ _ _ _ (sym (sized .before .before .measure .ensures) ∙ sized .size .given .1) (worked .before .before .events-sound .ensures)
-    (worked .work-out .ensures) (c .before .before .if1 .taken) _ (c .before .stray .ensures) (c .if2 .taken)
+    (worked .work-out .ensures) (c .before .before .if1 .taken) _ (c .before .set-past .ensures) (c .if2 .taken)
 
 returns-3 : tie.Need-returns-3
 returns-3 c =
     let worked = c .before .before .before in
     let sized = worked .before .before .before .before in
     looked-done _ _ _ _ _ _ _ (sym (sized .before .before .measure .ensures) ∙ sized .size .given .1) (worked .before .before .events-sound .ensures)
-    (worked .work-out .ensures) (c .before .before .if1 .taken) _ (c .before .stray .ensures) (c .if2 .left)
+    (worked .work-out .ensures) (c .before .before .if1 .taken) _ (c .before .set-past .ensures) (c .if2 .left)
 
 returns-4 : tie.Need-returns-4
 returns-4 c =
@@ -61,7 +61,7 @@ admit-spec =
     returns
     events-sound-requires
     work-out-requires
-    stray-requires
+    set-past-requires
     returns-2
     returns-3
     returns-4)

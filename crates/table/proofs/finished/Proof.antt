@@ -4,7 +4,7 @@ use native.Mathlib.Omega.{arith}
 use borrow.Author.Needs.{needs}
 use Rattle.table.specs.Steps.{admit-of}
 use Rattle.table.specs.declared.Answer.the-variants.{Done}
-use Rattle.table.proofs.Answered.{long-table, last-on-sheet, sheet-ended, finished-passed, finished-yes, finished-no}
+use Rattle.table.proofs.Answered.{long-table, last-below-most, values-ended, finished-passed, finished-yes, finished-no}
 use Rattle.table.proofs.finished.Statement.{statement}
 use Rattle.table.proofs.finished.Tie as tie
 
@@ -33,24 +33,24 @@ half-requires : tie.Need-half-requires
 half-requires c κs = long-table _ _ (admitted c)
 
 sub-last : tie.Need-sub-last
-sub-last c = last-on-sheet _ _ (admitted (c .before)) _ (c .half .ensures .0) .0
+sub-last c = last-below-most _ _ (admitted (c .before)) _ (c .half .ensures .0) .0
 
 array-read-if1 : tie.Need-array-read-if1
-array-read-if1 c = let l = last-on-sheet _ _ (admitted (c .before)) _ (c .half .ensures .0) in omega (arith, l .1)
+array-read-if1 c = let l = last-below-most _ _ (admitted (c .before)) _ (c .half .ensures .0) in omega (arith, l .1)
 
 returns-2 : tie.Need-returns-2
 returns-2 c =
     let told = c .before .before in
     let d = admitted told in
     let q = told .before .before .admit .ensures .1 (told .enum-told .given .1) in
-    finished-yes _ _ d (sym (sheet-ended _ _ d _ q _ (c .before .half .ensures .0)) ∙ c .if1 .taken)
+    finished-yes _ _ d (sym (values-ended _ _ d _ q _ (c .before .half .ensures .0)) ∙ c .if1 .taken)
 
 returns-3 : tie.Need-returns-3
 returns-3 c =
     let told = c .before .before in
     let d = admitted told in
     let q = told .before .before .admit .ensures .1 (told .enum-told .given .1) in
-    finished-no _ _ d (sym (sheet-ended _ _ d _ q _ (c .before .half .ensures .0)) ∙ c .if1 .left)
+    finished-no _ _ d (sym (values-ended _ _ d _ q _ (c .before .half .ensures .0)) ∙ c .if1 .left)
 
 pub finished-spec : {M : Type 1} → statement M
 finished-spec =

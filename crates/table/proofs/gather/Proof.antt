@@ -4,17 +4,17 @@ use Prim.Native.Nat.{_≤_, _<_, _-_}
 use lib.ListN.{take}
 use mathlib.Core.Logic.{⊎-elim}
 use Rattle.table.specs.Steps.{offered}
-use Rattle.table.proofs.Answered.{gather-on-sheet, gather-yes, gather-no}
+use Rattle.table.proofs.Answered.{gather-below-most, gather-yes, gather-no}
 use borrow.Author.Needs.{needs}
 use native.Mathlib.Omega.{arith}
 use Rattle.table.proofs.gather.Statement.{statement}
 use Rattle.table.proofs.gather.Tie as tie
 
 abbrev Inv-loop : tie.InvT-loop
-Inv-loop t n m sheet o₀ e₀ o e = (e ≤ n) × (o ≡ offered t (take m sheet) e)
+Inv-loop t n m values o₀ e₀ o e = (e ≤ n) × (o ≡ offered t (take m values) e)
 
 abbrev μ-loop : tie.MeasureT-loop
-μ-loop t n m sheet o₀ e₀ o e = n - e
+μ-loop t n m values o₀ e₀ o e = n - e
 
 loop-holds : tie.Need-loop-holds Inv-loop μ-loop
 unfolding offered
@@ -34,7 +34,7 @@ element-copy-out-if1 c =
     let start = c .before .before .before .before in
     let a = start .args in
     let l = c .before .before .loop in
-    gather-on-sheet (a .t .now) (a .sheet .now) (a .n) (a .m) (l .e) (c .word .result) (start .pre .0) (start .pre .1) (omega arith) (c .word .ensures .0)
+    gather-below-most (a .t .now) (a .values .now) (a .n) (a .m) (l .e) (c .word .result) (start .pre .0) (start .pre .1) (omega arith) (c .word .ensures .0)
 
 set-requires : tie.Need-set-requires Inv-loop μ-loop
 set-requires c κs = search needs
@@ -54,9 +54,9 @@ loop-again c =
     let h : l .e < a .n = omega arith in (
       omega arith,
       ⊎-elim
-          (λ y. y .2 ∙ gather-yes (a .t .now) (a .sheet .now) (a .n) (a .m) (l .e) (w .result) (start .pre .0) (start .pre .1) h (w .ensures .0) (l .o) (y .1 .result)
+          (λ y. y .2 ∙ gather-yes (a .t .now) (a .values .now) (a .n) (a .m) (l .e) (w .result) (start .pre .0) (start .pre .1) h (w .ensures .0) (l .o) (y .1 .result)
           (y .0 .taken) (l .inv .1) (y .1 .ensures))
-          (λ x. x .1 ∙ gather-no (a .t .now) (a .sheet .now) (a .n) (a .m) (l .e) (w .result) (start .pre .0) (start .pre .1) h (w .ensures .0) (l .o) (x .0 .left)
+          (λ x. x .1 ∙ gather-no (a .t .now) (a .values .now) (a .n) (a .m) (l .e) (w .result) (start .pre .0) (start .pre .1) h (w .ensures .0) (l .o) (x .0 .left)
           (l .inv .1))
           (c .if1 .came),
     )

@@ -6,7 +6,7 @@ use borrow.Author.Needs.{needs}
 use Rattle.table.specs.Fields.{events}
 use Rattle.table.specs.Steps.{admit-of}
 use Rattle.table.specs.declared.Answer.the-variants.{Done}
-use Rattle.table.proofs.Answered.{long-table, few-events, in-table, guard-on-sheet, sheet-allows, step-passed, step-14, step-15, step-done}
+use Rattle.table.proofs.Answered.{long-table, few-events, in-table, guard-below-most, values-allow, step-passed, step-14, step-15, step-done}
 use Rattle.table.proofs.step.Statement.{statement}
 use Rattle.table.proofs.step.Tie as tie
 
@@ -50,7 +50,7 @@ word-requires : tie.Need-word-requires
 word-requires c κs = in-table _ _ (admitted (c .before .before)) _ (below c)
 
 array-read-if2 : tie.Need-array-read-if2
-array-read-if2 c = guard-on-sheet _ _ (admitted (c .before .before .before)) _ _ (below (c .before)) (c .word .ensures .0)
+array-read-if2 c = guard-below-most _ _ (admitted (c .before .before .before)) _ _ (below (c .before)) (c .word .ensures .0)
 
 set-requires : tie.Need-set-requires
 set-requires c κs = search needs
@@ -65,7 +65,7 @@ returns-3 c =
     let b = below (word .before) in
     let w = word .word .ensures .0 in
     let q = word .before .before .before .before .before .admit .ensures .1 (word .before .before .before .enum-told .given .1) in
-    step-done _ _ _ d b _ _ _ (sym (sheet-allows _ _ d _ q _ _ b w) ∙ c .before .before .if2 .taken) w (c .before .set .ensures) (c .clear .ensures)
+    step-done _ _ _ d b _ _ _ (sym (values-allow _ _ d _ q _ _ b w) ∙ c .before .before .if2 .taken) w (c .before .set .ensures) (c .clear .ensures)
 
 returns-4 : tie.Need-returns-4
 returns-4 c =
@@ -73,7 +73,7 @@ returns-4 c =
     let d = admitted (word .before .before .before) in
     let b = below (word .before) in
     let q = word .before .before .before .before .before .admit .ensures .1 (word .before .before .before .enum-told .given .1) in
-    step-15 _ _ _ d b (sym (sheet-allows _ _ d _ q _ _ b (word .word .ensures .0)) ∙ c .if2 .left)
+    step-15 _ _ _ d b (sym (values-allow _ _ d _ q _ _ b (word .word .ensures .0)) ∙ c .if2 .left)
 
 pub step-spec : {M : Type 1} → statement M
 step-spec =

@@ -1,4 +1,4 @@
--- `table::work_out` meets its contract: up to the first row that is not sound, the sheet has the values.
+-- `table::work_out` meets its contract: up to the first row that is not sound, the list has what the rows say.
 use mathlib.Core.Path.{_≡_, refl, ap, _∙_}
 use mathlib.Core.Bool.{true}
 use mathlib.Core.Logic.{⊎-elim}
@@ -14,11 +14,11 @@ use Rattle.table.proofs.work_out.Statement.{statement}
 use Rattle.table.proofs.work_out.Tie as tie
 
 abbrev Inv-loop : tie.InvT-loop
-Inv-loop t n m bits sheet₀ base ok₀ i₀ sheet ok i =
-    (i ≤ m) × (length sheet ≡ 12288) × (ok ≡ rows-sound t i) × (ok ≡ true → take i sheet ≡ row-values t bits i)
+Inv-loop t n m bits values₀ base ok₀ i₀ values ok i =
+    (i ≤ m) × (length values ≡ 12288) × (ok ≡ rows-sound t i) × (ok ≡ true → take i values ≡ row-values t bits i)
 
 abbrev μ-loop : tie.MeasureT-loop
-μ-loop t n m bits sheet₀ base ok₀ i₀ sheet ok i = m - i
+μ-loop t n m bits values₀ base ok₀ i₀ values ok i = m - i
 
 mul-base : tie.Need-mul-base Inv-loop μ-loop
 mul-base c = search needs
@@ -55,8 +55,8 @@ row-value-requires c κs =
       omega (arith, p .m-most),
     )
 
-element-write-sheet : tie.Need-element-write-sheet Inv-loop μ-loop
-element-write-sheet c = omega (arith, c .before .before .before .before .before .before .before .before .pre .0 .m-most)
+element-write-values : tie.Need-element-write-values Inv-loop μ-loop
+element-write-values c = omega (arith, c .before .before .before .before .before .before .before .before .pre .0 .m-most)
 
 add-i : tie.Need-add-i Inv-loop μ-loop
 add-i c = search needs
@@ -74,13 +74,13 @@ loop-again c =
     let s = c .before .row-sound in
     let more = rows-more (a .t .now) (a .n) (l .i) (w .result) (l .ok) (s .result) (p .n-is) (w .ensures .0) (s .ensures) (l .inv .2) in
     let on : l .i + 1 ≤ a .m = omega arith in
-    let room : l .i < length (l .sheet) = rw (l .inv .1) (omega (arith, p .m-most)) in
+    let room : l .i < length (l .values) = rw (l .inv .1) (omega (arith, p .m-most)) in
     ⊎-elim
     (λ y. (
       on,
-      ap length (y .3) ∙ length-set (l .sheet) (l .i) (y .2 .result) ∙ l .inv .1,
+      ap length (y .3) ∙ length-set (l .values) (l .i) (y .2 .result) ∙ l .inv .1,
       more,
-      worked-more (a .t .now) (a .n) (l .i) (w .result) (l .ok) (s .result) (p .n-is) (w .ensures .0) (s .ensures) (a .bits .now) (l .sheet) (c .if1 .sheet)
+      worked-more (a .t .now) (a .n) (l .i) (w .result) (l .ok) (s .result) (p .n-is) (w .ensures .0) (s .ensures) (a .bits .now) (l .values) (c .if1 .values)
           (y .2 .result) room (l .inv .3) (y .2 .ensures) (y .3),
     ))
     (λ x. (on, ap length (x .1) ∙ l .inv .1, more, λ yes. absurd (clash yes (x .0 .left))))
@@ -105,7 +105,7 @@ work-out-spec =
     word-requires
     row-sound-requires
     row-value-requires
-    element-write-sheet
+    element-write-values
     add-i
     loop-less
     loop-again

@@ -1,4 +1,4 @@
--- What a stray bit is, and that it is found word by word.
+-- What a set bit at or past a place is, and that it is found word by word.
 use mathlib.Core.Path.{_≡_, refl, sym, ap, _∙_}
 use mathlib.Core.Bool.{Bool, true, false, not, _&&_}
 use mathlib.Core.List.{List}
@@ -107,18 +107,18 @@ module _ (ws : List ℕ) (first i : ℕ) (h : i < 8) (small : getD ws i 0 < 2 ^ 
       (λ c. and-i (clear-each ws first (64 * i) (λ e l f. each-clear ws first (64 * i + 64) c e (omega arith) f)) (eq-eqb rest 0 (its-low c)))
 
 -- What the loop over the words holds: before the first word, after one more, after the eighth.
-pub stray-start : (ws : List ℕ) (first : ℕ) → true ≡ clear-between ws first (64 * 0)
+pub past-start : (ws : List ℕ) (first : ℕ) → true ≡ clear-between ws first (64 * 0)
 unfolding clear-between
-stray-start ws first = refl
+past-start ws first = refl
 
-pub stray-more : (ws : List ℕ) (first i p : ℕ) (none : Bool) → i < 8 → none ≡ clear-between ws first (64 * i)
+pub past-more : (ws : List ℕ) (first i p : ℕ) (none : Bool) → i < 8 → none ≡ clear-between ws first (64 * i)
     → (p ≡ getD ws i 0 % 2 ^ (64 * i + 64 - first)) × (getD ws i 0 < 2 ^ 64) → (none && eqb p 0) ≡ clear-between ws first (64 * (i + 1))
-stray-more ws first i p none h q r =
+past-more ws first i p none h q r =
     let e : 64 * i + 64 ≡ 64 * (i + 1) = omega arith in
     rw (q, r .0) (next-word ws first i h (r .1) ∙ ap (clear-between ws first) e)
 
-pub stray-end : (ws : List ℕ) (first i : ℕ) (none : Bool) → i ≡ 8 → none ≡ clear-between ws first (64 * i) → not none ≡ not (clear-between ws first 512)
-stray-end ws first i none h q = rw (q, h)
+pub past-end : (ws : List ℕ) (first i : ℕ) (none : Bool) → i ≡ 8 → none ≡ clear-between ws first (64 * i) → not none ≡ not (clear-between ws first 512)
+past-end ws first i none h q = rw (q, h)
 
 -- The remainder by which the code finds a word's bits at or past `first`.
 pub past-all : (w start first : ℕ) → w < 2 ^ 64 → first ≤ start → w ≡ w % 2 ^ (start + 64 - first)
