@@ -3,7 +3,7 @@ use mathlib.Core.Path.{_≡_, refl, sym, ap, _∙_}
 use mathlib.Core.Bool.{true}
 use mathlib.Core.List.{List}
 use mathlib.Core.Logic.{_↔_}
-use Prim.Native.Nat.{ℕ, _+_, _-_, _/_, _%_, _^_, _<_}
+use Prim.Native.Nat.{ℕ, _-_, _<_}
 use native.Mathlib.Omega.{arith}
 use native.Mathlib.Nat.{mod-lt, zero-lt-suc}
 use lib.Dec.{eqb, ltb, lit<}
@@ -12,12 +12,12 @@ use borrow.Author.Tests.{eq-eqb, ltb-true, ltb-false}
 use Rattle.base.proofs.Truth.{by-cases}
 use Rattle.base.proofs.Filled.{fill-whole}
 use Rattle.record.specs.Bits.{Words, bit-at}
-use Rattle.record.specs.Bytes.{field, words-of, byte-of, bytes-of}
+use Rattle.record.specs.Bytes.{field, words-of, bytes-of}
 use Rattle.record.specs.Blank.{blank-record}
 use Rattle.record.specs.declared.Record.{Record}
 use Rattle.record.proofs.Bytes.{bytes-length, byte-at}
 use Rattle.record.proofs.Back.{words-length, words-bounded, words-back}
-use Rattle.table.specs.Steps.{step-of, finished-of, offer-of, offer-left}
+use Rattle.table.specs.Steps.{step-of, finished-of, offer-of}
 use Rattle.table.specs.declared.Answer.{Answer}
 use Rattle.table.specs.declared.Answer.the-variants.{Done, Refused}
 use Rattle.table.specs.declared.Stepped.{Stepped}

@@ -1,11 +1,10 @@
 -- Property 1, for tables.
 use mathlib.Core.Path.{_≡_, refl, sym, subst}
-use mathlib.Core.Bool.{true, false}
 use mathlib.Core.List.{List}
 use Prim.Native.Nat.{ℕ, _≤_}
 use lib.Dec.{ltb}
 use lib.ListN.{length}
-use borrow.Author.Tests.{ltb-true, ltb-false, le-ltb}
+use borrow.Author.Tests.{ltb-true, ltb-false}
 use Rattle.base.proofs.Truth.{by-cases}
 use Rattle.record.specs.Bits.{set-past}
 use Rattle.record.specs.declared.Record.{Record}

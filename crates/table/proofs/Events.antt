@@ -11,7 +11,7 @@ use Rattle.base.proofs.Truth.{cases, and-l, and-r}
 use Rattle.table.specs.Fields.{events, rows, event-word, guard-of, first-of, count-of}
 use Rattle.table.specs.Sound.{event-sound, events-sound, sound}
 use Rattle.table.proofs.Each.{each-below}
-use Rattle.table.proofs.Sizes.{sound-shaped, sound-events}
+use Rattle.table.proofs.Sizes.{sound-events}
 
 -- The run of cleared bits ends at 0 where it is empty, and at the event's own bit where it is not.
 module _ (w m e : ℕ) where
@@ -51,6 +51,3 @@ module _ (t : List ℕ) (e : ℕ) (ok : sound t ≡ true) (h : e < events t) whe
 
   pub sound-guard : guard-of (event-word t e) < rows t
   sound-guard = guard-below (event-word t e) (rows t) e sound-event
-
-  pub sound-run : first-of (event-word t e) + count-of (event-word t e) ≤ 511
-  sound-run = let s = sound-shaped t ok in omega (arith, run-below (event-word t e) (rows t) e sound-event)

@@ -3,11 +3,11 @@ use mathlib.Core.Path.{_≡_, refl, sym, ap, _∙_}
 use mathlib.Core.Bool.{Bool, true, false, cond, not, _&&_, and-false, Bool·not-not}
 use mathlib.Core.List.{List}
 use mathlib.Core.Logic.{_↔_}
-use Prim.Native.Nat.{ℕ, zero, suc, _+_, _/_, _^_, _≤_, _<_}
+use Prim.Native.Nat.{ℕ, zero, suc, _+_, _/_, _≤_, _<_}
 use native.Mathlib.Nat.{zero-div}
 use native.Mathlib.Omega.{arith}
 use lib.Dec.{leb, ltb, eqb, lit<}
-use lib.ListN.{length, getD, drop, replicate, getD-replicate}
+use lib.ListN.{length, drop, replicate, getD-replicate}
 use borrow.Author.Tests.{ltb-true, ltb-false, leb-true, lt-ltb, le-ltb, le-leb, eqb-true, eqb-false, eq-eqb, ne-eqb}
 use Rattle.base.proofs.Truth.{by-cases, is-false, and-l, and-r, and-i, agree}
 use Rattle.base.proofs.Filled.{fill-length, fill-past}
@@ -19,7 +19,6 @@ use Rattle.record.proofs.Beyond.{each-clear, clear-each}
 use Rattle.record.proofs.Bytes.{bytes-length}
 use Rattle.record.proofs.Back.{words-back}
 use Rattle.table.specs.Fields.{events, rows, event-word, first-of, count-of}
-use Rattle.table.specs.Sound.{sound}
 use Rattle.table.specs.Values.{values-of, allows, ended}
 use Rattle.table.specs.Steps.{admit-of, taken, refused, step-of, finished-of, offered, offer-of, offer-left}
 use Rattle.table.specs.declared.Answer.{Answer}

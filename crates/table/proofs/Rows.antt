@@ -1,20 +1,19 @@
 -- The rows of a table: what a sound row says, and the list of their values.
-use mathlib.Core.Path.{_≡_, refl, _∙_}
+use mathlib.Core.Path.{_≡_, _∙_}
 use mathlib.Core.Bool.{Bool, true, false, _&&_}
 use mathlib.Core.List.{List}
 use mathlib.Core.Logic.{⊎-elim}
-use Prim.Native.Nat.{ℕ, zero, suc, _+_, _<_, _≤_}
+use Prim.Native.Nat.{ℕ, _+_, _<_, _≤_}
 use native.Mathlib.Numerals.{add-one}
 use native.Mathlib.Omega.{arith}
 use lib.Dec.{ltb, eqb}
-use lib.ListN.{length, getD, take, set, length-append}
+use lib.ListN.{length, getD, take, set}
 use lib.Seq.{getD-take, take-suc-set}
 use borrow.Author.Tests.{lt-ltb, ltb-true, eq-eqb, ne-eqb, eqb-true, eqb-false}
 use Rattle.base.proofs.Truth.{cases, agree, and-l, and-r}
 use Rattle.table.specs.Fields.{events, row-word, kind-of, left-of, right-of}
-use Rattle.table.specs.Sound.{row-sound, rows-sound}
+use Rattle.table.specs.Sound.{row-sound}
 use Rattle.table.specs.Values.{row-value, row-values}
-use Rattle.table.proofs.Each.{each-below}
 
 -- That a number is 0, as a bound.
 below-one : (r : ℕ) → ltb r 1 ≡ eqb r 0
@@ -37,9 +36,6 @@ module _ (w n i : ℕ) where
 
 -- What a sound row says.
 module _ (w n i : ℕ) (ok : row-sound w n i ≡ true) where
-  pub bit-below : kind-of w ≡ 0 → left-of w < n
-  bit-below k = ltb-true _ _ (and-l (ltb (left-of w) n) _ (bounds-bit w n i k ∙ ok))
-
   pub left-below : (kind-of w ≡ 0 → ⊥) → left-of w < i
   unfolding row-sound
   left-below k = ltb-true _ _ (and-l (ltb (left-of w) i) _ (simp (ne-eqb _ _ k) at ok))
@@ -65,18 +61,8 @@ module _ (w n i : ℕ) (ok : row-sound w n i ≡ true) where
       (cases (eqb (kind-of w) 1)))
       (cases (eqb (kind-of w) 0))
 
--- Of the first m rows, each is sound if all are.
-pub rows-each : (t : List ℕ) (m i : ℕ) → rows-sound t m ≡ true → i < m → row-sound (row-word t i) (events t) i ≡ true
-unfolding rows-sound
-rows-each t = each-below (rows-sound t) (λ i. row-sound (row-word t i) (events t) i) (λ k. refl)
-
 -- The values of the rows, and the list where they stand.
 module _ (t bits : List ℕ) where
-  pub values-length : (m : ℕ) → length (row-values t bits m) ≡ m
-  unfolding row-values
-  values-length zero = refl
-  values-length (suc m) = simp (length-append, values-length m) (omega arith)
-
   -- One more row worked out.
   pub values-more : (values : List Bool) (i : ℕ) (v : Bool) → i < length values → take i values ≡ row-values t bits i
       → row-sound (row-word t i) (events t) i ≡ true → v ≡ row-value (row-word t i) bits values

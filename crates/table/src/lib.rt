@@ -1,10 +1,10 @@
 ghost use mathlib.Core.Path.{_≡_};
 ghost use mathlib.Core.Bool.{true, false};
-ghost use Prim.Native.Nat.{ℕ, _+_, _*_, _<_, _≤_, _^_};
-ghost use lib.ListN.{length, getD, take};
+ghost use Prim.Native.Nat.{_+_, _*_, _<_, _≤_, _^_};
+ghost use lib.ListN.{length, take};
 ghost use Rattle.record.specs.Bytes.{field};
 ghost use Rattle.table.specs.Fields.{events, rows};
-ghost use Rattle.table.specs.Sound.{event-sound, row-sound, events-sound, rows-sound, sound};
+ghost use Rattle.table.specs.Sound.{event-sound, row-sound, events-sound, rows-sound};
 ghost use Rattle.table.specs.Shaped.{size-of, Shaped};
 ghost use Rattle.table.specs.Values.{row-value, row-values};
 ghost use Rattle.table.specs.Steps.{check-of, admit-of, step-of, unasked, finished-of, offered, offer-of, offer-left};

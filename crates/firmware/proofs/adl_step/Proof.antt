@@ -1,5 +1,4 @@
 -- `adl_step` meets its contract: 1, or the number of the answer, with the bytes that the step leaves.
-use native.Mathlib.Omega.{arith}
 use mathlib.Core.Path.{refl, sym, _∙_}
 use Rattle.base.proofs.Truth.{not-e, not-no}
 use Rattle.firmware.proofs.Called.{step-short, step-told}

@@ -1,5 +1,4 @@
 -- `firmware::leave` meets its contract: only where the answer is done is anything written.
-use native.Mathlib.Omega.{arith}
 use mathlib.Core.Path.{ap, _∙_}
 use lib.ListN.{length}
 use Rattle.base.proofs.Filled.{fill-length}
