@@ -1,12 +1,13 @@
 -- `base::put_byte` meets its contract: past the end nothing is set.
 use mathlib.Core.Path.{sym}
 use lib.Seq.{set-out}
+use native.Mathlib.Omega.{arith}
 use borrow.Author.Needs.{needs}
 use Rattle.base.proofs.put_byte.Statement.{statement}
 use Rattle.base.proofs.put_byte.Tie as tie
 
 returns : tie.Need-returns
-returns c = sym (set-out _ _ _ (c .if1 .taken))
+returns c = let a = c .before .args in sym (set-out (a .bytes .now) (a .n) (a .b) (omega (arith, c .if1 .taken)))
 
 slice-write-bytes : tie.Need-slice-write-bytes
 slice-write-bytes c = search needs
