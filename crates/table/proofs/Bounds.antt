@@ -12,7 +12,7 @@ use Rattle.table.specs.Fields.{events}
 use Rattle.table.specs.Sound.{sound}
 use Rattle.table.specs.Values.{values-of, allows, ended}
 use Rattle.table.specs.Steps.{check-of, admit-of, taken, step-of, finished-of, offer-of, offer-left}
-use Rattle.table.specs.Bounds.{Check-answer, is-sound, not-sound, Ready, Away, unsound, bit-past, Step-answer, event-taken, step-away, past-events, guard-says-no, Finish-answer, run-finished, run-open, finished-away, Offer-answer, offer-made, buffer-short, offer-away}
+use Rattle.table.specs.Bounds.{Answers, Check-answer, is-sound, not-sound, Ready, Away, unsound, bit-past, Step-answer, event-taken, step-away, past-events, guard-says-no, Finish-answer, run-finished, run-open, finished-away, Offer-answer, offer-made, buffer-short, offer-away}
 use Rattle.table.specs.declared.Answer.the-variants.{Done, Refused}
 use Rattle.table.proofs.Answered.{admit-12, admit-13, admit-done, step-passed, step-14, step-15, step-done, finished-passed, finished-yes, finished-no, offer-1, offer-passed, offer-ready}
 
@@ -64,3 +64,12 @@ offer-answered t before lent =
     first-look t (before .bits)
     (λ r d. let p = offer-ready t before lent h d in offer-made (p .0) h r (p .1))
     (λ n q a. let p = offer-passed t before lent h (Refused n 0) n 0 refl (sym q) in offer-away-as t before lent h n (p .0) a (sym (p .1))))
+
+-- "Every answer, to any table, record or event number, is a result within the limits or one numbered refusal."
+pub calls-answered : (t : List ℕ) (before : Record) (lent : List ℕ) (e : ℕ) → Answers t before lent e
+calls-answered t before lent e = record {
+  check = check-answered t;
+  step = step-answered t before e;
+  finished = finished-answered t before;
+  offer = offer-answered t before lent;
+}

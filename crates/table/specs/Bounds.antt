@@ -11,7 +11,7 @@ use Rattle.record.specs.declared.Record.{Record}
 use Rattle.table.specs.Fields.{events}
 use Rattle.table.specs.Sound.{sound}
 use Rattle.table.specs.Values.{values-of, allows, ended}
-use Rattle.table.specs.Steps.{taken, refused, unasked, offered}
+use Rattle.table.specs.Steps.{check-of, taken, refused, step-of, unasked, finished-of, offered, offer-of, offer-left}
 use Rattle.table.specs.declared.Answer.{Answer}
 use Rattle.table.specs.declared.Answer.the-variants.{Done, Refused}
 use Rattle.table.specs.declared.Finish.{Finish}
@@ -60,3 +60,10 @@ pub data Offer-answer (t : List ℕ) (before : Record) (lent : List ℕ) (a : An
       → left ≡ fill lent (bytes-of (offered t (values-of t (before .bits)) (events t))) → Offer-answer t before lent a left
   buffer-short : a ≡ Refused 1 0 → length lent < 64 → left ≡ lent → Offer-answer t before lent a left
   offer-away : 64 ≤ length lent → Away t (before .bits) a → left ≡ lent → Offer-answer t before lent a left
+
+-- The four calls, on any table, record, event number and buffer.
+pub record Answers (t : List ℕ) (before : Record) (lent : List ℕ) (e : ℕ) : Type 0 where
+  pub check : Check-answer t (check-of t)
+  pub step : Step-answer t before e (step-of t before e)
+  pub finished : Finish-answer t before (finished-of t before)
+  pub offer : Offer-answer t before lent (offer-of t before lent) (offer-left t before lent (offer-of t before lent))
