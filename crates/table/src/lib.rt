@@ -35,6 +35,13 @@ enum Size {
     Wrong,
 }
 
+// Where the fields stand in the 32 bits of an event record and of a row: dividing takes what stands below a field away, the remainder what
+// stands above it.
+const GUARD: usize = 262144;
+const RUN: usize = 512;
+const KIND: usize = 1073741824;
+const SIDE: usize = 32768;
+
 fn wide(x: u8) -> usize
     ensures { λ r. ⌜ (r ≡ x) × (r < 256) ⌝ }
 {
@@ -77,9 +84,9 @@ fn measure(t: &[u8]) -> Size
 fn event_sound(w: usize, m: usize, e: usize) -> bool
     ensures { λ r. ⌜ r ≡ event-sound w m e ⌝ }
 {
-    let guard = w / 262144;
-    let first = w / 512 % 512;
-    let count = w % 512;
+    let guard = w / GUARD;
+    let first = w / RUN % RUN;
+    let count = w % RUN;
     let end = if count == 0 { 0 } else { e };
     (guard < m) & (first + count == end)
 }
@@ -88,9 +95,9 @@ fn event_sound(w: usize, m: usize, e: usize) -> bool
 fn row_sound(w: usize, n: usize, i: usize) -> bool
     ensures { λ r. ⌜ r ≡ row-sound w n i ⌝ }
 {
-    let kind = w / 1073741824;
-    let left = w / 32768 % 32768;
-    let right = w % 32768;
+    let kind = w / KIND;
+    let left = w / SIDE % SIDE;
+    let right = w % SIDE;
     let a = if kind == 0 { n } else { i };
     let b = if kind < 2 { 1 } else { i };
     (left < a) & (right < b)
@@ -148,9 +155,9 @@ fn row_value(w: usize, n: usize, i: usize, bits: &[u64; 8], values: &[bool; 1228
     requires { ⌜ (row-sound w n i ≡ true) × (n ≤ 512) × (i < 12288) ⌝ }
     ensures { λ r. ⌜ r ≡ row-value w (now (bits .entry)) (now (values .entry)) ⌝ }
 {
-    let kind = w / 1073741824;
-    let left = w / 32768 % 32768;
-    let right = w % 32768;
+    let kind = w / KIND;
+    let left = w / SIDE % SIDE;
+    let right = w % SIDE;
     if kind == 0 {
         return record::bit(bits, left);
     }
@@ -229,10 +236,10 @@ pub fn step(table: &[u8], before: Record, event: u64) -> Stepped
         };
     }
     let w = word(table, 4 + 4 * e);
-    let guard = w / 262144;
+    let guard = w / GUARD;
     if values[guard] {
         let set = record::set(bits, e);
-        let cleared = record::clear(set, w / 512 % 512, w % 512);
+        let cleared = record::clear(set, w / RUN % RUN, w % RUN);
         return Stepped {
             answer: Answer::Done,
             after: Record { bits: cleared },
@@ -279,7 +286,7 @@ fn gather(t: &[u8], n: usize, m: usize, values: &[bool; 12288]) -> [u64; 8]
     let mut e = 0;
     while e < n {
         let w = word(t, 4 + 4 * e);
-        let guard = w / 262144;
+        let guard = w / GUARD;
         if values[guard] {
             let p = record::set(o, e);
             o = p;
