@@ -1,9 +1,10 @@
-/* How much stack a call takes: the call runs in a thread whose stack was painted, and what is no longer painted afterwards was used.
+/* How much stack reading and printing take.
  *
  *     rt staticlib harness
  *     gcc -std=gnu11 -O2 -Wall -Wextra -o target/stack bench/stack.c target/staticlib/libharness.a -lpthread && target/stack
  */
-#include <pthread.h>
+#include "painted.h"
+
 #include <stdint.h>
 #include <stdio.h>
 #include <stdlib.h>
@@ -12,29 +13,12 @@
 uint64_t adl_test_read(const uint8_t *text, size_t len);
 uint64_t adl_test_print(const uint8_t *text, size_t len, uint8_t *out, size_t out_len);
 
-enum { STACK = 1 << 20, PAINT = 0xA5 };
-
 static uint8_t text[16384], out[16384];
 static size_t length;
 
 static void *nothing(void *unused) { return unused; }
 static void *read_text(void *unused) { adl_test_read(text, length); return unused; }
 static void *print_text(void *unused) { adl_test_print(text, length, out, sizeof out); return unused; }
-
-static size_t used(void *(*call)(void *)) {
-    uint8_t *stack = aligned_alloc(4096, STACK);
-    pthread_attr_t attributes;
-    pthread_t thread;
-    size_t untouched = 0;
-    if (!stack) exit(1);
-    memset(stack, PAINT, STACK);
-    pthread_attr_init(&attributes);
-    if (pthread_attr_setstack(&attributes, stack, STACK) || pthread_create(&thread, &attributes, call, NULL)) exit(1);
-    pthread_join(thread, NULL);
-    while (untouched < STACK && stack[untouched] == PAINT) untouched++;
-    free(stack);
-    return STACK - untouched;
-}
 
 /* A root with 255 leaves. */
 static size_t leaves(char *at) {

@@ -11,15 +11,15 @@
  */
 #include "adl.h"
 #include "kit.h"
+#include "painted.h"
 #include "plain.h"
 
-#include <pthread.h>
 #include <stdio.h>
 #include <stdlib.h>
 #include <string.h>
 #include <time.h>
 
-enum { ROUNDS = 15, EVENTS = 1024, STACK = 1 << 20, PAINT = 0xA5, MOST_STACK = 16384 };
+enum { ROUNDS = 15, EVENTS = 1024, MOST_STACK = 16384 };
 enum { BIT = 0, NOT = 1, BOTH = 2, EITHER = 3 };
 
 /* What the calls are given. The record is set to `start` before each round; steps change it. */
@@ -132,9 +132,7 @@ static void print_times(void) {
     compare("finished, the same table", finished, finished_plain, FEW);
 }
 
-/* Stack: the calls run in a thread whose stack was painted, and what is no longer painted afterwards was used. What a thread that calls
- * nothing uses is taken off; as its start and end need a little below the frame that calls, this hides up to a hundred bytes or so.
- */
+/* Stack. */
 
 static void *no_call(void *unused) { return unused; }
 static void *call_check(void *unused) { check(0); return unused; }
@@ -146,22 +144,6 @@ static void *call_plain_step(void *unused) { step_plain(0); return unused; }
 static void *call_step(void *unused) {
     for (unsigned i = 0; i < 100; i++) step(i);
     return unused;
-}
-
-static size_t used(void *(*call)(void *)) {
-    uint8_t *stack = aligned_alloc(4096, STACK);
-    pthread_attr_t attributes;
-    pthread_t thread;
-    size_t untouched = 0;
-    if (!stack) exit(1);
-    memset(stack, PAINT, STACK);
-    pthread_attr_init(&attributes);
-    if (pthread_attr_setstack(&attributes, stack, STACK) || pthread_create(&thread, &attributes, call, NULL)) exit(1);
-    pthread_join(thread, NULL);
-    pthread_attr_destroy(&attributes);
-    while (untouched < STACK && stack[untouched] == PAINT) untouched++;
-    free(stack);
-    return STACK - untouched;
 }
 
 static void print_stack(const char *name, void *(*call)(void *)) {
