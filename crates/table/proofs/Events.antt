@@ -2,14 +2,14 @@
 use mathlib.Core.Path.{_≡_, refl, _∙_}
 use mathlib.Core.Bool.{true, _&&_}
 use mathlib.Core.List.{List}
-use mathlib.Core.Logic.{_⊎_, inl, inr, ⊎-elim}
+use mathlib.Core.Logic.{inl, inr, ⊎-elim}
 use Prim.Native.Nat.{ℕ, _+_, _<_, _≤_}
 use native.Mathlib.Omega.{arith}
 use lib.Dec.{ltb, eqb}
 use borrow.Author.Tests.{ltb-true, eq-eqb, ne-eqb, eqb-true, eqb-false}
 use Rattle.base.proofs.Truth.{cases, and-l, and-r}
 use Rattle.table.specs.Fields.{events, rows, event-word, guard-of, first-of, count-of}
-use Rattle.table.specs.Sound.{event-sound, events-sound, sound}
+use Rattle.table.specs.Sound.{event-sound, events-sound, sound, Run}
 use Rattle.table.proofs.Each.{each-below}
 use Rattle.table.proofs.Sizes.{sound-events}
 
@@ -29,12 +29,13 @@ module _ (w m e : ℕ) (ok : event-sound w m e ≡ true) where
   unfolding event-sound
   guard-below = ltb-true _ _ (and-l (ltb (guard-of w) m) _ ok)
 
-  pub run-ends : ((first-of w ≡ 0) × (count-of w ≡ 0)) ⊎ (first-of w + count-of w ≡ e)
+  pub run-ends : Run w e
   run-ends =
       ⊎-elim
       (λ q. let none = eqb-true (count-of w) 0 q in
       let end : first-of w + count-of w ≡ 0 = eqb-true _ _ (and-r (ltb (guard-of w) m) _ (end-none w m e none ∙ ok)) in inl (omega arith, none))
-      (λ q. inr (eqb-true _ _ (and-r (ltb (guard-of w) m) _ (end-own w m e (eqb-false (count-of w) 0 q) ∙ ok))))
+      (λ q. let some = eqb-false (count-of w) 0 q in
+      inr (omega (arith, some), eqb-true _ _ (and-r (ltb (guard-of w) m) _ (end-own w m e some ∙ ok))))
       (cases (eqb (count-of w) 0))
 
   pub run-below : first-of w + count-of w ≤ e

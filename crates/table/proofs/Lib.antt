@@ -3,6 +3,7 @@ pub mod Sizes
 pub mod Rows
 pub mod Valued
 pub mod Events
+pub mod Sentences
 pub mod Worked
 pub mod Answered
 pub mod Bounds

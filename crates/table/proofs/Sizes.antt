@@ -85,6 +85,10 @@ module _ (t : List ℕ) (ok : sound t ≡ true) where
   unfolding sound
   sound-events = and-l (events-sound t (events t)) _ (and-r (sized t) _ ok)
 
+  pub sound-rows : rows-sound t (rows t) ≡ true
+  unfolding sound
+  sound-rows = and-r (events-sound t (events t)) _ (and-r (sized t) _ ok)
+
 -- Whether a table is sound, from what the functions answer.
 pub wrong-unsound : (t : List ℕ) → size-of t ≡ Wrong → sound t ≡ false
 wrong-unsound t e =

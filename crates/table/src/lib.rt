@@ -38,8 +38,11 @@ enum Size {
 // Where the fields stand in the 32 bits of an event record and of a row: dividing takes what stands below a field away, the remainder what
 // stands above it.
 const GUARD: usize = 262144;
+
 const RUN: usize = 512;
+
 const KIND: usize = 1073741824;
+
 const SIDE: usize = 32768;
 
 fn wide(x: u8) -> usize
