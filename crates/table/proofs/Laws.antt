@@ -27,9 +27,9 @@ use Rattle.table.specs.declared.Finish.the-variants.{Yes}
 use Rattle.table.specs.declared.Stepped.{Stepped}
 use Rattle.table.proofs.Sizes.{sound-shaped}
 use Rattle.table.proofs.Events.{run-below, sound-event}
-use Rattle.table.specs.Bounds.{Ready, Takes, Ends}
-use Rattle.table.proofs.Bounds.{first-look}
-use Rattle.table.proofs.Answered.{not-done, admit-done, step-passed, step-14, step-15, step-done, offer-1, finished-passed, finished-yes, finished-no}
+use Rattle.table.specs.Bounds.{Ready, Takes, Ends, unsound, bit-past, Step-answer, event-taken, step-away, past-events, guard-says-no}
+use Rattle.table.proofs.Bounds.{first-look, step-answered}
+use Rattle.table.proofs.Answered.{not-done, admit-done, step-done, offer-1, finished-passed, finished-yes, finished-no}
 
 -- The run of bits that event e clears: from the first on, up to the end and without it.
 abbrev pub run-first : List ℕ → ℕ → ℕ
@@ -45,6 +45,14 @@ admitted : (t bits : List ℕ) → admit-of t bits ≡ Done → Ready t bits
 admitted t bits d = first-look t bits (λ r a. r) (λ number a w. absurd (not-done number 0 (sym a ∙ d)))
 
 -- ---- a step
+by-answer {ℓ} : {P : Type ℓ} (t : List ℕ) (before : Record) (e : ℕ) (s : Stepped) → (Takes t before e → P)
+    → ((number : ℕ) → refused before (Refused number 0) ≡ s → P) → Step-answer t before e s → P
+by-answer t before e s done refusal (event-taken q k) = done k
+by-answer t before e s done refusal (step-away a q (unsound p x)) = refusal 12 (sym (q ∙ ap (refused before) p))
+by-answer t before e s done refusal (step-away a q (bit-past p x y)) = refusal 13 (sym (q ∙ ap (refused before) p))
+by-answer t before e s done refusal (past-events q r h) = refusal 14 (sym q)
+by-answer t before e s done refusal (guard-says-no q r h y) = refusal 15 (sym q)
+
 module _ (t : List ℕ) (before : Record) (e : ℕ) where
   taken-done : Takes t before e → record { answer = Done; after = record { bits = taken t (before .bits) e } } ≡ step-of t before e
   unfolding taken
@@ -54,14 +62,7 @@ module _ (t : List ℕ) (before : Record) (e : ℕ) where
 
   -- It takes the event, or it refuses, at place 0.
   by-step {ℓ} : {P : Type ℓ} → (Takes t before e → P) → ((number : ℕ) → refused before (Refused number 0) ≡ step-of t before e → P) → P
-  by-step done refusal =
-      first-look t (before .bits)
-      (λ r a. by-cases (ltb e (events t))
-      (λ l. by-cases (allows t (values-of t (before .bits)) e)
-      (λ g. done (record { ready = r; below = ltb-true e (events t) l; allowed = g }))
-      (λ g. refusal 15 (step-15 t before e a (ltb-true e (events t) l) g)))
-      (λ l. refusal 14 (step-14 t before e a (ltb-false e (events t) l))))
-      (λ number a w. refusal number (step-passed t before e (Refused number 0) number 0 refl (sym a)))
+  by-step done refusal = by-answer t before e (step-of t before e) done refusal (step-answered t before e)
 
   -- A step is done exactly if the table is sound, the record has no set bit at or past E, there is such an event and its guard row says yes.
   pub done-exactly : (step-of t before e .answer ≡ Done) ↔ Takes t before e
