@@ -1,2 +1,3 @@
 pub mod Truth
 pub mod Filled
+pub mod Each

@@ -11,12 +11,12 @@ use lib.ListN.{length, getD, replicate, List·getD-eq-default}
 use borrow.Author.Tests.{eq-eqb, ltb-true, ltb-false}
 use Rattle.base.proofs.Truth.{by-cases}
 use Rattle.base.proofs.Filled.{fill-whole}
-use Rattle.record.specs.Bits.{Words, bit-at}
-use Rattle.record.specs.Bytes.{field, words-of, bytes-of}
+use Rattle.record.specs.Bits.{bit-at}
+use Rattle.record.specs.Bytes.{Bytes, field, words-of, bytes-of}
 use Rattle.record.specs.Blank.{blank-record}
 use Rattle.record.specs.declared.Record.{Record}
 use Rattle.record.proofs.Bytes.{bytes-length, byte-at}
-use Rattle.record.proofs.Back.{words-length, words-bounded, words-back}
+use Rattle.record.proofs.Back.{bytes-words, words-back}
 use Rattle.table.specs.Steps.{step-of, finished-of, offer-of}
 use Rattle.table.specs.declared.Answer.{Answer}
 use Rattle.table.specs.declared.Answer.the-variants.{Done, Refused}
@@ -25,10 +25,6 @@ use Rattle.table.specs.Bounds.{Away, unsound, bit-past, Step-answer, event-take
 use Rattle.table.proofs.Bounds.{step-answered, offer-answered}
 use Rattle.table.proofs.Laws.{step-refused, step-words, offer-exactly}
 use Rattle.firmware.specs.Calls.{number, finish-number, record-of, left-bytes, step-number, step-bytes, finished-number, offer-number, offer-bytes}
-
--- The record's bytes: 64, each below 256.
-abbrev pub Bytes : List ℕ → Type 0
-Bytes s = (length s ≡ 64) × ((i : ℕ) → getD s i 0 < 256)
 
 byte-small : (ws : List ℕ) (i : ℕ) → getD (bytes-of ws) i 0 < 256
 byte-small ws i =
@@ -57,9 +53,6 @@ offer-zero t before lent a left (offer-made q h r l) z = q
 offer-zero t before lent a left (buffer-short q h l) z = let n : _≡_ {A = ℕ} 1 0 = sym (ap number q) ∙ z in absurd (omega (arith, n))
 offer-zero t before lent a left (offer-away h w l) z = absurd (away-number t (before .bits) a w z)
 
-its-words : (s : List ℕ) → Bytes s → Words (words-of s)
-its-words s b = (words-length s, words-bounded s (b .1))
-
 module _ (t s : List ℕ) (e : ℕ) (b : Bytes s) where
   -- The number of a step is that of the step by value of the record that the bytes hold.
   pub step-numbered : step-number t s e ≡ number (step-of t (record-of s) e .answer)
@@ -73,8 +66,8 @@ module _ (t s : List ℕ) (e : ℕ) (b : Bytes s) where
     where
       held : (a : Answer) → step-of t (record-of s) e .answer ≡ a → record-of (left-bytes s (step-of t (record-of s) e .after .bits) a) ≡ step-of t (record-of s) e .after
       held Done q =
-          let w = step-words t (record-of s) e (its-words s b) in
-          ap (λ (ws : List ℕ). record { bits = ws }) (words-back (step-of t (record-of s) e .after .bits) s (w .0) (w .1) (omega (arith, b .0)))
+          let w = step-words t (record-of s) e (bytes-words s b) in
+          ap (λ (ws : List ℕ). record { bits = ws }) (words-back (step-of t (record-of s) e .after .bits) s w (omega (arith, b .0)))
       held (Refused n place) q = sym (ap (λ (x : Stepped). x .after) (step-refused t (record-of s) e n place q .0))
 
   -- Its bytes are 64 again, each below 256.

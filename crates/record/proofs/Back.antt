@@ -13,8 +13,8 @@ use borrow.Author.Tests.{eqb-true, eqb-false, lt-ltb}
 use Rattle.base.specs.Fill.{fill}
 use Rattle.base.proofs.Truth.{by-cases}
 use Rattle.base.proofs.Filled.{fill-at}
-use Rattle.record.specs.Bits.{bit-at}
-use Rattle.record.specs.Bytes.{field, words-of, byte-of, bytes-of}
+use Rattle.record.specs.Bits.{Words, bit-at}
+use Rattle.record.specs.Bytes.{Bytes, field, words-of, byte-of, bytes-of}
 use Rattle.record.proofs.Fields.{field-joined}
 use Rattle.record.proofs.Bytes.{bytes-length, byte-at}
 use Rattle.record.proofs.Beyond.{low-same, word-bit}
@@ -31,11 +31,11 @@ from-at (suc n) s at (suc k) h =
     let q : at + 8 + 8 * k ≡ at + 8 * suc k = omega arith in
     from-at n s (at + 8) k (omega arith) ∙ ap (field 8 s) q
 
-pub words-length : (s : List ℕ) → length (words-of s) ≡ 8
+words-length : (s : List ℕ) → length (words-of s) ≡ 8
 unfolding words-of
 words-length s = refl
 
-pub word-at : (s : List ℕ) (k : ℕ) → k < 8 → getD (words-of s) k 0 ≡ field 8 s (8 * k)
+word-at : (s : List ℕ) (k : ℕ) → k < 8 → getD (words-of s) k 0 ≡ field 8 s (8 * k)
 unfolding words-of
 word-at s k h = let q : 0 + 8 * k ≡ 8 * k = omega arith in from-at 8 s 0 k h ∙ ap (field 8 s) q
 
@@ -76,13 +76,12 @@ word-top s at w small g (suc n) h =
     rw (word-top s at w small g n (omega arith), g n (omega arith), q, r, ← (shr-shr w (56 - n * 8) 8)) (div-add-mod' (w / 2 ^ (56 - n * 8)) 256)
 
 -- ---- there and back
-pub words-back : (ws lent : List ℕ) → length ws ≡ 8 → ((i : ℕ) → i < 8 → getD ws i 0 < 2 ^ 64) → 64 ≤ length lent
-    → words-of (fill lent (bytes-of ws)) ≡ ws
-words-back ws lent l small room =
-    ext-getD 0 (words-of (fill lent (bytes-of ws))) ws (words-length (fill lent (bytes-of ws)) ∙ sym l)
+pub words-back : (ws lent : List ℕ) → Words ws → 64 ≤ length lent → words-of (fill lent (bytes-of ws)) ≡ ws
+words-back ws lent words room =
+    ext-getD 0 (words-of (fill lent (bytes-of ws))) ws (words-length (fill lent (bytes-of ws)) ∙ sym (words .0))
     (λ k h. let k8 : k < 8 = rw (words-length (fill lent (bytes-of ws))) at h in
     word-at (fill lent (bytes-of ws)) k k8
-    ∙ word-top (fill lent (bytes-of ws)) (8 * k) (getD ws k 0) (small k k8)
+    ∙ word-top (fill lent (bytes-of ws)) (8 * k) (getD ws k 0) (words .1 k k8)
     (λ j m. let q : (8 * k + j) / 8 ≡ k = omega arith in
     let r : (8 * k + j) % 8 ≡ j = omega arith in
     fill-at lent (bytes-of ws) (8 * k + j) (rw (bytes-length ws 64) (omega arith)) (rw (bytes-length ws 64) room)
@@ -90,18 +89,18 @@ words-back ws lent l small room =
     8 (omega arith)
     ∙ div-one (getD ws k 0))
 
-pub bytes-back : (s : List ℕ) → length s ≡ 64 → ((i : ℕ) → i < 64 → getD s i 0 < 256) → bytes-of (words-of s) ≡ s
-bytes-back s l small =
-    ext-getD 0 (bytes-of (words-of s)) s (bytes-length (words-of s) 64 ∙ sym l)
+pub bytes-back : (s : List ℕ) → Bytes s → bytes-of (words-of s) ≡ s
+bytes-back s bytes =
+    ext-getD 0 (bytes-of (words-of s)) s (bytes-length (words-of s) 64 ∙ sym (bytes .0))
     (λ i h. let i64 : i < 64 = rw (bytes-length (words-of s) 64) at h in
     let q : 56 - i % 8 * 8 ≡ 8 * (8 - suc (i % 8)) = omega arith in
     let r : 8 * (i / 8) + i % 8 ≡ i = omega arith in
     byte-at (words-of s) 64 i i64
     ∙ rw (word-at s (i / 8) (omega arith), q)
-    (field-byte 8 s (8 * (i / 8)) (i % 8) (λ j m. small (8 * (i / 8) + j) (omega arith)) (omega arith) ∙ rw r))
+    (field-byte 8 s (8 * (i / 8)) (i % 8) (λ j m. bytes .1 (8 * (i / 8) + j)) (omega arith) ∙ rw r))
 
-pub words-bounded : (s : List ℕ) → ((i : ℕ) → getD s i 0 < 256) → (k : ℕ) → k < 8 → getD (words-of s) k 0 < 2 ^ 64
-words-bounded s small k h = rw (word-at s k h) (field-below 8 s (8 * k) (λ j _. small (8 * k + j)))
+pub bytes-words : (s : List ℕ) → Bytes s → Words (words-of s)
+bytes-words s bytes = (words-length s, λ k h. rw (word-at s k h) (field-below 8 s (8 * k) (λ j _. bytes .1 (8 * k + j))))
 
 -- ---- a record is its bits
 bit-same : (x y : ℕ) → eqb (x % 2) 1 ≡ eqb (y % 2) 1 → x % 2 ≡ y % 2
@@ -110,15 +109,14 @@ bit-same x y q =
     (λ e. let a = eqb-true (x % 2) 1 e in let b = eqb-true (y % 2) 1 (sym q ∙ e) in omega arith)
     (λ e. let a = eqb-false (x % 2) 1 e in let b = eqb-false (y % 2) 1 (sym q ∙ e) in omega arith)
 
-pub same-bits : (a b : List ℕ) → length a ≡ 8 → length b ≡ 8 → ((i : ℕ) → i < 8 → getD a i 0 < 2 ^ 64) → ((i : ℕ) → i < 8 → getD b i 0 < 2 ^ 64)
-    → ((e : ℕ) → e < 512 → bit-at a e ≡ bit-at b e) → a ≡ b
-same-bits a b la lb ha hb f =
-    ext-getD 0 a b (la ∙ sym lb)
-    (λ i l. let h : i < 8 = omega arith in
-    sym (mod-eq-of-lt (ha i h))
+pub same-bits : (a b : List ℕ) → Words a → Words b → ((e : ℕ) → e < 512 → bit-at a e ≡ bit-at b e) → a ≡ b
+same-bits a b A B f =
+    ext-getD 0 a b (A .0 ∙ sym (B .0))
+    (λ i l. let h : i < 8 = omega (arith, A .0) in
+    sym (mod-eq-of-lt (A .1 i h))
     ∙ low-same (getD a i 0) (getD b i 0) 64
     (λ j k. bit-same (getD a i 0 / 2 ^ j) (getD b i 0 / 2 ^ j) (sym (word-bit a i j h k) ∙ f (64 * i + (63 - j)) (omega arith) ∙ word-bit b i j h k))
-    ∙ mod-eq-of-lt (hb i h))
+    ∙ mod-eq-of-lt (B .1 i h))
 
 -- Bit e is bit e % 8 of byte e / 8, counted from the top.
 within-byte : (w k j : ℕ) → j < 8 → w / 2 ^ k % 256 / 2 ^ j % 2 ≡ w / 2 ^ (k + j) % 2

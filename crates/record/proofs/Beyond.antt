@@ -1,6 +1,6 @@
 -- What a set bit at or past a place is, and that it is found word by word.
 use mathlib.Core.Path.{_≡_, refl, sym, ap, _∙_}
-use mathlib.Core.Bool.{Bool, true, false, not, _&&_}
+use mathlib.Core.Bool.{Bool, true, false, not, _&&_, _||_}
 use mathlib.Core.List.{List}
 use mathlib.Core.Logic.{⊎-elim}
 use Prim.Native.Nat.{ℕ, zero, suc, _+_, _-_, _*_, _/_, _%_, _^_, _≤_, _<_}
@@ -11,28 +11,25 @@ use lib.Dec.{eqb, ltb}
 use lib.Pow.{pow-pos, pow-lt, mod-pow-add}
 use borrow.Author.Tests.{eqb-true, eqb-false, eq-eqb, ltb-true, ltb-false, lt-ltb}
 use Rattle.base.proofs.Truth.{by-cases, and-l, and-r, and-i, or-e, or-l, or-r, not-i, not-e, agree}
+use Rattle.base.proofs.Each.{each-below, below-each}
 use Rattle.record.specs.Bits.{bit-at, clear-between}
 use Rattle.record.proofs.Bits.{one-shl}
 
 -- No bit between `first` and `end` is set exactly if each of them is clear.
+abbrev before-or-clear : List ℕ → ℕ → ℕ → Bool
+before-or-clear ws first e = ltb e first || not (bit-at ws e)
+
 pub each-clear : (ws : List ℕ) (first end : ℕ) → clear-between ws first end ≡ true → (e : ℕ) → e < end → first ≤ e → bit-at ws e ≡ false
 unfolding clear-between
-each-clear ws first zero c e h k = let z : ⊥ = omega arith in absurd z
-each-clear ws first (suc end) c e h k =
-    by-cases (eqb e end)
-    (λ q. let p = eqb-true e end q in
-    rw p
-    (⊎-elim (λ l. let l′ = ltb-true end first l in let z : ⊥ = omega arith in absurd z) (λ n. not-e (bit-at ws end) n)
-    (or-e (ltb end first) (not (bit-at ws end)) (and-r (clear-between ws first end) _ c))))
-    (λ q. each-clear ws first end (and-l (clear-between ws first end) _ c) e (omega (arith, eqb-false e end q)) k)
+each-clear ws first end c e h k =
+    ⊎-elim (λ l. let l′ = ltb-true e first l in let z : ⊥ = omega arith in absurd z) (λ n. not-e (bit-at ws e) n)
+    (or-e (ltb e first) (not (bit-at ws e)) (each-below (clear-between ws first) (before-or-clear ws first) (λ i. refl) end e c h))
 
 pub clear-each : (ws : List ℕ) (first end : ℕ) → ((e : ℕ) → e < end → first ≤ e → bit-at ws e ≡ false) → clear-between ws first end ≡ true
 unfolding clear-between
-clear-each ws first zero f = refl
-clear-each ws first (suc end) f =
-    and-i (clear-each ws first end (λ e h k. f e (omega arith) k))
-    (by-cases (ltb end first) (λ l. or-l (not (bit-at ws end)) l)
-    (λ l. or-r (ltb end first) (not-i (f end (omega arith) (ltb-false end first l)))))
+clear-each ws first end f =
+    below-each (clear-between ws first) (before-or-clear ws first) refl (λ i. refl) end
+    (λ e h. by-cases (ltb e first) (λ l. or-l (not (bit-at ws e)) l) (λ l. or-r (ltb e first) (not-i (f e h (ltb-false e first l)))))
 
 -- Numbers with the same low k bits have the same remainder by 2 ^ k.
 one-more : (w k : ℕ) → w % 2 ^ suc k ≡ w / 2 ^ k % 2 * 2 ^ k + w % 2 ^ k

@@ -14,7 +14,7 @@ use lib.Pow.{pow-add, pow-lt, shl-shr, shl-exact}
 use lib.Bits.{bitOr, bitXor, or-lt, xor-lt, or-shr, or-mod, xor-shr, xor-mod, or-zero-r, xor-zero-r}
 use borrow.Author.Tests.{eqb-true, eqb-false, eq-eqb, ltb-true, ltb-false, leb-true, le-leb, le-ltb, lt-ltb}
 use Rattle.base.proofs.Truth.{by-cases}
-use Rattle.record.specs.Bits.{bit-at, change, set-bit, clear-bit, clear-bits}
+use Rattle.record.specs.Bits.{Words, bit-at, change, set-bit, clear-bit, clear-bits}
 
 pub one-shl : (k : ℕ) → k < 64 → (1 * 2 ^ k) % 2 ^ 64 ≡ 2 ^ k
 one-shl k h = shl-exact {a = 1} 1 k 64 (lit< tt) (omega arith) ∙ one-mul (2 ^ k)
@@ -81,7 +81,7 @@ pub length-change : (f : ℕ → ℕ → ℕ) (ws : List ℕ) (e : ℕ) → leng
 unfolding change
 length-change f ws e = by-cases (ltb e 512) (λ q. rw q (length-set ws (e / 64) _)) (λ q. rw q)
 
--- A change at one bit keeps the words below 2 ^ 64, if it does so in a word.
+-- A change at one bit leaves eight words of 64 bits, if it keeps a word below 2 ^ 64.
 set-below : (ws : List ℕ) (k v i b : ℕ) → v < b → getD ws i 0 < b → getD (set ws k v) i 0 < b
 set-below [] k v i b p q = q
 set-below (w ∷ ws) zero v zero b p q = p
@@ -89,24 +89,25 @@ set-below (w ∷ ws) zero v (suc i) b p q = q
 set-below (w ∷ ws) (suc k) v zero b p q = q
 set-below (w ∷ ws) (suc k) v (suc i) b p q = set-below ws k v i b p q
 
-words-small-change : (f : ℕ → ℕ → ℕ) → ((x m : ℕ) → x < 2 ^ 64 → m < 2 ^ 64 → f x m < 2 ^ 64)
-    → (ws : List ℕ) (e : ℕ) → ((i : ℕ) → i < 8 → getD ws i 0 < 2 ^ 64) → (i : ℕ) → i < 8 → getD (change f ws e) i 0 < 2 ^ 64
-words-small-change f keeps ws e small i l =
-    by-cases (ltb e 512)
-    (λ q. let h = ltb-true e 512 q in
-    let k : 63 - e % 64 < 64 = omega arith in
-    rw (change-in f ws e h) (set-below ws (e / 64) _ i (2 ^ 64) (keeps _ _ (small (e / 64) (omega arith)) (pow-lt k)) (small i l)))
-    (λ q. rw (change-out f ws e (ltb-false e 512 q)) (small i l))
+change-words : (f : ℕ → ℕ → ℕ) → ((x m : ℕ) → x < 2 ^ 64 → m < 2 ^ 64 → f x m < 2 ^ 64) → (ws : List ℕ) (e : ℕ) → Words ws → Words (change f ws e)
+change-words f keeps ws e words = (
+  length-change f ws e ∙ words .0,
+  λ i l. by-cases (ltb e 512)
+      (λ q. let h = ltb-true e 512 q in
+      let k : 63 - e % 64 < 64 = omega arith in
+      rw (change-in f ws e h) (set-below ws (e / 64) _ i (2 ^ 64) (keeps _ _ (words .1 (e / 64) (omega arith)) (pow-lt k)) (words .1 i l)))
+      (λ q. rw (change-out f ws e (ltb-false e 512 q)) (words .1 i l)),
+)
 
-pub words-small-set : (ws : List ℕ) (e : ℕ) → ((i : ℕ) → i < 8 → getD ws i 0 < 2 ^ 64) → (i : ℕ) → i < 8 → getD (set-bit ws e) i 0 < 2 ^ 64
-words-small-set = words-small-change bitOr (or-lt 64)
+pub set-words : (ws : List ℕ) (e : ℕ) → Words ws → Words (set-bit ws e)
+set-words = change-words bitOr (or-lt 64)
 
-pub words-small-clear : (ws : List ℕ) (first n : ℕ) → ((i : ℕ) → i < 8 → getD ws i 0 < 2 ^ 64) → (i : ℕ) → i < 8 → getD (clear-bits ws first n) i 0 < 2 ^ 64
+pub clear-words : (ws : List ℕ) (first n : ℕ) → Words ws → Words (clear-bits ws first n)
 unfolding clear-bits
-words-small-clear ws first zero small = small
-words-small-clear ws first (suc n) small =
-    words-small-change (λ w m. bitXor (bitOr w m) m) (λ x m p q. xor-lt 64 _ m (or-lt 64 x m p q) q) (clear-bits ws first n) (first + n)
-    (words-small-clear ws first n small)
+clear-words ws first zero words = words
+clear-words ws first (suc n) words =
+    change-words (λ w m. bitXor (bitOr w m) m) (λ x m p q. xor-lt 64 _ m (or-lt 64 x m p q) q) (clear-bits ws first n) (first + n)
+    (clear-words ws first n words)
 
 -- A change at one bit leaves the others, if it does so in a word.
 module _ (f : ℕ → ℕ → ℕ) (other : (x j k : ℕ) → j ≢ k → f x (2 ^ k) / 2 ^ j % 2 ≡ x / 2 ^ j % 2) where

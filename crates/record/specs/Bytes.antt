@@ -1,7 +1,12 @@
 -- "For the C firmware it is 64 bytes, most significant first."
+use mathlib.Core.Path.{_≡_}
 use mathlib.Core.List.{List, [], _∷_, _++_}
-use Prim.Native.Nat.{ℕ, zero, suc, _+_, _-_, _*_, _/_, _%_, _^_}
-use lib.ListN.{getD}
+use Prim.Native.Nat.{ℕ, zero, suc, _+_, _-_, _*_, _/_, _%_, _^_, _<_}
+use lib.ListN.{length, getD}
+
+-- What a record's bytes are: 64, each below 256.
+abbrev pub Bytes : List ℕ → Type 0
+Bytes s = (length s ≡ 64) × ((i : ℕ) → getD s i 0 < 256)
 
 -- The number that `width` bytes from `at` on make, "packed most significant first"; past the end there are only zeros.
 unfoldable pub field : ℕ → List ℕ → ℕ → ℕ

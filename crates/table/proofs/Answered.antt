@@ -174,15 +174,14 @@ module _ (t : List ℕ) (before : Record) (lent : List ℕ) where
     unfolding offer-of
     offer-passed a number place p q = (rw (le-ltb (length lent) 64 h) q, rw (le-ltb (length lent) 64 h, ← q, p))
 
-    pub offer-done : (a : Answer) (vs : List Bool) (n m : ℕ) (o out : List ℕ) → a ≡ Done → a ≡ admit-of t (before .bits)
-        → take (rows t) vs ≡ row-values t (before .bits) (rows t) → n ≡ events t → m ≡ rows t → o ≡ offered t (take m vs) n → out ≡ fill lent (bytes-of o)
-        → (a ≡ offer-of t before lent) × (out ≡ offer-left t before lent (offer-of t before lent))
-    unfolding offer-of
-    offer-done a vs n m o out p q s N M O W =
-        (rw (le-ltb (length lent) 64 h) q, rw (le-ltb (length lent) 64 h, ← q, p) (W ∙ rw (O, N, M, s)))
-
     pub offer-ready : admit-of t (before .bits) ≡ Done
         → (offer-of t before lent ≡ Done)
         × (offer-left t before lent (offer-of t before lent) ≡ fill lent (bytes-of (offered t (values-of t (before .bits)) (events t))))
     unfolding offer-of
     offer-ready d = (rw (le-ltb (length lent) 64 h, d), rw (le-ltb (length lent) 64 h, d))
+
+    pub offer-done : (a : Answer) (vs : List Bool) (n m : ℕ) (o out : List ℕ) → a ≡ Done → a ≡ admit-of t (before .bits)
+        → take (rows t) vs ≡ row-values t (before .bits) (rows t) → n ≡ events t → m ≡ rows t → o ≡ offered t (take m vs) n → out ≡ fill lent (bytes-of o)
+        → (a ≡ offer-of t before lent) × (out ≡ offer-left t before lent (offer-of t before lent))
+    offer-done a vs n m o out p q s N M O W =
+        let r = offer-ready (sym q ∙ p) in (p ∙ sym (r .0), W ∙ rw (O, N, M, s) (sym (r .1)))

@@ -10,7 +10,7 @@ use borrow.Author.Tests.{ltb-true, eq-eqb, ne-eqb, eqb-true, eqb-false}
 use Rattle.base.proofs.Truth.{cases, and-l, and-r}
 use Rattle.table.specs.Fields.{events, rows, event-word, guard-of, first-of, count-of}
 use Rattle.table.specs.Sound.{event-sound, events-sound, sound, Run}
-use Rattle.table.proofs.Each.{each-below}
+use Rattle.base.proofs.Each.{each-below}
 use Rattle.table.proofs.Sizes.{sound-events}
 
 -- The run of cleared bits ends at 0 where it is empty, and at the event's own bit where it is not.

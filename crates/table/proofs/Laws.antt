@@ -14,7 +14,7 @@ use Rattle.base.proofs.Filled.{fill-length, fill-past}
 use Rattle.record.specs.Bits.{Words, bit-at, set-bit, clear-between, set-past}
 use Rattle.record.specs.Bytes.{words-of, bytes-of}
 use Rattle.record.specs.declared.Record.{Record}
-use Rattle.record.proofs.Bits.{bit-set-same, bit-set-other, bits-cleared, length-change, length-clear-bits, words-small-set, words-small-clear}
+use Rattle.record.proofs.Bits.{bit-set-same, bit-set-other, bits-cleared, length-change, set-words, clear-words}
 use Rattle.record.proofs.Beyond.{each-clear, clear-each}
 use Rattle.record.proofs.Bytes.{bytes-length}
 use Rattle.record.proofs.Back.{words-back}
@@ -130,19 +130,13 @@ module _ (t : List ℕ) (before : Record) (e : ℕ) where
         ∙ each-clear (before .bits) (events t) 512 none i h p))
 
 -- ---- the words of a record
-set-words : (ws : List ℕ) (e : ℕ) → Words ws → Words (set-bit ws e)
-set-words ws e w = (length-change _ ws e ∙ w .0, words-small-set ws e (w .1))
-
 -- The record after a step has eight words of 64 bits, if the one before has.
 pub step-words : (t : List ℕ) (before : Record) (e : ℕ) → Words (before .bits) → Words (step-of t before e .after .bits)
 unfolding taken
 step-words t before e w =
     by-step t before e
-    (λ k. let s = set-words (before .bits) e w in
-    rw (step-after t before e (done-exactly t before e .1 k)) (
-      length-clear-bits (set-bit (before .bits) e) (run-first t e) (count-of (event-word t e)) ∙ s .0,
-      words-small-clear (set-bit (before .bits) e) (run-first t e) (count-of (event-word t e)) (s .1),
-    ))
+    (λ k. rw (step-after t before e (done-exactly t before e .1 k))
+    (clear-words (set-bit (before .bits) e) (run-first t e) (count-of (event-word t e)) (set-words (before .bits) e w)))
     (λ number q. rw (← q) w)
 
 -- So has the record whose bits are an offer.
@@ -190,7 +184,7 @@ module _ (t : List ℕ) (before : Record) (lent : List ℕ) where
       let o = offered-words t (values-of t (before .bits)) (events t) in
       let s = sound-shaped t (admitted t (before .bits) (offer-told d .1) .its-table) in
       ap (λ (a : Answer). bit-at (words-of (offer-left t before lent a)) e) d
-      ∙ ap (λ (ws : List ℕ). bit-at ws e) (words-back (offered t (values-of t (before .bits)) (events t)) lent (o .0) (o .1) (offer-told d .0))
+      ∙ ap (λ (ws : List ℕ). bit-at ws e) (words-back (offered t (values-of t (before .bits)) (events t)) lent o (offer-told d .0))
       ∙ offered-bit t (values-of t (before .bits)) (events t) e (s .n-most) h
 
   -- Its bit e is exactly whether a step with e would be done.

@@ -1,4 +1,3 @@
-pub mod Each
 pub mod Sizes
 pub mod Rows
 pub mod Valued

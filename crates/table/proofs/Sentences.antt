@@ -11,7 +11,7 @@ use Rattle.base.proofs.Truth.{by-cases, and-l, and-r, and-i}
 use Rattle.table.specs.Fields.{events, rows, event-word, row-word, guard-of, first-of, count-of, kind-of, left-of, right-of}
 use Rattle.table.specs.Sound.{event-sound, events-sound, row-sound, rows-sound, sound, Run, Row-keeps, Sound-table}
 use Rattle.table.specs.Shaped.{Shaped}
-use Rattle.table.proofs.Each.{each-below, below-each}
+use Rattle.base.proofs.Each.{each-below, below-each}
 use Rattle.table.proofs.Sizes.{sound-shaped, sound-rows, shaped-sound}
 use Rattle.table.proofs.Rows.{bounds-bit, bounds-not, bounds-two}
 use Rattle.table.proofs.Events.{end-none, end-own, run-ends, sound-event, sound-guard}

@@ -40,6 +40,7 @@ taken-or-not t before e =
     (cond (allows t (values-of t (before .bits)) e) (record { answer = Done; after = record { bits = taken t (before .bits) e } })
     (refused before (Refused 15 0))) (refused before (Refused 14 0))
 
+-- After the first look: its refusal is passed on.
 abbrev pub step-admitted : List ℕ → Record → ℕ → Answer → Stepped
 step-admitted t before e Done = taken-or-not t before e
 step-admitted t before e (Refused number place) = refused before (Refused number place)
@@ -48,13 +49,14 @@ step-admitted t before e (Refused number place) = refused before (Refused number
 unfoldable pub step-of : List ℕ → Record → ℕ → Stepped
 step-of t before e = step-admitted t before e (admit-of t (before .bits))
 
+-- The refusal of a first look, as the answer to the question whether a run is finished.
 abbrev pub unasked : Answer → Finish
 unasked Done = No
 unasked (Refused number place) = Unasked number place
 
 abbrev pub finished-admitted : List ℕ → Record → Answer → Finish
 finished-admitted t before Done = cond (ended t (values-of t (before .bits))) Yes No
-finished-admitted t before (Refused number place) = unasked (Refused number place)
+finished-admitted t before (Refused number place) = Unasked number place
 
 -- Whether a run is finished.
 unfoldable pub finished-of : List ℕ → Record → Finish
