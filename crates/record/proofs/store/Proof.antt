@@ -52,7 +52,7 @@ loop-again c =
     let a = c .before .before .before .before .before .before .before .args in
     let l = c .before .before .before .before .before .loop in (
       search needs,
-      store-more (a .t2) (a .out .now) (l .out) (c .before .before .put-byte .last .0) (l .i) (c .before .before .before .before .loop-test .taken) (l .inv .1)
+      store-more (a .t2) (a .out .now) (l .out) (c .before .before .put-byte .last .0) (l .i) (omega (arith, c .before .before .before .before .loop-test .taken)) (l .inv .1)
           (c .before .before .put-byte .ensures),
     )
 
