@@ -51,3 +51,12 @@ fill-more (x ∷ xs) (v ∷ vs) (suc n) h = rw (fill-more xs vs n (omega arith))
 pub fill-whole : (xs vs : List ℕ) → length vs ≡ length xs → fill xs vs ≡ vs
 fill-whole xs vs h =
     sym (take-all (length vs) (fill xs vs) (omega (arith, h, fill-length xs vs))) ∙ fill-front xs vs (omega (arith, h))
+
+-- A list whose end is that of another is the other with its front written over.
+pub fill-taken : (xs ys : List ℕ) (n : ℕ) → length ys ≡ length xs → drop n ys ≡ drop n xs → fill xs (take n ys) ≡ ys
+unfolding fill
+fill-taken [] [] n l d = refl
+fill-taken [] (y ∷ ys) n l d = absurd (omega (arith, l))
+fill-taken (x ∷ xs) [] n l d = absurd (omega (arith, l))
+fill-taken (x ∷ xs) (y ∷ ys) zero l d = sym d
+fill-taken (x ∷ xs) (y ∷ ys) (suc n) l d = ap (λ zs. y ∷ zs) (fill-taken xs ys n (omega (arith, l)) d)

@@ -23,3 +23,4 @@ pub mod Joins
 pub mod Read
 pub mod Listings
 pub mod Starred
+pub mod Short

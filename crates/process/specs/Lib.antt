@@ -8,3 +8,4 @@ pub mod Once
 pub mod Readings
 pub mod Listed
 pub mod Starred
+pub mod Postfix

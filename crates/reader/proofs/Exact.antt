@@ -231,7 +231,7 @@ fate text = go (scan-of text) refl
         (λ q. ⊎-elim (λ r. turned c at (by-byte (r .0) (r .1))) (λ r. turned c at (by-word (r .0) (r .1))) q)
         (scan-turned text c at e)
 
-done-refused : {A : Type 0} {c at : ℕ} → _≡_ {A = Answer} Done (Refused c at) → A
+pub done-refused : {A : Type 0} {c at : ℕ} → _≡_ {A = Answer} Done (Refused c at) → A
 done-refused e = let z : _≡_ {A = ℕ} 0 1 = cc in let y : ⊥ = omega arith in absurd y
 
 answer-of : (text : List ℕ) {o : Out} {a : Answer} → read-of text ≡ o → read-of text .answer ≡ a → o .answer ≡ a

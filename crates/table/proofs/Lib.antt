@@ -7,3 +7,4 @@ pub mod Worked
 pub mod Answered
 pub mod Bounds
 pub mod Laws
+pub mod Obeyed

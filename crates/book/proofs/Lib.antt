@@ -1,0 +1,3 @@
+pub mod Once
+pub mod Marks
+pub mod Played

@@ -1,0 +1,145 @@
+-- Property 3, of a table that says of the control bits what the process of a diagram says: calls played from the blank record go by the book.
+use mathlib.Core.Path.{_≡_, refl, ap, _∙_}
+use mathlib.Core.Bool.{not}
+use mathlib.Core.List.{List, [], _∷_, _++_}
+use Prim.Native.Nat.{ℕ, _≤_, _<_}
+use native.Mathlib.Omega.{arith}
+use Rattle.base.proofs.Truth.{clash}
+use Rattle.diagram.specs.Tree.{Flow}
+use Rattle.diagram.specs.Count.{flow-events}
+use Rattle.diagram.specs.Rules.{Keeps}
+use Rattle.process.specs.Process.{owns}
+use Rattle.process.specs.Expand.{expand}
+use Rattle.process.specs.Runs.{Begins}
+use Rattle.process.specs.Bits.{after}
+use Rattle.process.specs.Guards.{complete, enabled}
+use Rattle.process.proofs.Local.{Agree, complete-local, enabled-local}
+use Rattle.process.proofs.Events.{expand-events}
+use Rattle.process.proofs.Theorem.{whole-iff-complete, next-iff-enabled}
+use Rattle.record.specs.Bits.{bit-at}
+use Rattle.record.specs.Blank.{blank-record}
+use Rattle.record.specs.declared.Record.{Record}
+use Rattle.record.proofs.Back.{same-bits}
+use Rattle.record.proofs.Beyond.{clear-each}
+use Rattle.table.specs.Fields.{events}
+use Rattle.table.specs.Values.{values-of, allows, ended}
+use Rattle.table.specs.Steps.{step-of, finished-of}
+use Rattle.table.specs.Bounds.{Ready, Away, unsound, bit-past, Step-answer, event-taken, step-away, past-events, guard-says-no, Finish-answer, run-finished, run-open, finished-away}
+use Rattle.table.specs.declared.Answer.{Answer}
+use Rattle.table.specs.declared.Answer.the-variants.{Done}
+use Rattle.table.specs.declared.Stepped.{Stepped}
+use Rattle.table.proofs.Bounds.{step-answered, finished-answered}
+use Rattle.table.proofs.Laws.{done-exactly, step-bit, step-words}
+use Rattle.book.specs.Calls.{Call, step, finished, stepped, told}
+use Rattle.book.specs.Marked.{marked, marked-all, record-after}
+use Rattle.book.specs.Book.{Step-entry, begins, past, below, Finish-entry, whole, part, Admits}
+use Rattle.book.specs.Plays.{play, Plays-by-book}
+use Rattle.book.specs.Tells.{Tells}
+use Rattle.book.proofs.Once.{blank-begins, book-begins}
+use Rattle.book.proofs.Marks.{marked-words, marked-bit, marked-more, record-words, record-bit, record-past}
+
+module _ (d : Flow) (k : Keeps d) (few : flow-events d ≤ 512) (t : List ℕ) (T : Tells (expand d) (flow-events d) t) where
+  -- ---- the record after a book that begins a whole run
+  -- Neither 12 nor 13: the table is sound, and no bit at or past E is set.
+  module _ (book : List ℕ) (h : Begins (expand d) book) where
+    record-ready : Ready t (record-after d book .bits)
+    record-ready = record {
+      its-table = T .its-sound;
+      its-bits =
+          ap not (clear-each (record-after d book .bits) (events t) 512 (λ i l p. record-past d k book h i (rw (T .its-events) at p)));
+    }
+
+    never-away : (a : Answer) → Away t (record-after d book .bits) a → ⊥
+    never-away a (unsound q s) = clash (T .its-sound) s
+    never-away a (bit-past q s y) = clash y (record-ready .its-bits)
+
+  -- Its bits are those after the events of the book, so what the rows say of it is what the process says of them.
+  record-agrees : (book : List ℕ) → Agree (owns (expand d)) (bit-at (record-after d book .bits)) (after (expand d) book)
+  record-agrees book i o = record-bit d k book i (omega (arith, expand-events d (k .sizes) i .0 o))
+
+  guard-says : (book : List ℕ) (e : ℕ) → e < flow-events d
+      → allows t (values-of t (record-after d book .bits)) e ≡ enabled (expand d) (after (expand d) book) e
+  guard-says book e l = T .its-guards (record-after d book .bits) e l ∙ enabled-local (expand d) e (record-agrees book)
+
+  end-says : (book : List ℕ) → ended t (values-of t (record-after d book .bits)) ≡ complete (expand d) (after (expand d) book)
+  end-says book = T .its-end (record-after d book .bits) ∙ complete-local (expand d) (record-agrees book)
+
+  -- The record after a step that is done is the one after the book with the event at its end.
+  step-marks : (book : List ℕ) (e : ℕ) → step-of t (record-after d book) e .answer ≡ Done
+      → step-of t (record-after d book) e .after .bits ≡ marked (expand d) (record-after d book .bits) e
+  step-marks book e y =
+      let w = record-words d book in
+      let below = done-exactly t (record-after d book) e .0 y .below in
+      same-bits (step-of t (record-after d book) e .after .bits) (marked (expand d) (record-after d book .bits) e)
+      (step-words t (record-after d book) e w) (marked-words (expand d) (record-after d book .bits) e w)
+      (λ i l. step-bit t (record-after d book) e y (w .0) i l
+      ∙ rw (T .its-clears e i (rw (T .its-events) at below), marked-bit (expand d) (record-after d book .bits) e i w l))
+
+  step-next : (book : List ℕ) (e : ℕ) → step-of t (record-after d book) e .answer ≡ Done
+      → step-of t (record-after d book) e .after ≡ record-after d (book ++ (e ∷ []))
+  step-next book e y =
+      ap (λ (ws : List ℕ). record { bits = ws }) (step-marks book e y ∙ rw (marked-more (expand d) (blank-record .bits) book e))
+
+  -- ---- one call
+  -- What a step answers is the book's answer, and the record after it is that of the book after it.
+  abbrev Goes-on : List ℕ → ℕ → Stepped → Type 0
+  Goes-on book e s = (next : List ℕ) × Step-entry d book e (stepped (s .answer)) next × (s .after ≡ record-after d next)
+
+  step-goes : (book : List ℕ) → Begins (expand d) book → (e : ℕ) → Step-answer t (record-after d book) e (step-of t (record-after d book) e)
+      → Goes-on book e (step-of t (record-after d book) e)
+  step-goes book h e (event-taken q y) =
+      let l = rw (T .its-events) at (y .below) in
+      let done = ap (λ (s : Stepped). s .answer) q in (
+        book ++ (e ∷ []),
+        begins (next-iff-enabled d k book e h .1 (l, rw (guard-says book e l) at (y .allowed))) (ap stepped done) refl,
+        step-next book e done,
+      )
+  step-goes book h e (step-away a q away) = absurd (never-away book h a away)
+  step-goes book h e (past-events q r l) =
+      let l′ = rw (T .its-events) at l in (
+        book,
+        past (λ b. let m = next-iff-enabled d k book e h .0 b .0 in omega arith) l′ (ap (λ (s : Stepped). stepped (s .answer)) q) refl,
+        ap (λ (s : Stepped). s .after) q,
+      )
+  step-goes book h e (guard-says-no q r l y) =
+      let l′ = rw (T .its-events) at l in (
+        book,
+        below (λ b. clash (guard-says book e l′ ∙ next-iff-enabled d k book e h .0 b .1) y) l′ (ap (λ (s : Stepped). stepped (s .answer)) q) refl,
+        ap (λ (s : Stepped). s .after) q,
+      )
+
+  -- So is what finished answers.
+  finish-goes : (book : List ℕ) → Begins (expand d) book → Finish-answer t (record-after d book) (finished-of t (record-after d book))
+      → Finish-entry d book (told (finished-of t (record-after d book))) book
+  finish-goes book h (run-finished q y) =
+      whole (whole-iff-complete d k book h .1 (rw (end-says book) at (y .says-so))) (ap told q) refl
+  finish-goes book h (run-open q r y) = part (λ w. clash (end-says book ∙ whole-iff-complete d k book h .0 w) y) (ap told q) refl
+  finish-goes book h (finished-away a q away) = absurd (never-away book h a away)
+
+  -- ---- all calls
+  plays-on : (calls : List Call) (book : List ℕ) → Begins (expand d) book → Admits d book calls (play t (record-after d book) calls)
+  unfolding Admits play
+  plays-on [] book h = refl
+  plays-on (step e ∷ calls) book h =
+      let (next, E, q) = step-goes book h e (step-answered t (record-after d book) e) in
+      let reply = stepped (step-of t (record-after d book) e .answer) in (
+        reply,
+        next,
+        play t (record-after d next) calls,
+        E,
+        plays-on calls next (book-begins d book (step e) reply next h E),
+        ap (λ (r : Record). record { reply = reply; after = r } ∷ play t r calls) q,
+      )
+  plays-on (finished ∷ calls) book h = (
+    told (finished-of t (record-after d book)),
+    book,
+    play t (record-after d book) calls,
+    finish-goes book h (finished-answered t (record-after d book)),
+    plays-on calls book h,
+    refl,
+  )
+
+-- A table that tells the process of a diagram is played by the book of the diagram.
+pub tells-play : (d : Flow) → Keeps d → flow-events d ≤ 512 → (t : List ℕ) → Tells (expand d) (flow-events d) t → Plays-by-book d t
+unfolding marked-all
+tells-play d k few t T calls = plays-on d k few t T calls [] (blank-begins d)

@@ -1,0 +1,5 @@
+pub mod Calls
+pub mod Marked
+pub mod Book
+pub mod Plays
+pub mod Tells

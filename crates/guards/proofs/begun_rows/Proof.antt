@@ -1,0 +1,51 @@
+-- `begun_rows` meets its contract: two rows, one after the other.
+use Prim.Native.Nat.{_+_}
+use mathlib.Core.List.{[], _∷_}
+use native.Mathlib.Omega.{arith}
+use borrow.Author.Needs.{needs}
+use Rattle.guards.proofs.Rowed.{row-first, row-then}
+use Rattle.guards.specs.Words.{not-row, either-row}
+use Rattle.guards.proofs.begun_rows.Statement.{statement}
+use Rattle.guards.proofs.begun_rows.Tie as tie
+
+either-row-requires : tie.Need-either-row-requires
+either-row-requires c κs = search needs
+
+row-requires : tie.Need-row-requires
+row-requires c κs = search needs
+
+add-row : tie.Need-add-row
+add-row c = search needs
+
+not-row-requires : tie.Need-not-row-requires
+not-row-requires c κs = search needs
+
+row-requires-2 : tie.Need-row-requires-2
+row-requires-2 c κs = search needs
+
+same-length : tie.Need-same-length
+same-length c = search needs
+
+returns : tie.Need-returns
+returns c =
+    let second = c .before .before in
+    let first = second .before .before .before .before .before in
+    let s = first .before .before .before .before .args in
+    let w = either-row (s .p .begun) (s .q .begun) in
+    row-then (s .base) (s .k) (s .k + 1) _ (not-row (s .k)) (w ∷ []) _ _ _
+    (row-first (s .base) (s .k) _ w _ _ (first .row .ensures) (omega (arith, first .before .either-row .ensures)))
+    (second .row2 .ensures)
+    (omega arith)
+    (omega (arith, second .before .not-row .ensures))
+
+pub begun-rows-spec : {M : Type 1} → statement M
+begun-rows-spec =
+    tie.close
+    (tie.spec
+    either-row-requires
+    row-requires
+    add-row
+    not-row-requires
+    row-requires-2
+    same-length
+    returns)

@@ -1,0 +1,187 @@
+-- `guards::lay` meets its contract: nothing where there is no room, else three rows, the two passes, one row more, E and R.
+use native.Mathlib.Omega.{arith}
+use borrow.Author.Needs.{needs}
+use mathlib.Core.Path.{_≡_, refl, _∙_}
+use Prim.Native.Nat.{_≤_}
+use lib.ListN.{length}
+use Rattle.guards.specs.Words.{put-rows}
+use Rattle.guards.specs.Passes.{Up}
+use Rattle.guards.specs.Lays.{constants, base-of, first-pass, second-pass}
+use Rattle.guards.proofs.Stepped.{up-at}
+use Rattle.guards.proofs.Laid.{few, laid-nothing, constants-put, first-begins, laid-all}
+use Rattle.guards.proofs.lay.Statement.{statement}
+use Rattle.guards.proofs.lay.Tie as tie
+
+-- There is room.
+small : (c : tie.Else1) → (length (c .before .before .before .args .ops .now) ≤ 1024) × (c .before .before .before .args .events ≤ 512)
+small c = few (length (c .before .before .before .args .ops .now)) (c .before .before .before .args .events) (length (c .before .before .before .args .out .now)) (c .if1 .left)
+
+-- The three rows before all others.
+begun : (c : tie.After-row3) → c .row3 .last .0 ≡ put-rows (base-of (c .before .before .before .before .before .before .before .before .before .before .before .before .before .before .before .args .events)) 0 constants (c .before .before .before .before .before .before .before .before .before .before .before .before .before .before .before .args .out .now)
+begun c =
+    constants-put (base-of (c .before .before .before .before .before .before .before .before .before .before .before .before .before .before .before .args .events)) _ _ _ _ _ _ (c .before .before .before .before .before .before .not-row .ensures) (c .before .either-row .ensures)
+    (c .before .before .before .before .before .before .before .before .before .before .row .ensures) (c .before .before .before .before .before .row2 .ensures) (c .row3 .ensures)
+
+-- Where the first pass ends.
+abbrev up-state : (c : tie.After-ups) → Up
+up-state c =
+    up-at (c .ups .result .rows) (c .ups .result .event) (c .ups .result .top) (c .ups .last .1 .1 .0) (c .ups .last .1 .1 .1 .0) (c .ups .last .1 .1 .1 .1 .0)
+    (c .ups .last .1 .1 .1 .1 .1 .0)
+
+first-done : (c : tie.After-ups) → up-state c ≡ first-pass (c .before .before .before .before .before .before .before .before .before .before .before .before .before .before .before .before .before .before .before .before .before .before .args .ops .now) (c .before .before .before .before .before .before .before .before .before .before .before .before .before .before .before .before .before .before .before .before .before .before .args .events) (c .before .before .before .before .before .before .before .before .before .before .before .before .before .before .before .before .before .before .before .before .before .before .args .out .now)
+unfolding first-pass
+first-done c = c .ups .ensures .0 ∙ first-begins _ _ _ _ _ _ _ _ (begun (c .before .before .before .before .before .before .before))
+
+-- Where the second pass ends.
+second-done : (c : tie.After-downs)
+    → (c .downs .result ≡ second-pass (c .before .before .before .before .before .before .before .before .before .before .before .before .before .before .before .before .before .before .before .before .before .before .before .before .before .before .before .before .before .before .before .before .before .before .before .args .ops .now) (c .before .before .before .before .before .before .before .before .before .before .before .before .before .before .before .before .before .before .before .before .before .before .before .before .before .before .before .before .before .before .before .before .before .before .before .args .events) (up-state (c .before .before .before .before .before .before .before .before .before .before .before .before .before)) .rows)
+    × (c .downs .last .1 .1 .1 .1 .1 .1 .0 ≡ second-pass (c .before .before .before .before .before .before .before .before .before .before .before .before .before .before .before .before .before .before .before .before .before .before .before .before .before .before .before .before .before .before .before .before .before .before .before .args .ops .now) (c .before .before .before .before .before .before .before .before .before .before .before .before .before .before .before .before .before .before .before .before .before .before .before .before .before .before .before .before .before .before .before .before .before .before .before .args .events) (up-state (c .before .before .before .before .before .before .before .before .before .before .before .before .before)) .out)
+unfolding second-pass
+second-done c = c .downs .ensures .0 (second-pass (c .before .before .before .before .before .before .before .before .before .before .before .before .before .before .before .before .before .before .before .before .before .before .before .before .before .before .before .before .before .before .before .before .before .before .before .args .ops .now) (c .before .before .before .before .before .before .before .before .before .before .before .before .before .before .before .before .before .before .before .before .before .before .before .before .before .before .before .before .before .before .before .before .before .before .before .args .events) (up-state (c .before .before .before .before .before .before .before .before .before .before .before .before .before))) refl
+
+returns : tie.Need-returns
+returns c = laid-nothing (c .before .before .before .args .ops .now) (c .before .before .before .args .events) (c .before .before .before .args .out .now) (c .if1 .taken)
+
+mul-base : tie.Need-mul-base
+mul-base c = let s = small (c) in omega (arith, s .1)
+
+add-base : tie.Need-add-base
+add-base c = let s = small (c) in omega (arith, s .1)
+
+row-requires : tie.Need-row-requires
+row-requires c κs = let s = small (c .before) in omega (arith, s .1)
+
+not-row-requires : tie.Need-not-row-requires
+not-row-requires c κs = search needs
+
+row-requires-2 : tie.Need-row-requires-2
+row-requires-2 c κs = let s = small (c .before .before .before .before .before .before) in omega (arith, s .1)
+
+either-row-requires : tie.Need-either-row-requires
+either-row-requires c κs = search needs
+
+row-requires-3 : tie.Need-row-requires-3
+row-requires-3 c κs = let s = small (c .before .before .before .before .before .before .before .before .before .before .before) in omega (arith, s .1)
+
+slice-aggregate-ups : tie.Need-slice-aggregate-ups
+slice-aggregate-ups c = refl
+
+slice-aggregate-ups-2 : tie.Need-slice-aggregate-ups-2
+slice-aggregate-ups-2 c = refl
+
+slice-aggregate-ups-3 : tie.Need-slice-aggregate-ups-3
+slice-aggregate-ups-3 c = refl
+
+ups-requires : tie.Need-ups-requires
+ups-requires c κs = let s = small (c .before .before .before .before .before .before .before .before .before .before .before .before .before .before .before .before .before .before) in (omega (arith, s .1), s .0)
+
+slice-aggregate-number : tie.Need-slice-aggregate-number
+slice-aggregate-number c = search needs
+
+add-number : tie.Need-add-number
+add-number c = omega (arith, c .before .before .before .before .before .before .before .ups .ensures .1 .2)
+
+number-requires : tie.Need-number-requires
+number-requires c κs = search needs
+
+array-write-mays : tie.Need-array-write-mays
+array-write-mays c = search needs
+
+slice-aggregate-downs : tie.Need-slice-aggregate-downs
+slice-aggregate-downs c = search needs
+
+slice-aggregate-downs-2 : tie.Need-slice-aggregate-downs-2
+slice-aggregate-downs-2 c = search needs
+
+slice-aggregate-downs-3 : tie.Need-slice-aggregate-downs-3
+slice-aggregate-downs-3 c = refl
+
+downs-requires : tie.Need-downs-requires
+downs-requires c κs = let s = small (c .before .before .before .before .before .before .before .before .before .before .before .before .before .before .before .before .before .before .before .before .before .before .before .before .before .before .before .before .before .before .before) in let u = c .before .before .before .before .before .before .before .before .before .before .before .before .ups .ensures .1 in (omega (arith, s .1), s .0, u .0, u .1, omega arith)
+
+both-row-requires : tie.Need-both-row-requires
+both-row-requires c κs = search needs
+
+row-requires-4 : tie.Need-row-requires-4
+row-requires-4 c κs = let s = small (c .before .before .before .before .before .before .before .before .before .before .before .before .before .before .before .before .before .before .before .before .before .before .before .before .before .before .before .before .before .before .before .before .before .before .before .before .before) in (omega (arith, s .1), omega (arith, c .before .before .before .before .before .downs .ensures .1))
+
+mul-put-word : tie.Need-mul-put-word
+mul-put-word c = let s = small (c .before .before .before .before .before .before .before .before .before .before .before .before .before .before .before .before .before .before .before .before .before .before .before .before .before .before .before .before .before .before .before .before .before .before .before .before .before .before .before .before .before) in omega (arith, s .1)
+
+add-put-word : tie.Need-add-put-word
+add-put-word c = let s = small (c .before .before .before .before .before .before .before .before .before .before .before .before .before .before .before .before .before .before .before .before .before .before .before .before .before .before .before .before .before .before .before .before .before .before .before .before .before .before .before .before .before) in omega (arith, s .1, c .before .before .before .before .before .before .before .before .before .downs .ensures .1)
+
+add-put-word-2 : tie.Need-add-put-word-2
+add-put-word-2 c = let s = small (c .before .before .before .before .before .before .before .before .before .before .before .before .before .before .before .before .before .before .before .before .before .before .before .before .before .before .before .before .before .before .before .before .before .before .before .before .before .before .before .before .before) in omega (arith, s .1, c .before .before .before .before .before .before .before .before .before .downs .ensures .1)
+
+put-word-requires : tie.Need-put-word-requires
+put-word-requires c κs = search needs
+
+add-result : tie.Need-add-result
+add-result c = omega (arith, c .before .before .before .before .before .before .before .before .before .before .before .before .downs .ensures .1)
+
+mul-result : tie.Need-mul-result
+mul-result c = omega (arith, c .before .before .before .before .before .before .before .before .before .before .before .before .downs .ensures .1)
+
+add-result-2 : tie.Need-add-result-2
+add-result-2 c = let s = small (c .before .before .before .before .before .before .before .before .before .before .before .before .before .before .before .before .before .before .before .before .before .before .before .before .before .before .before .before .before .before .before .before .before .before .before .before .before .before .before .before .before .before .before .before) in omega (arith, s .1, c .before .before .before .before .before .before .before .before .before .before .before .before .downs .ensures .1)
+
+same-length : tie.Need-same-length
+same-length c =
+    let last = c .before .before in
+    let row = last .before .before .before .before in
+    let second = row .before .before .before .before .before .before in
+    let first = second .before .before .before .before .before .before .before .before .before .before .before .before .before in
+    let three = first .before .before .before .before .before .before .before in
+    let two = three .before .before .before .before .before in
+    last .put-word .kept .0 ∙ row .row4 .kept .0 ∙ second .downs .kept .1 .1 .1 .1 .1 .1 .0 ∙ first .ups .kept .1 .1 .1 .1 .1 .0 ∙ three .row3 .kept .0 ∙ two .row2 .kept .0
+    ∙ two .before .before .before .before .before .row .kept .0
+
+returns-2 : tie.Need-returns-2
+returns-2 c =
+    let last = c .before .before in
+    let row = last .before .before .before .before in
+    let second = row .before .before .before .before .before .before in
+    let numbered = second .before .before .before .before .before in
+    let first = second .before .before .before .before .before .before .before .before .before .before .before .before .before in
+    let test = first .before .before .before .before .before .before .before .before .before .before .before .before .before .before .before .before .before .before .before in
+    let a = test .before .before .before .args in
+    laid-all (a .ops .now) (a .events) (a .out .now) (test .if1 .left) (up-state first) (first-done first) (second .downs .result) (second .downs .last .1 .1 .1 .1 .1 .1 .0)
+    (second-done second) (numbered .number .result) (row .before .both-row .result) _ _ (row .row4 .last .0) (last .put-word .last .0) (numbered .number .ensures)
+    (row .before .both-row .ensures) (row .row4 .ensures) (omega arith) (last .put-word .ensures) (omega arith)
+
+pub lay-spec : {M : Type 1} → statement M
+lay-spec =
+    tie.close
+    (tie.spec
+    returns
+    mul-base
+    add-base
+    row-requires
+    not-row-requires
+    row-requires-2
+    either-row-requires
+    row-requires-3
+    slice-aggregate-ups
+    slice-aggregate-ups-2
+    slice-aggregate-ups-3
+    ups-requires
+    slice-aggregate-number
+    add-number
+    number-requires
+    array-write-mays
+    slice-aggregate-downs
+    slice-aggregate-downs-2
+    slice-aggregate-downs-3
+    downs-requires
+    both-row-requires
+    row-requires-4
+    mul-put-word
+    add-put-word
+    add-put-word-2
+    put-word-requires
+    add-result
+    mul-result
+    add-result-2
+    same-length
+    returns-2)

@@ -1,0 +1,4 @@
+pub mod Through
+pub mod Drawn
+pub mod Starred
+pub mod Property

@@ -1,0 +1,3 @@
+pub mod InC
+pub mod Starred
+pub mod Property

@@ -1,0 +1,63 @@
+-- The answers of a translation, case by case.
+use mathlib.Core.Path.{_≡_, refl, sym, ap, subst, _∙_}
+use mathlib.Core.List.{List}
+use Prim.Native.Nat.{ℕ, _≤_, _<_}
+use lib.ListN.{length, take}
+use Rattle.diagram.specs.Tree.{Flow}
+use Rattle.diagram.specs.Count.{flow-events}
+use Rattle.diagram.specs.declared.Diagram.{Diagram}
+use Rattle.reader.specs.Answers.{read-of}
+use Rattle.reader.specs.Accepted.{Accepted}
+use Rattle.reader.specs.Views.{Shows}
+use Rattle.reader.specs.declared.Answer.{Answer}
+use Rattle.reader.specs.declared.Answer.the-variants.{Done, Refused as Unread}
+use Rattle.reader.specs.declared.Out.{Out}
+use Rattle.reader.proofs.Exact.{accepted-exactly}
+use Rattle.reader.proofs.Shown.{accepted-shown}
+use Rattle.process.specs.Expand.{expand}
+use Rattle.process.specs.Postfix.{postfix}
+use Rattle.guards.specs.Lays.{laid-size, laid-out}
+use Rattle.translator.specs.Translates.{Written, Translation, short, refused, done, Read, Writes}
+use Rattle.translator.specs.declared.Translated.{Translated}
+use Rattle.translator.specs.declared.Translated.the-variants.{Bytes, Refused}
+use Rattle.translator.proofs.Tables.{codes, count-is, count-fits, numbers-are, laid-written}
+
+module _ (text : List ℕ) (o : Out) (read : o ≡ read-of text) where
+  module _ (told : o .answer ≡ Done) where
+    its-tree : (d : Flow) × Accepted text d
+    its-tree = accepted-exactly text .0 (sym (ap (λ (x : Out). x .answer) read) ∙ told)
+
+    its-shown : Shows text (its-tree .0) (o .diagram)
+    its-shown = subst (λ (x : Out). Shows text (its-tree .0) (x .diagram)) (sym read) (accepted-shown text (its-tree .0) (its-tree .1))
+
+    -- The diagram is one that was read.
+    pub is-read : Read (o .diagram)
+    is-read = record { text = text; tree = its-tree .0; accepted = its-tree .1; shown = its-shown }
+
+    -- Where its table is written, the text is translated.
+    pub translated : (lent : List ℕ) (n : ℕ) (left : List ℕ) (r : Translated) → 51204 ≤ length lent → Writes (o .diagram) lent n left → r ≡ Bytes n → Translation text lent r left
+    translated lent n left r long w e = done (its-tree .0) n long (its-tree .1) e (w text (its-tree .0) (its-tree .1) its-shown)
+
+  -- A refused text.
+  pub turned-away : (lent left : List ℕ) (r : Translated) (number place : ℕ) → 51204 ≤ length lent → o .answer ≡ Unread number place → r ≡ Refused number place
+      → left ≡ lent → Translation text lent r left
+  turned-away lent left r number place long told e q = refused number place long (sym (ap (λ (x : Out). x .answer) read) ∙ told) e q
+
+-- The table that the passes write over the lent bytes is the diagram's.
+module _ (g : Diagram) (lent : List ℕ) (long : 51204 ≤ length lent) where
+  pub table-written : (n size : ℕ) (ops left : List ℕ) → n ≡ codes g .walk .count → ops ≡ codes g .codes
+      → size ≡ laid-size (take n ops) (g .events) lent → left ≡ laid-out (take n ops) (g .events) lent → Writes g lent size left
+  table-written n size ops left a b e f text d acc s =
+      let q : take n ops ≡ postfix (expand d) = rw (a, b) (numbers-are text d acc g s) in
+      let m : size ≡ laid-size (postfix (expand d)) (flow-events d) lent = e ∙ rw (q, s .events) in
+      let bytes : left ≡ laid-out (postfix (expand d)) (flow-events d) lent = f ∙ rw (q, s .events) in
+      rw (m, bytes) (laid-written text d acc lent long)
+
+-- The numbers in postfix order stand in the column.
+pub numbers-fit : (g : Diagram) → Read g → (n : ℕ) (ops : List ℕ) → n ≡ codes g .walk .count → ops ≡ codes g .codes → n ≤ length ops
+numbers-fit g k n ops a b = rw (a, b) (count-fits (k .text) (k .tree) (k .accepted) g (k .shown))
+
+pub numbers-there : (g : Diagram) → Read g → (n : ℕ) (ops : List ℕ) → n ≡ codes g .walk .count → ops ≡ codes g .codes → n ≡ length (take n ops)
+numbers-there g k n ops a b =
+    let q : take n ops ≡ postfix (expand (k .tree)) = rw (a, b) (numbers-are (k .text) (k .tree) (k .accepted) g (k .shown)) in
+    a ∙ (count-is (k .text) (k .tree) (k .accepted) g (k .shown) ∙ sym (ap length q))

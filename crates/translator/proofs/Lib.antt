@@ -1,0 +1,3 @@
+pub mod Tables
+pub mod Cases
+pub mod Bounds

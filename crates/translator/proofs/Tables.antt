@@ -1,0 +1,88 @@
+-- The table of an accepted text's diagram: from the nodes to the process in postfix order, and from there to the bytes.
+use mathlib.Core.Path.{_≡_, refl, sym, ap, _∙_}
+use mathlib.Core.List.{List}
+use Prim.Native.Nat.{ℕ, _+_, _*_, _≤_}
+use native.Mathlib.Omega.{arith}
+use lib.ListN.{length, take, replicate}
+use Rattle.base.specs.Fill.{fill}
+use Rattle.base.proofs.Filled.{fill-length, fill-front}
+use Rattle.diagram.specs.Tree.{Flow}
+use Rattle.diagram.specs.Count.{flow-nodes, flow-events}
+use Rattle.diagram.specs.declared.Diagram.{Diagram}
+use Rattle.reader.specs.Accepted.{Accepted}
+use Rattle.reader.specs.Views.{Shows}
+use Rattle.process.specs.Process.{Process}
+use Rattle.process.specs.Expand.{expand}
+use Rattle.process.specs.Postfix.{postfix}
+use Rattle.process.proofs.Numbered.{size, Numbered}
+use Rattle.process.proofs.Events.{expand-laid}
+use Rattle.book.proofs.Played.{tells-play}
+use Rattle.expansion.specs.Walks.{Place, place, expanded}
+use Rattle.process.proofs.Short.{postfix-short}
+use Rattle.expansion.proofs.Postfixed.{expansion-exact}
+use Rattle.guards.specs.Lays.{laid-size, laid-out}
+use Rattle.guards.proofs.Plan.{rows-of, written}
+use Rattle.guards.proofs.Few.{rows-few}
+use Rattle.guards.proofs.Passed.{laid-plan}
+use Rattle.guards.proofs.Guarded.{table, plan-tells, plan-rows, plan-length, plan-left}
+use Rattle.translator.specs.Translates.{Written}
+
+-- What the walk over the nodes leaves in a column of 1,024 numbers.
+abbrev pub codes : Diagram → Place
+codes g = expanded g (replicate 1024 0)
+
+module _ (text : List ℕ) (d : Flow) (a : Accepted text d) where
+  its-numbers : Numbered (expand d) 0
+  its-numbers = expand-laid d (a .keeps .sizes) .numbered
+
+  its-size : size (expand d) ≡ flow-events d
+  its-size = let e = expand-laid d (a .keeps .sizes) .end in omega (arith, e)
+
+  its-short : length (postfix (expand d)) ≤ 1024
+  its-short = omega (arith, postfix-short (expand d), its-size, a .events)
+
+  few : length (rows-of (expand d)) ≤ 12288
+  few = omega (arith, rows-few d (a .keeps .sizes), a .copies)
+
+  module _ (g : Diagram) (s : Shows text d g) where
+    walked : codes g ≡ place (flow-nodes d) (length (postfix (expand d))) (fill (replicate 1024 0) (postfix (expand d)))
+    walked = expansion-exact text d g s (a .keeps .sizes) (a .depth) (a .nodes) (a .events) (replicate 1024 0)
+
+    -- How many numbers there are, and which.
+    pub count-is : codes g .walk .count ≡ length (postfix (expand d))
+    count-is = ap (λ (p : Place). p .walk .count) walked
+
+    pub count-fits : codes g .walk .count ≤ length (codes g .codes)
+    count-fits =
+        let l = ap (λ (p : Place). length (p .codes)) walked ∙ fill-length (replicate 1024 0) (postfix (expand d)) in
+        omega (arith, count-is, its-short, l)
+
+    pub numbers-are : take (codes g .walk .count) (codes g .codes) ≡ postfix (expand d)
+    numbers-are =
+        rw count-is
+        (ap (λ (p : Place). take (length (postfix (expand d))) (p .codes)) walked ∙ fill-front (replicate 1024 0) (postfix (expand d)) its-short)
+
+  -- The bytes are a table of the diagram.
+  module _ (lent : List ℕ) (long : 51204 ≤ length lent) where
+    its-plan : (laid-out (postfix (expand d)) (flow-events d) lent ≡ written (expand d) (flow-events d) lent)
+        × (laid-size (postfix (expand d)) (flow-events d) lent ≡ 4 + 4 * flow-events d + 4 * length (rows-of (expand d)))
+    its-plan = laid-plan (expand d) (flow-events d) lent its-numbers its-size (a .events) long
+
+    pub laid-written : Written d lent (laid-size (postfix (expand d)) (flow-events d) lent) (laid-out (postfix (expand d)) (flow-events d) lent)
+    laid-written =
+        let t = table (expand d) (flow-events d) its-numbers its-size (a .events) few lent long in
+        let l = plan-length (expand d) (flow-events d) its-numbers its-size (a .events) few lent long in
+        let tells = plan-tells (expand d) (flow-events d) its-numbers its-size (a .events) few lent long in
+        record {
+          bytes = t;
+          its-count = its-plan .1 ∙ sym l;
+          its-left = its-plan .0 ∙ plan-left (expand d) (flow-events d) its-numbers its-size (a .events) few lent long;
+          fits = omega (arith, l, a .events, few, long);
+          its-table = record {
+            its-sound = tells .its-sound;
+            its-events = tells .its-events;
+            its-clears = tells .its-clears;
+            its-rows = rw (plan-rows (expand d) (flow-events d) its-numbers its-size (a .events) few lent long) (rows-few d (a .keeps .sizes));
+            its-runs = tells-play d (a .keeps) (a .events) t tells;
+          };
+        }
