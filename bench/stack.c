@@ -1,4 +1,4 @@
-/* How much stack reading and printing take.
+/* How much stack reading, printing and translation take, and how many rows a translation has.
  *
  *     rt staticlib harness
  *     gcc -std=gnu11 -O2 -Wall -Wextra -o target/stack bench/stack.c target/staticlib/libharness.a -lpthread && target/stack
@@ -12,13 +12,15 @@
 
 uint64_t adl_test_read(const uint8_t *text, size_t len);
 uint64_t adl_test_print(const uint8_t *text, size_t len, uint8_t *out, size_t out_len);
+uint64_t adl_test_translate(const uint8_t *text, size_t len, uint8_t *out, size_t out_len);
 
-static uint8_t text[16384], out[16384];
+static uint8_t text[16384], out[51204];
 static size_t length;
 
 static void *nothing(void *unused) { return unused; }
 static void *read_text(void *unused) { adl_test_read(text, length); return unused; }
 static void *print_text(void *unused) { adl_test_print(text, length, out, sizeof out); return unused; }
+static void *translate_text(void *unused) { adl_test_translate(text, length, out, sizeof out); return unused; }
 
 /* A root with 255 leaves. */
 static size_t leaves(char *at) {
@@ -38,11 +40,35 @@ static size_t nested(char *at) {
     return (size_t)(at - start);
 }
 
+/* 23 children all(v:16) over a flow of one leaf, and 8 leaves: 768 copies, the largest drawing. */
+static size_t copies(char *at) {
+    char *start = at;
+    at += sprintf(at, "flow(r,1)(");
+    for (int i = 0; i < 23; i++) at += sprintf(at, "all(v:16)(flow(f%d,v,1)(leaf(x%d)(1)))(0)", i, i);
+    for (int i = 0; i < 8; i++) at += sprintf(at, "leaf(l%d)(%d)", i, i == 0);
+    at += sprintf(at, ")");
+    return (size_t)(at - start);
+}
+
+static size_t trip(char *at) {
+    return (size_t)sprintf(at, "flow(trip,1)(leaf(take)(0)loop(leaf(fill))(0)xor(leaf(send)leaf(drop))(0)leaf(free)(1))");
+}
+
+static void measure(const char *name, size_t (*drawing)(char *), size_t base) {
+    length = drawing((char *)text);
+    uint64_t counts = adl_test_read(text, length);
+    if (counts >> 32) exit(1);
+    size_t reading = used(read_text) - base, printing = used(print_text) - base, translating = used(translate_text) - base;
+    printf("%-12s read %zu, print %zu, translate %zu bytes of stack; ", name, reading, printing, translating);
+    unsigned rows = out[2] * 256u + out[3], node_copies = (unsigned)(counts & 65535);
+    printf("%u events, %u copies, %u rows, %.2f a copy\n", (unsigned)(counts >> 16), node_copies, rows, (double)rows / node_copies);
+}
+
 int main(void) {
     size_t base = used(nothing);
-    length = leaves((char *)text);
-    printf("255 leaves:      read %zu bytes, print %zu bytes\n", used(read_text) - base, used(print_text) - base);
-    length = nested((char *)text);
-    printf("12 depths:       read %zu bytes, print %zu bytes\n", used(read_text) - base, used(print_text) - base);
+    measure("T", trip, base);
+    measure("255 leaves", leaves, base);
+    measure("12 depths", nested, base);
+    measure("768 copies", copies, base);
     return 0;
 }

@@ -3,6 +3,7 @@
 
 use printer::Printed;
 use reader::Answer;
+use translator::Translated;
 
 fn refusal(number: u8, place: usize) -> u64 {
     (number as u64) * 4294967296 + (place as u64) % 4294967296
@@ -32,6 +33,23 @@ pub extern "C" fn adl_test_print(text: &[u8], out: &mut [u8]) -> u64 {
 
 fn print_refusal(p: Printed) -> u64 {
     let Printed::Refused(number, place) = p else {
+        return 0;
+    };
+    refusal(number, place)
+}
+
+// The bytes written.
+#[no_mangle]
+pub extern "C" fn adl_test_translate(text: &[u8], out: &mut [u8]) -> u64 {
+    let t = translator::translate(text, out);
+    let Translated::Bytes(n) = t else {
+        return translate_refusal(t);
+    };
+    (n as u64) % 4294967296
+}
+
+fn translate_refusal(t: Translated) -> u64 {
+    let Translated::Refused(number, place) = t else {
         return 0;
     };
     refusal(number, place)
