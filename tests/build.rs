@@ -1,4 +1,4 @@
-//! Links the archive of the proved library, but only when ADL_ARCHIVE=1 is
+//! Links the archives of the proved library, but only when ADL_ARCHIVE=1 is
 //! set. Without it the reference and its own tests build alone.
 
 use std::env;
@@ -11,25 +11,28 @@ fn main() {
     println!("cargo:rerun-if-env-changed=ADL_ARCHIVE");
     println!("cargo:rerun-if-env-changed=ADL_ARCHIVE_DIR");
     if env::var("ADL_ARCHIVE").as_deref() == Ok("1") {
-        link_archive();
+        link_archives();
     }
 }
 
-fn link_archive() {
+/// The harness has reading, printing and translation, the firmware the C calls.
+fn link_archives() {
     let directory = archive_directory();
-    let archive = directory.join("libharness.a");
-    println!("cargo:rerun-if-changed={}", archive.display());
-    if !archive.is_file() {
-        eprintln!(
-            "ADL_ARCHIVE=1 is set, but there is no archive at {}.\n\
-             Make it with `rt staticlib harness` in the directory above this package.",
-            archive.display()
-        );
-        exit(1);
-    }
     println!("cargo:rustc-cfg=adl_archive");
     println!("cargo:rustc-link-search=native={}", directory.display());
-    println!("cargo:rustc-link-lib=static=harness");
+    for name in ["harness", "firmware"] {
+        let archive = directory.join(format!("lib{name}.a"));
+        println!("cargo:rerun-if-changed={}", archive.display());
+        if !archive.is_file() {
+            eprintln!(
+                "ADL_ARCHIVE=1 is set, but there is no archive at {}.\n\
+                 Make it with `rt staticlib {name}` in the directory above this package.",
+                archive.display()
+            );
+            exit(1);
+        }
+        println!("cargo:rustc-link-lib=static={name}");
+    }
 }
 
 /// ../target/staticlib, unless ADL_ARCHIVE_DIR names another directory.

@@ -6,16 +6,21 @@
 //! what is turned away".
 //!
 //! - `cargo test --lib`: the reference on the drawings of document 01, and its
-//!   grammar checked a second time in another way; needs no archive.
+//!   grammar and the meaning of drawings checked a second time in another way;
+//!   needs no archive.
 //! - `ADL_ARCHIVE=1 cargo test --test compare -- --nocapture`: the proved
 //!   library against the reference; ADL_CASES and ADL_SEED say how many random
 //!   texts and from which seed on.
+//! - `ADL_ARCHIVE=1 cargo test --release --test play -- --nocapture`: the
+//!   proved translation and runs against the reference's meaning of drawings.
 //! - `ADL_ARCHIVE=1 cargo run --release --bin bench`: both timed.
 //!
-//! The last two link ../target/staticlib/libharness.a, which `rt staticlib
+//! The last three link ../target/staticlib/libharness.a, which `rt staticlib
 //! harness` makes in the directory above.
 
+pub mod drawings;
 pub mod generate;
+pub mod meaning;
 #[cfg(adl_archive)]
 pub mod proved;
 
@@ -23,6 +28,8 @@ pub mod proved;
 mod check_drawings;
 #[cfg(test)]
 mod check_grammar;
+#[cfg(test)]
+mod check_meaning;
 
 /// Number and place of a text that is turned away.
 pub type Refusal = (u8, usize);

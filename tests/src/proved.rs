@@ -1,10 +1,15 @@
-//! The proved library, through the two C functions of its test archive.
+//! The proved library, through the C functions of its test archive: three made
+//! for these tests, and those of the firmware (adl.h) that play a run.
 
 use crate::{Refusal, Summary};
 
 extern "C" {
     fn adl_test_read(text: *const u8, len: usize) -> u64;
     fn adl_test_print(text: *const u8, len: usize, out: *mut u8, out_len: usize) -> u64;
+    fn adl_test_translate(text: *const u8, len: usize, out: *mut u8, out_len: usize) -> u64;
+    fn adl_check(table: *const u8, table_len: usize) -> u8;
+    fn adl_step(table: *const u8, table_len: usize, record: *mut u8, record_len: usize, event: u64) -> u8;
+    fn adl_finished(table: *const u8, table_len: usize, record: *const u8, record_len: usize) -> u8;
 }
 
 /// events * 2^16 + copies, or number * 2^32 + place for a refusal.
@@ -17,6 +22,30 @@ pub fn read(text: &[u8]) -> u64 {
 pub fn print(text: &[u8], out: &mut [u8]) -> u64 {
     // Pointers and lengths are those of two slices; the second may be written.
     unsafe { adl_test_print(text.as_ptr(), text.len(), out.as_mut_ptr(), out.len()) }
+}
+
+/// The number of bytes written, or number * 2^32 + place for a refusal.
+pub fn translate(text: &[u8], out: &mut [u8]) -> u64 {
+    // Pointers and lengths are those of two slices; the second may be written.
+    unsafe { adl_test_translate(text.as_ptr(), text.len(), out.as_mut_ptr(), out.len()) }
+}
+
+/// 0 for a sound table, otherwise the number of the refusal.
+pub fn check(table: &[u8]) -> u8 {
+    // The pointer and the length are those of one slice, which is only read.
+    unsafe { adl_check(table.as_ptr(), table.len()) }
+}
+
+/// 0 if the event was taken, otherwise the number of the refusal.
+pub fn step(table: &[u8], record: &mut [u8], event: u64) -> u8 {
+    // Pointers and lengths are those of two slices; the second may be written.
+    unsafe { adl_step(table.as_ptr(), table.len(), record.as_mut_ptr(), record.len(), event) }
+}
+
+/// 255 if the run is finished, 0 if not, otherwise the number of the refusal.
+pub fn finished(table: &[u8], record: &[u8]) -> u8 {
+    // Pointers and lengths are those of two slices, which are only read.
+    unsafe { adl_finished(table.as_ptr(), table.len(), record.as_ptr(), record.len()) }
 }
 
 /// The reference's answer to reading, as the C function would give it.
@@ -35,6 +64,7 @@ pub fn print_number(answer: &Result<Vec<u8>, Refusal>) -> u64 {
     }
 }
 
-fn refusal_number((number, place): Refusal) -> u64 {
+/// A refusal as the C functions for these tests give it.
+pub fn refusal_number((number, place): Refusal) -> u64 {
     (u64::from(number) << 32) + place as u64
 }

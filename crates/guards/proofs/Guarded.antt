@@ -2,22 +2,22 @@
 use mathlib.Core.Path.{_≡_, refl, sym, ap, _∙_}
 use mathlib.Core.Bool.{Bool, true, false, not, _&&_, _||_}
 use mathlib.Core.List.{List, [], _∷_, _++_}
-use Prim.Native.Nat.{ℕ, zero, suc, _+_, _-_, _*_, _≤_, _<_, _^_}
+use Prim.Native.Nat.{ℕ, suc, _+_, _-_, _≤_, _<_, _^_}
 use native.Mathlib.Nat.{zero-add}
 use native.Mathlib.Omega.{arith}
 use lib.ListN.{length, getD, take, length-append}
 use Rattle.base.specs.Fill.{fill}
-use Rattle.process.specs.Process.{Process, owns}
+use Rattle.process.specs.Process.{Process}
 use Rattle.process.specs.Bits.{Bits, clears}
 use Rattle.process.specs.Guards.{complete, enabled}
 use Rattle.process.proofs.Numbered.{size, Numbered, interval}
 use Rattle.process.proofs.Short.{size-some}
 use Rattle.table.specs.Fields.{rows, guard-of}
 use Rattle.book.specs.Tells.{Tells}
-use Rattle.guards.specs.Words.{bit-row, not-row, both-row, either-row}
+use Rattle.guards.specs.Words.{both-row}
 use Rattle.guards.specs.Lays.{constants}
-use Rattle.guards.proofs.Plan.{Plan, up, Guards, down, Obeys, Lower, Marks, middle, rows-of, records-of, written}
-use Rattle.guards.proofs.Decoded.{bit-says, not-says, both-says, either-says}
+use Rattle.guards.proofs.Plan.{up, down, Obeys, Lower, middle, rows-of, records-of, written}
+use Rattle.guards.proofs.Decoded.{not-says, both-says, either-says}
 use Rattle.guards.proofs.Within.{obeys-split, lower-join, up-below, records-length}
 use Rattle.guards.proofs.RowsLower.{bit-first, not-first, both-first, either-first, no-rows, up-lower, down-lower}
 use Rattle.guards.proofs.RecordsKept.{Kept as Kept-record, records-kept}

@@ -36,6 +36,7 @@ not-of b c q = rw q
 has-room : (n events l : ℕ) → cramped n events l ≡ false → (leb n 1024 && (leb events 512 && leb 51204 l)) ≡ true
 has-room n events l f = room-test n events l ∙ not-of (cramped n events l) false f
 
+-- Where there is room the numbers are small.
 pub few : (n events l : ℕ) → cramped n events l ≡ false → (n ≤ 1024) × (events ≤ 512)
 few n events l f =
     let r = has-room n events l f in
@@ -73,7 +74,8 @@ pub laid-all : (ops : List ℕ) (events : ℕ) (lent : List ℕ) → cramped (le
     → (u : Up) → u ≡ first-pass ops events lent
     → (rows : ℕ) (out : List ℕ) → (rows ≡ second-pass ops events u .rows) × (out ≡ second-pass ops events u .out)
     → (done row head size : ℕ) (mid last : List ℕ) → done ≡ getD (u .marks) (u .top + 2) 0 → row ≡ both-row done done
-    → mid ≡ put-rows (base-of events) rows (row ∷ []) out → head ≡ events * 65536 + suc rows → last ≡ put-word mid 0 head → size ≡ base-of events + 4 * suc rows
+    → mid ≡ put-rows (base-of events) rows (row ∷ []) out → head ≡ events * 65536 + suc rows → last ≡ put-word mid 0 head
+    → size ≡ base-of events + 4 * suc rows
     → (size ≡ laid-size ops events lent) × (last ≡ laid-out ops events lent)
 unfolding laid-size laid-out
 laid-all ops events lent f u first rows out second done row head size mid last d r m h l s =

@@ -2,7 +2,7 @@
 use mathlib.Core.Bool.{Bool, not, cond, _&&_, _||_}
 use mathlib.Core.Path.{_≡_}
 use mathlib.Core.List.{List, [], _∷_, _++_}
-use Prim.Native.Nat.{ℕ, suc, _+_, _-_, _*_, _<_, _^_}
+use Prim.Native.Nat.{ℕ, suc, _+_, _*_, _<_, _^_}
 use lib.Dec.{eqb}
 use lib.ListN.{length}
 use Rattle.process.specs.Process.{Joint, seq, and, or, xor, Process, event, join, again, rounds}
@@ -11,9 +11,9 @@ use Rattle.process.specs.Guards.{begun, complete}
 use Rattle.process.specs.Postfix.{joint-code}
 use Rattle.table.specs.Fields.{kind-of, left-of, right-of}
 use Rattle.table.specs.Sound.{Row-keeps}
-use Rattle.guards.specs.Words.{both-row, event-record, put-word, put-rows}
+use Rattle.guards.specs.Words.{both-row, put-word, put-rows}
 use Rattle.guards.specs.Pieces.{Piece, mark, event-piece, again-piece, rounds-piece, join-piece}
-use Rattle.guards.specs.Passes.{down-words}
+use Rattle.guards.specs.Passes.{down-words, down-record}
 use Rattle.guards.specs.Lays.{constants, base-of}
 use Rattle.guards.specs.declared.Mark.{Mark}
 
@@ -85,7 +85,7 @@ joint-words j m p = down-words (joint-code j) m (p .x) (p .y)
 -- The guards of a process whose first row in the first pass was u, whose first row now is k, and which may go on by row m.
 unfoldable pub down : Process → (u k m : ℕ) → Guards
 unfolding up
-down (event n l) u k m = guards (both-row m (u + 1) ∷ []) (event-record k 0 0 ∷ [])
+down (event n l) u k m = guards (both-row m (u + 1) ∷ []) (down-record 0 k m 0 n ∷ [])
 down (join j p q) u k m =
     join-guards (joint-words j m (joined j u (up p u) (up q (u + length (up p u .words)))))
     (down q (u + length (up p u .words)) (k + length (joint-words j m (joined j u (up p u) (up q (u + length (up p u .words)))))) (later-may j k m))
@@ -93,10 +93,10 @@ down (join j p q) u k m =
     (k + length (joint-words j m (joined j u (up p u) (up q (u + length (up p u .words)))))
     + length (down q (u + length (up p u .words)) (k + length (joint-words j m (joined j u (up p u) (up q (u + length (up p u .words)))))) (later-may j k m) .words))
     (earlier-may j k m))
-down (again n l) u k m = guards [] (event-record m 0 0 ∷ [])
+down (again n l) u k m = guards [] (down-record 1 k m 0 n ∷ [])
 down (rounds p r l) u k m =
     guards (both-row m (up p u .mark .done) ∷ down p u (suc k) m .words)
-    (down p u (suc k) m .records ++ (event-record k (up p u .mark .first) (r - up p u .mark .first) ∷ []))
+    (down p u (suc k) m .records ++ (down-record 2 k m (up p u .mark .first) r ∷ []))
 
 -- ---- what rows say
 -- The value of a row of word w, from the control bits and the values of the rows.

@@ -15,6 +15,7 @@ use Rattle.guards.specs.declared.Mark.{Mark}
 use Rattle.guards.specs.declared.Made.{Made}
 
 -- ---- the event record
+-- By the number: a leaf's and a loop's over a leaf clear nothing, a reset's clears the events from y on.
 pub record-of-leaf : (op k m y e : ℕ) → op ≡ 0 → k * 262144 ≡ down-record op k m y e
 record-of-leaf op k m y e h = rw h (omega arith)
 
@@ -26,7 +27,8 @@ pub record-of-reset : (op k m y e first count : ℕ) → (op ≡ 0 → ⊥) → 
 record-of-reset op k m y e first count a b f c = rw (ne-eqb op 0 a, ne-eqb op 1 b, f, c)
 
 -- ---- the rows of a number in the second pass
-two-rows : (b : Bool) (ws : List ℕ) (base k u v : ℕ) (o p q : List ℕ) → b ≡ true → p ≡ put-rows base k (u ∷ []) o → q ≡ put-rows base (k + 1) (v ∷ []) p
+two-rows : (b : Bool) (ws : List ℕ) (base k u v : ℕ) (o p q : List ℕ) → b ≡ true
+    → p ≡ put-rows base k (u ∷ []) o → q ≡ put-rows base (k + 1) (v ∷ []) p
     → ((k + 2 ≡ k + length (cond b (u ∷ v ∷ []) ws)) × (k + 2 ≤ k + 2)) × (q ≡ put-rows base k (cond b (u ∷ v ∷ []) ws) o)
 unfolding put-rows
 two-rows b ws base k u v o p q t first second = rw t ((refl, omega arith), rw (second, first, add-one))
@@ -35,7 +37,8 @@ one-row : (b : Bool) (base k w : ℕ) (o p : List ℕ) → b ≡ true → p ≡ 
     → ((k + 1 ≡ k + length (cond b (w ∷ []) [])) × (k + 1 ≤ k + 2)) × (p ≡ put-rows base k (cond b (w ∷ []) []) o)
 one-row b base k w o p t q = rw t ((refl, omega arith), q)
 
-no-row : (b : Bool) (base k w : ℕ) (o : List ℕ) → b ≡ false → ((k ≡ k + length (cond b (w ∷ []) [])) × (k ≤ k + 2)) × (o ≡ put-rows base k (cond b (w ∷ []) []) o)
+no-row : (b : Bool) (base k w : ℕ) (o : List ℕ) → b ≡ false
+    → ((k ≡ k + length (cond b (w ∷ []) [])) × (k ≤ k + 2)) × (o ≡ put-rows base k (cond b (w ∷ []) []) o)
 unfolding put-rows
 no-row b base k w o t = rw t ((omega arith, omega arith), refl)
 
@@ -44,6 +47,7 @@ abbrev pub Rowed : (base op k m x y : ℕ) (before after : List ℕ) (r : ℕ) �
 Rowed base op k m x y before after r =
     ((r ≡ k + length (down-words op m x y)) × (r ≤ k + 2)) × (after ≡ put-rows base k (down-words op m x y) before)
 
+-- Two rows, one, or none.
 pub rowed-two : (base op k m x y u v : ℕ) (o p q : List ℕ) → narrow op ≡ true → u ≡ both-row m x → v ≡ both-row m y → p ≡ put-rows base k (u ∷ []) o
     → q ≡ put-rows base (k + 1) (v ∷ []) p → Rowed base op k m x y o q (k + 2)
 rowed-two base op k m x y u v o p q t a b first second =
@@ -63,9 +67,11 @@ rowed-none base op k m x y o f t =
     other-rows (narrow op) base k _ _ _ o o f (no-row (eqb op 0 || eqb op 2) base k (both-row m x) o t)
 
 -- ---- the rows by which the parts may go on
+-- What `split` is to have written and answered.
 abbrev pub Parted : (op k m top : ℕ) (before after : List ℕ) (r : ℕ) → Type 0
 Parted op k m top before after r = ((r ≡ may-top op top) × (r ≤ top + 1)) × (after ≡ may-rows op k m top before)
 
+-- A leaf, a loop, and the two kinds of joints.
 pub parted-leaf : (op k m top : ℕ) (ms : List ℕ) → op < 2 → Parted op k m top ms ms (top + 1)
 parted-leaf op k m top ms h = rw (lt-ltb op 2 h, lt-ltb op 3 (omega arith)) ((refl, omega arith), refl)
 
@@ -78,8 +84,8 @@ joint-parts : (b : Bool) (op k m top next : ℕ) (ms after : List ℕ) → 2 ≤
 joint-parts b op k m top next ms after l n q e =
     rw (le-ltb op 2 l, ne-eqb op 2 n, le-ltb op 3 (omega (arith, n))) ((q, omega (arith, q)), rw q at e)
 
-pub parted-narrow : (op k m top next a b : ℕ) (ms first second : List ℕ) → 2 ≤ op → (op ≡ 2 → ⊥) → next ≡ top - 1 → narrow op ≡ true → a ≡ k + 1 → b ≡ k
-    → first ≡ set ms top a → second ≡ set first next b → Parted op k m top ms second next
+pub parted-narrow : (op k m top next a b : ℕ) (ms first second : List ℕ) → 2 ≤ op → (op ≡ 2 → ⊥) → next ≡ top - 1 → narrow op ≡ true
+    → a ≡ k + 1 → b ≡ k → first ≡ set ms top a → second ≡ set first next b → Parted op k m top ms second next
 parted-narrow op k m top next a b ms first second l n q t p r f s =
     joint-parts (narrow op) op k m top next ms second l n q (s ∙ rw (f, p, r, t))
 
@@ -88,7 +94,11 @@ pub parted-wide : (op k m top next : ℕ) (ms after : List ℕ) → 2 ≤ op →
 parted-wide op k m top next ms after l n q f e = joint-parts (narrow op) op k m top next ms after l n q (e ∙ rw f)
 
 -- ---- the first pass
--- After i numbers.
+-- A state of the first pass by its parts.
+abbrev pub up-at : (rows event top : ℕ) (marks xs ys out : List ℕ) → Up
+up-at rows event top marks xs ys out = record { rows = rows; event = event; top = top; marks = marks; xs = xs; ys = ys; out = out }
+
+-- After i numbers: the state, bounds on it, and that the lists are as long as they were.
 pub record Upto (ops : List ℕ) (base : ℕ) (start : Up) (rows event top i : ℕ) (marks xs ys out : List ℕ) : Type 0 where
   pub within : i ≤ length ops
   pub few-rows : rows ≤ 3 + 6 * i
@@ -98,11 +108,9 @@ pub record Upto (ops : List ℕ) (base : ℕ) (start : Up) (rows event top i : �
   pub same-xs : length xs ≡ length (start .xs)
   pub same-ys : length ys ≡ length (start .ys)
   pub same-out : length out ≡ length (start .out)
-  pub its-state : record { rows = rows; event = event; top = top; marks = marks; xs = xs; ys = ys; out = out } ≡ ups base ops i start
+  pub its-state : up-at rows event top marks xs ys out ≡ ups base ops i start
 
-abbrev pub up-at : (rows event top : ℕ) (marks xs ys out : List ℕ) → Up
-up-at rows event top marks xs ys out = record { rows = rows; event = event; top = top; marks = marks; xs = xs; ys = ys; out = out }
-
+-- Before the first number, after one more, and after the last.
 pub upto-start : (ops : List ℕ) (base : ℕ) (marks xs ys out : List ℕ) → Upto ops base (up-at 3 0 5120 marks xs ys out) 3 0 5120 0 marks xs ys out
 unfolding ups
 upto-start ops base marks xs ys out = record {
@@ -127,14 +135,15 @@ counted-none op event event′ h e = (rw (le-ltb op 3 h) e, omega (arith, e))
 -- The state after a number, by what its piece became.
 up-stepped : (base op rows event top i : ℕ) (marks xs ys out : List ℕ) (made : Made) (event′ top′ : ℕ) (marks′ xs′ ys′ out′ : List ℕ)
     → Makes (piece-of op rows event (mark-at marks top) (mark-at marks (top + 5))) base rows out made out′
-    → event′ ≡ counted op event → top′ ≡ moved op top → marks′ ≡ put-mark marks top′ (made .mark) → xs′ ≡ set xs i (made .x) → ys′ ≡ set ys i (made .y)
+    → event′ ≡ counted op event → top′ ≡ moved op top → marks′ ≡ put-mark marks top′ (made .mark)
+    → xs′ ≡ set xs i (made .x) → ys′ ≡ set ys i (made .y)
     → up-at (made .rows) event′ top′ marks′ xs′ ys′ out′ ≡ up-step base op i (up-at rows event top marks xs ys out)
 unfolding up-step
 up-stepped base op rows event top i marks xs ys out made event′ top′ marks′ xs′ ys′ out′ m e t s a b =
     rw (e, s, a, b, t, m .its-rows, m .its-mark, m .its-x, m .its-y, m .its-bytes)
 
-pub upto-more : (ops : List ℕ) (base : ℕ) (start : Up) (rows event top i : ℕ) (marks xs ys out : List ℕ) → Upto ops base start rows event top i marks xs ys out
-    → i < length ops → (q p : Mark) → q ≡ mark-at marks top → p ≡ mark-at marks (top + 5)
+pub upto-more : (ops : List ℕ) (base : ℕ) (start : Up) (rows event top i : ℕ) (marks xs ys out : List ℕ)
+    → Upto ops base start rows event top i marks xs ys out → i < length ops → (q p : Mark) → q ≡ mark-at marks top → p ≡ mark-at marks (top + 5)
     → (made : Made) (out′ : List ℕ) → Makes (piece-of (getD ops i 0) rows event q p) base rows out made out′ → length out′ ≡ length out
     → (event′ : ℕ) → (event′ ≡ counted (getD ops i 0) event) × (event′ ≤ event + 1)
     → (top′ : ℕ) → (top′ ≡ moved (getD ops i 0) top) × (top′ ≤ top + 5)
@@ -157,8 +166,8 @@ upto-more ops base start rows event top i marks xs ys out u l q p qs ps made out
       ∙ rw (u .its-state, add-one);
 }
 
-pub upto-end : (ops : List ℕ) (base : ℕ) (start : Up) (rows event top i : ℕ) (marks xs ys out : List ℕ) → Upto ops base start rows event top i marks xs ys out
-    → length ops ≤ i → length ops ≤ 1024
+pub upto-end : (ops : List ℕ) (base : ℕ) (start : Up) (rows event top i : ℕ) (marks xs ys out : List ℕ)
+    → Upto ops base start rows event top i marks xs ys out → length ops ≤ i → length ops ≤ 1024
     → (up-at rows event top marks xs ys out ≡ ups base ops (length ops) start) × ((rows ≤ 3 + 6 * 1024) × (event ≤ 1024) × (top ≤ 5120 + 5 * 1024))
 upto-end ops base start rows event top i marks xs ys out u h few =
     let all : i ≡ length ops = omega (arith, u .within) in (
@@ -167,7 +176,11 @@ upto-end ops base start rows event top i marks xs ys out u h few =
     )
 
 -- ---- the second pass
--- Where so many numbers are left.
+-- A state of the second pass by its parts.
+abbrev pub down-at : (rows event top : ℕ) (mays out : List ℕ) → Down
+down-at rows event top mays out = record { rows = rows; event = event; top = top; mays = mays; out = out }
+
+-- Where so many numbers are left: the state, bounds on it, and that the lists are as long as they were.
 pub record Downto (ops : List ℕ) (base : ℕ) (ps qs : List ℕ) (start : Down) (rows event top left : ℕ) (mays out : List ℕ) : Type 0 where
   pub within : left ≤ length ops
   pub few-rows : rows + 2 * left ≤ start .rows + 2 * length ops
@@ -175,11 +188,9 @@ pub record Downto (ops : List ℕ) (base : ℕ) (ps qs : List ℕ) (start : Down
   pub low : top + left ≤ start .top + length ops
   pub same-mays : length mays ≡ length (start .mays)
   pub same-out : length out ≡ length (start .out)
-  pub its-state : record { rows = rows; event = event; top = top; mays = mays; out = out } ≡ downs base ops ps qs (length ops) (length ops - left) start
+  pub its-state : down-at rows event top mays out ≡ downs base ops ps qs (length ops) (length ops - left) start
 
-abbrev pub down-at : (rows event top : ℕ) (mays out : List ℕ) → Down
-down-at rows event top mays out = record { rows = rows; event = event; top = top; mays = mays; out = out }
-
+-- Before the last number, after one more, and after the first.
 pub downto-start : (ops : List ℕ) (base : ℕ) (ps qs : List ℕ) (rows event top : ℕ) (mays out : List ℕ)
     → Downto ops base ps qs (down-at rows event top mays out) rows event top (length ops) mays out
 unfolding downs
@@ -199,6 +210,7 @@ pub record Recorded (op rows m y event : ℕ) (out : List ℕ) (event′ : ℕ) 
   pub its-bytes : out′ ≡ cond (ltb op 3) (put-word out (4 + 4 * (event - 1)) (down-record op rows m y (event - 1))) out
   pub same-out : length out′ ≡ length out
 
+-- A leaf or a reset has a record; a joint has none.
 pub recorded : (op rows m y event : ℕ) (out : List ℕ) (e w place : ℕ) (bytes : List ℕ) (event′ : ℕ) (out′ : List ℕ) → op < 3 → e ≡ event - 1
     → w ≡ down-record op rows m y e → place ≡ 4 + 4 * e → bytes ≡ put-word out place w → length bytes ≡ length out → event′ ≡ e → out′ ≡ bytes
     → Recorded op rows m y event out event′ out′
@@ -216,6 +228,7 @@ unrecorded op rows m y event out event′ out′ h e b = record {
   same-out = ap length b;
 }
 
+-- The state after a number, by what its rows, its record and its parts became.
 down-stepped : (base op x y rows event top m : ℕ) (mays out : List ℕ) (rows′ event′ top′ : ℕ) (mays′ mid out′ : List ℕ) → m ≡ getD mays top 0
     → rows′ ≡ rows + length (down-words op m x y) → mid ≡ put-rows base rows (down-words op m x y) out
     → Recorded op rows m y event mid event′ out′ → top′ ≡ may-top op top → mays′ ≡ may-rows op rows m top mays
@@ -224,6 +237,7 @@ unfolding down-step
 down-stepped base op x y rows event top m mays out rows′ event′ top′ mays′ mid out′ q r b s t p =
     rw (r, t, p, s .its-event, s .its-bytes, b, q)
 
+-- The number of the next event never grows.
 fewer : (b : Bool) (event : ℕ) → cond b (event - 1) event ≤ event
 fewer true event = omega arith
 fewer false event = omega arith
@@ -247,7 +261,8 @@ downto-more ops base ps qs start rows event top left mays out u h m x y qm qx qy
       same-mays = lt ∙ u .same-mays;
       same-out = s .same-out ∙ lm ∙ u .same-out;
       its-state =
-          down-stepped base (getD ops (left - 1) 0) x y rows event top m mays out rows′ event′ top′ mays′ mid out′ qm (r .0 .0) (r .1) s (t .0 .0) (t .1)
+          down-stepped base (getD ops (left - 1) 0) x y rows event top m mays out rows′ event′ top′ mays′ mid out′ qm (r .0 .0) (r .1) s
+          (t .0 .0) (t .1)
           ∙ rw (more, qx, qy, u .its-state, here);
     }
 

@@ -3,7 +3,7 @@ use mathlib.Core.Path.{_≡_, refl, sym, ap, _∙_}
 use mathlib.Core.Bool.{Bool, true, false, _&&_}
 use mathlib.Core.Logic.{inl, inr}
 use mathlib.Core.List.{List, [], _∷_}
-use Prim.Native.Nat.{ℕ, zero, suc, _+_, _-_, _*_, _≤_, _<_, _^_}
+use Prim.Native.Nat.{ℕ, zero, suc, _+_, _-_, _*_, _≤_, _<_}
 use native.Mathlib.Nat.{zero-add}
 use native.Mathlib.Omega.{arith}
 use lib.Dec.{leb, ltb}
@@ -15,10 +15,9 @@ use Rattle.process.specs.Process.{Process}
 use Rattle.process.specs.Bits.{Bits, clears}
 use Rattle.process.specs.Guards.{complete, enabled}
 use Rattle.record.specs.Bits.{bit-at}
-use Rattle.record.specs.Bytes.{field}
 use Rattle.table.specs.Fields.{events, rows, event-word, row-word, guard-of, first-of, count-of}
 use Rattle.table.specs.Sound.{sound, Run, Row-keeps, Sound-table}
-use Rattle.table.specs.Values.{row-value, values-of, allows, ended}
+use Rattle.table.specs.Values.{row-value, values-of}
 use Rattle.table.proofs.Sentences.{sound-exactly}
 use Rattle.table.proofs.Obeyed.{values-obey}
 use Rattle.book.specs.Tells.{Tells}

@@ -3,9 +3,9 @@ ghost use mathlib.Core.List.{[], _∷_};
 ghost use Prim.Native.Nat.{_+_, _*_, _-_, _≤_, _<_, _%_, _/_, _^_};
 ghost use lib.ListN.{length, getD, set};
 ghost use Rattle.guards.specs.Words.{put-word, put-rows};
-ghost use Rattle.guards.specs.Pieces.{Piece, event-piece, again-piece, rounds-piece, both-piece, one-piece, settling, settled-row, or-piece};
-ghost use Rattle.guards.specs.Passes.{Up, mark-at, put-mark, piece-of, moved as moved-of, ups as ups-of, Down, down-words, down-record, may-top, may-rows, downs as downs-of};
-ghost use Rattle.guards.specs.Lays.{constants, base-of, up-start, down-start, first-pass, second-pass, finish as finished, laid-size, laid-out};
+ghost use Rattle.guards.specs.Pieces.{event-piece, again-piece, rounds-piece, both-piece, one-piece, settling, settled-row, or-piece};
+ghost use Rattle.guards.specs.Passes.{mark-at, put-mark, piece-of, moved as moved-of, ups as ups-of, Down, down-words, down-record, may-top, may-rows, downs as downs-of};
+ghost use Rattle.guards.specs.Lays.{laid-size, laid-out};
 ghost use Rattle.guards.specs.Made.{Makes};
 
 // What the rows of a part are: that it is begun, that it is not, that it is complete, that it is complete or not begun (0 where no row says so yet); and the
@@ -369,15 +369,9 @@ fn ups(
     let mut i = 0;
     while i < ops.len() {
         let op = ops[i];
-        let made = part(
-            out,
-            base,
-            op,
-            rows,
-            e,
-            mark_at(marks, top),
-            mark_at(marks, top + 5),
-        );
+        let q = mark_at(marks, top);
+        let p = mark_at(marks, top + 5);
+        let made = part(out, base, op, rows, e, q, p);
         top = moved(op, top);
         put_mark(marks, top, made.mark);
         put(xs, i, made.x);

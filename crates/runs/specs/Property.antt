@@ -1,7 +1,7 @@
 -- Property 3, "one statement about the whole list of calls".
 use mathlib.Core.Path.{_≡_}
 use mathlib.Core.List.{List, [], map}
-use Prim.Native.Nat.{ℕ, _≤_}
+use Prim.Native.Nat.{ℕ}
 use lib.ListN.{replicate}
 use Rattle.diagram.specs.Tree.{Flow}
 use Rattle.record.specs.Blank.{blank-record}

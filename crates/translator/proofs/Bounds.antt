@@ -1,18 +1,15 @@
 -- Property 1, for translation; and every accepted text is translated.
-use mathlib.Core.Path.{_≡_, refl, sym, ap, subst, _∙_}
+use mathlib.Core.Path.{_≡_, sym, ap, subst, _∙_}
 use mathlib.Core.List.{List}
-use Prim.Native.Nat.{ℕ, _+_, _*_, _≤_}
+use Prim.Native.Nat.{ℕ, _≤_}
 use native.Mathlib.Omega.{arith}
-use lib.ListN.{length, take, drop}
-use Rattle.base.specs.Fill.{fill}
+use lib.ListN.{length, take}
 use Rattle.base.proofs.Filled.{fill-length, fill-front, fill-past}
 use Rattle.diagram.specs.Tree.{Flow}
-use Rattle.diagram.specs.Count.{flow-copies, flow-events}
 use Rattle.reader.specs.Answers.{read-of}
 use Rattle.reader.specs.Accepted.{Accepted}
 use Rattle.reader.specs.Bounds.{Bounded as Answered, result as read-result, refusal as read-refusal}
-use Rattle.reader.specs.declared.Answer.{Answer}
-use Rattle.reader.specs.declared.Answer.the-variants.{Done, Refused as Unread}
+use Rattle.reader.specs.declared.Answer.the-variants.{Refused as Unread}
 use Rattle.reader.specs.declared.Out.{Out}
 use Rattle.reader.proofs.Bounds.{read-bounded}
 use Rattle.reader.proofs.Exact.{accepted-read, accepted-once, done-refused}

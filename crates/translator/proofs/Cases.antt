@@ -1,7 +1,7 @@
 -- The answers of a translation, case by case.
-use mathlib.Core.Path.{_≡_, refl, sym, ap, subst, _∙_}
+use mathlib.Core.Path.{_≡_, sym, ap, subst, _∙_}
 use mathlib.Core.List.{List}
-use Prim.Native.Nat.{ℕ, _≤_, _<_}
+use Prim.Native.Nat.{ℕ, _≤_}
 use lib.ListN.{length, take}
 use Rattle.diagram.specs.Tree.{Flow}
 use Rattle.diagram.specs.Count.{flow-events}
@@ -9,7 +9,6 @@ use Rattle.diagram.specs.declared.Diagram.{Diagram}
 use Rattle.reader.specs.Answers.{read-of}
 use Rattle.reader.specs.Accepted.{Accepted}
 use Rattle.reader.specs.Views.{Shows}
-use Rattle.reader.specs.declared.Answer.{Answer}
 use Rattle.reader.specs.declared.Answer.the-variants.{Done, Refused as Unread}
 use Rattle.reader.specs.declared.Out.{Out}
 use Rattle.reader.proofs.Exact.{accepted-exactly}
@@ -17,7 +16,7 @@ use Rattle.reader.proofs.Shown.{accepted-shown}
 use Rattle.process.specs.Expand.{expand}
 use Rattle.process.specs.Postfix.{postfix}
 use Rattle.guards.specs.Lays.{laid-size, laid-out}
-use Rattle.translator.specs.Translates.{Written, Translation, short, refused, done, Read, Writes}
+use Rattle.translator.specs.Translates.{Translation, refused, done, Read, Writes}
 use Rattle.translator.specs.declared.Translated.{Translated}
 use Rattle.translator.specs.declared.Translated.the-variants.{Bytes, Refused}
 use Rattle.translator.proofs.Tables.{codes, count-is, count-fits, numbers-are, laid-written}

@@ -1,5 +1,5 @@
 -- The table of an accepted text's diagram: from the nodes to the process in postfix order, and from there to the bytes.
-use mathlib.Core.Path.{_≡_, refl, sym, ap, _∙_}
+use mathlib.Core.Path.{_≡_, sym, ap, _∙_}
 use mathlib.Core.List.{List}
 use Prim.Native.Nat.{ℕ, _+_, _*_, _≤_}
 use native.Mathlib.Omega.{arith}
@@ -11,7 +11,6 @@ use Rattle.diagram.specs.Count.{flow-nodes, flow-events}
 use Rattle.diagram.specs.declared.Diagram.{Diagram}
 use Rattle.reader.specs.Accepted.{Accepted}
 use Rattle.reader.specs.Views.{Shows}
-use Rattle.process.specs.Process.{Process}
 use Rattle.process.specs.Expand.{expand}
 use Rattle.process.specs.Postfix.{postfix}
 use Rattle.process.proofs.Numbered.{size, Numbered}

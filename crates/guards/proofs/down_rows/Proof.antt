@@ -31,7 +31,8 @@ returns : tie.Need-returns
 returns c =
     let first = c .before .before .before .before .before .before .before in
     let a = first .before .before .before .before .before .args in
-    rowed-two (a .base) (a .op) (a .k) (a .m) (a .x) (a .y) _ _ _ _ _ (first .before .before .before .if1 .taken) (first .before .both-row .ensures) (c .before .before .before .both-row2 .ensures)
+    rowed-two (a .base) (a .op) (a .k) (a .m) (a .x) (a .y) _ _ _ _ _
+    (first .before .before .before .if1 .taken) (first .before .both-row .ensures) (c .before .before .before .both-row2 .ensures)
     (first .row .ensures) (c .before .before .row2 .ensures)
 
 both-row-requires-3 : tie.Need-both-row-requires-3
@@ -50,7 +51,8 @@ returns-2 : tie.Need-returns-2
 returns-2 c =
     let test = c .before .before .before .before .before in
     let a = test .before .before .before .args in
-    rowed-one (a .base) (a .op) (a .k) (a .m) (a .x) (a .y) _ _ _ (test .before .if1 .left) (test .if2 .taken) (c .before .before .before .both-row3 .ensures) (c .before .before .row3 .ensures)
+    rowed-one (a .base) (a .op) (a .k) (a .m) (a .x) (a .y) _ _ _ (test .before .if1 .left) (test .if2 .taken)
+    (c .before .before .before .both-row3 .ensures) (c .before .before .row3 .ensures)
 
 returns-3 : tie.Need-returns-3
 returns-3 c =

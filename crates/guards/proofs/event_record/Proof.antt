@@ -38,7 +38,8 @@ add-result-2 c = ⊎-elim (λ z. omega arith) (λ z. omega arith) (c .before .if
 
 returns-3 : tie.Need-returns-3
 returns-3 c =
-    record-of-reset _ _ _ _ _ _ _ (c .before .before .before .before .if1 .left) (c .before .before .before .if2 .left) (c .before .before .wide2 .ensures .0)
+    record-of-reset _ _ _ _ _ _ _ (c .before .before .before .before .if1 .left) (c .before .before .before .if2 .left)
+    (c .before .before .wide2 .ensures .0)
     (⊎-elim (λ z. omega (arith, z .1, z .0 .taken)) (λ z. omega (arith, z .1, z .0 .left)) (c .before .if3 .came))
 
 pub event-record-spec : {M : Type 1} → statement M

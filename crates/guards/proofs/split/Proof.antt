@@ -46,8 +46,9 @@ returns-3 : tie.Need-returns-3
 returns-3 c =
     let first = c .before .before .before .before .before .before .before in
     let test = first .before .before .before in
-    parted-narrow _ _ _ _ _ _ _ _ _ _ (test .before .before .before .if1 .left) (test .before .before .if2 .left) (below (test .before)) (test .if4 .taken)
-    (omega (arith, first .before .narrow .ensures)) (omega (arith, c .before .before .before .narrow2 .ensures)) (first .put .ensures) (c .before .before .put2 .ensures)
+    parted-narrow _ _ _ _ _ _ _ _ _ _ (test .before .before .before .if1 .left) (test .before .before .if2 .left) (below (test .before))
+    (test .if4 .taken) (omega (arith, first .before .narrow .ensures)) (omega (arith, c .before .before .before .narrow2 .ensures))
+    (first .put .ensures) (c .before .before .put2 .ensures)
 
 put-requires-3 : tie.Need-put-requires-3
 put-requires-3 c κs = search needs

@@ -15,10 +15,19 @@ Inv-loop ops base marks₀ xs₀ ys₀ out₀ rows₀ e₀ top₀ i₀ marks xs 
 abbrev μ-loop : tie.MeasureT-loop
 μ-loop ops base marks₀ xs₀ ys₀ out₀ rows₀ e₀ top₀ i₀ marks xs ys out rows e top i = length ops - i
 
+-- Places of a turn: its begin, and after its piece.
+abbrev loop-of : tie.After-part Inv-loop μ-loop → tie.At-loop Inv-loop μ-loop
+loop-of c = c .before .before .before .before .before .before .before .before
+
+abbrev part-of : tie.After-put2 Inv-loop μ-loop → tie.After-part Inv-loop μ-loop
+part-of c = c .before .before .before .before .before .before .before .before .before .before .before .before .before
+
 -- Where the pass stands, the numbers are small.
-bounds : (c : tie.At-loop Inv-loop μ-loop) → (c .before .before .before .before .before .before .args .base ≤ 2052) × (c .loop .rows ≤ 6147) × (c .loop .e ≤ 1024) × (c .loop .top ≤ 10240)
+bounds : (c : tie.At-loop Inv-loop μ-loop)
+    → (c .before .before .before .before .before .before .args .base ≤ 2052) × (c .loop .rows ≤ 6147) × (c .loop .e ≤ 1024) × (c .loop .top ≤ 10240)
 bounds c =
-    let u = c .loop .inv in let p = c .before .before .before .before .before .before .pre in
+    let u = c .loop .inv in
+    let p = c .before .before .before .before .before .before .pre in
     (p .0, omega (arith, u .few-rows, u .within, p .1), omega (arith, u .few-events, u .within, p .1), omega (arith, u .low, u .within, p .1))
 
 loop-holds : tie.Need-loop-holds Inv-loop μ-loop
@@ -28,22 +37,22 @@ shared-slice-read-op : tie.Need-shared-slice-read-op Inv-loop μ-loop
 shared-slice-read-op c = omega arith
 
 mark-at-requires : tie.Need-mark-at-requires Inv-loop μ-loop
-mark-at-requires c κs = let b = bounds (c .before .before .before .before) in omega arith
+mark-at-requires c κs = let b = bounds (c .before .before .before) in omega arith
 
 add-mark-at : tie.Need-add-mark-at Inv-loop μ-loop
-add-mark-at c = let b = bounds (c .before .before .before .before .before .before) in omega arith
+add-mark-at c = let b = bounds (c .before .before .before .before .before) in omega arith
 
 mark-at-requires-2 : tie.Need-mark-at-requires-2 Inv-loop μ-loop
-mark-at-requires-2 c κs = let b = bounds (c .before .before .before .before .before .before) in omega arith
+mark-at-requires-2 c κs = let b = bounds (c .before .before .before .before .before) in omega arith
 
 part-requires : tie.Need-part-requires Inv-loop μ-loop
 part-requires c κs = let b = bounds (c .before .before .before .before .before .before .before) in omega arith
 
 moved-requires : tie.Need-moved-requires Inv-loop μ-loop
-moved-requires c κs = let b = bounds (c .before .before .before .before .before .before .before .before .before .before) in omega arith
+moved-requires c κs = let b = bounds (loop-of (c .before .before)) in omega arith
 
 put-mark-requires : tie.Need-put-mark-requires Inv-loop μ-loop
-put-mark-requires c κs = let b = bounds (c .before .before .before .before .before .before .before .before .before .before .before .before) in omega (arith, c .before .moved .ensures .1)
+put-mark-requires c κs = let b = bounds (loop-of (c .before .before .before .before)) in omega (arith, c .before .moved .ensures .1)
 
 put-requires : tie.Need-put-requires Inv-loop μ-loop
 put-requires c κs = search needs
@@ -52,14 +61,16 @@ put-requires-2 : tie.Need-put-requires-2 Inv-loop μ-loop
 put-requires-2 c κs = search needs
 
 add-e : tie.Need-add-e Inv-loop μ-loop
-add-e c = let b = bounds (c .before .before .before .before .before .before .before .before .before .before .before .before .before .before .before .before .before .before .before .before .before .before .before .before) in omega arith
+add-e c = let b = bounds (loop-of (part-of (c .before .before .before))) in omega arith
 
 add-i : tie.Need-add-i Inv-loop μ-loop
 add-i c =
-    omega (arith, c .before .before .before .before .before .before .before .before .before .before .before .before .before .before .before .before .before .before .before .before .before .before .before .loop-test .taken, c .before .before .before .before .before .before .before .before .before .before .before .before .before .before .before .before .before .before .before .before .before .before .before .before .before .before .before .before .before .before .pre .1)
+    let l = loop-of (part-of (c .before .before .before)) in
+    let t = part-of (c .before .before .before) .before .before .before .before .before .before .before .loop-test .taken in
+    omega (arith, t, l .before .before .before .before .before .before .pre .1)
 
 loop-less : tie.Need-loop-less Inv-loop μ-loop
-loop-less c = omega (arith, c .before .before .before .before .before .before .before .before .before .before .before .before .before .before .before .before .before .before .before .before .before .before .before .loop-test .taken)
+loop-less c = let t = part-of (c .before .before .before) .before .before .before .before .before .before .before .loop-test .taken in omega arith
 
 loop-again : tie.Need-loop-again Inv-loop μ-loop
 loop-again c =
@@ -67,17 +78,18 @@ loop-again c =
     let x = y .before .before .before .before in
     let k = x .before .before .before .before in
     let t = k .before .before in
-    let p = t .before .before .before in
-    let m = p .before in
+    let p = part-of y in
+    let m = p .before .before in
     let q = m .before .before in
-    let test = q .before .before .before .before in
-    let l = test .before .loop in
-    let a = test .before .before .before .before .before .before .before .args in
-    upto-more (a .ops .now) (a .base) _ (l .rows) (l .e) (l .top) (l .i) (l .marks) (l .xs) (l .ys) (l .out) (l .inv) (test .loop-test .taken) (q .mark-at .result)
-    (m .mark-at2 .result) (q .mark-at .ensures) (m .mark-at2 .ensures) (p .part .result) (p .part .last .0) (p .part .ensures) (p .part .kept .0) (c .if1 .e)
-    (⊎-elim (λ z. counted-one _ _ _ (z .0 .taken) (z .1)) (λ z. counted-none _ _ _ (z .0 .left) (z .1)) (c .if1 .came)) (t .moved .result) (t .moved .ensures)
-    (k .put-mark .last .0) (k .put-mark .ensures) (k .put-mark .kept .0) (x .put .last .0) (x .put .ensures) (x .put .kept .0) (y .put2 .last .0) (y .put2 .ensures)
-    (y .put2 .kept .0)
+    let test = q .before .before .before in
+    let l = loop-of p .loop in
+    let a = loop-of p .before .before .before .before .before .before .args in
+    upto-more (a .ops .now) (a .base) _ (l .rows) (l .e) (l .top) (l .i) (l .marks) (l .xs) (l .ys) (l .out) (l .inv) (test .loop-test .taken)
+    (q .mark-at .result) (m .mark-at2 .result) (q .mark-at .ensures) (m .mark-at2 .ensures) (p .part .result) (p .part .last .0) (p .part .ensures)
+    (p .part .kept .0) (c .if1 .e)
+    (⊎-elim (λ z. counted-one _ _ _ (z .0 .taken) (z .1)) (λ z. counted-none _ _ _ (z .0 .left) (z .1)) (c .if1 .came))
+    (t .moved .result) (t .moved .ensures) (k .put-mark .last .0) (k .put-mark .ensures) (k .put-mark .kept .0) (x .put .last .0) (x .put .ensures)
+    (x .put .kept .0) (y .put2 .last .0) (y .put2 .ensures) (y .put2 .kept .0)
 
 same-length : tie.Need-same-length Inv-loop μ-loop
 same-length c = c .before .loop .inv .same-marks
@@ -92,7 +104,8 @@ same-length-4 : tie.Need-same-length-4 Inv-loop μ-loop
 same-length-4 c = c .before .loop .inv .same-out
 
 returns : tie.Need-returns Inv-loop μ-loop
-returns c = upto-end _ _ _ _ _ _ _ _ _ _ _ (c .before .loop .inv) (c .loop-test .left) (c .before .before .before .before .before .before .before .pre .1)
+returns c =
+    upto-end _ _ _ _ _ _ _ _ _ _ _ (c .before .loop .inv) (c .loop-test .left) (c .before .before .before .before .before .before .before .pre .1)
 
 pub ups-spec : {M : Type 1} → statement M
 ups-spec =

@@ -7,37 +7,30 @@ use Rattle.translator.proofs.write.Lts as lts
 use Rattle.expansion.proofs.expand.Reads as expand-reads
 use Rattle.guards.proofs.lay.Reads as lay-reads
 
--- src/lib.rt:21:34
 slice-aggregate-expand : tie.Need-slice-aggregate-expand
 slice-aggregate-expand c = search needs
 
--- src/lib.rt:21:9
 expand-requires : tie.Need-expand-requires
 expand-requires c κs = search needs
 
--- src/lib.rt:22:17
 array-share-prefix-codes : tie.Need-array-share-prefix-codes
 array-share-prefix-codes c =
     let b = c .before .before .before .before in
     let e = c .before .expand in
     numbers-fit (b .args .d) (b .pre .0) (e .result) (e .last .1 .0) (e .ensures .0) (e .ensures .1)
 
--- src/lib.rt:22:17
 slice-aggregate-lay : tie.Need-slice-aggregate-lay
 slice-aggregate-lay c =
     let b = c .before .before .before .before .before in
     let e = c .before .before .expand in
     numbers-there (b .args .d) (b .pre .0) (e .result) (e .last .1 .0) (e .ensures .0) (e .ensures .1)
 
--- src/lib.rt:22:5
 lay-requires : tie.Need-lay-requires
 lay-requires c κs = search needs
 
--- src/lib.rt:15:1
 same-length : tie.Need-same-length
 same-length c = search needs
 
--- src/lib.rt:15:1
 returns : tie.Need-returns
 returns c =
     let b = c .before .before .before .before .before .before .before .before .before in

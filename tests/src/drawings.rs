@@ -1,0 +1,354 @@
+//! Random drawings that keep all rules, as texts to be played: every
+//! constructor inside every other, small ones and ones at the limits.
+
+use crate::generate::{pad_between, Random};
+use crate::{read, Kind, NodeInfo, TEXT_LIMIT};
+
+/// How large a drawing shall be.
+#[derive(Clone, Copy, Debug, PartialEq)]
+pub enum Size {
+    /// At most this many events, and more than half of them.
+    Small(usize),
+    /// Some dozens of events.
+    Middle,
+    /// Down to depth 12.
+    Deep,
+    /// Filled up until 512 events, 768 copies or 256 nodes are reached.
+    Full,
+}
+
+/// How much room there is. Growth stops when one of them is reached; the last
+/// nodes may still go over it.
+struct Room {
+    depth: usize,
+    nodes: usize,
+    copies: usize,
+    events: usize,
+    children: usize,
+    members: usize,
+    largest: usize,
+    /// A leaf is put once in so many times where more would be possible.
+    plain: usize,
+}
+
+fn room(size: Size, random: &mut Random) -> Room {
+    let middle = Room {
+        depth: 12,
+        nodes: 60,
+        copies: 160,
+        events: random.within(15, 90),
+        children: random.within(1, 4),
+        members: 3,
+        largest: 5,
+        plain: random.within(2, 5),
+    };
+    match size {
+        Size::Small(events) => {
+            let children = random.within(2, 3);
+            Room { nodes: 4 * events, copies: 5 * events, events, children, members: 2, largest: 2, ..middle }
+        }
+        Size::Middle => middle,
+        Size::Deep => {
+            let children = random.within(2, 3);
+            Room { nodes: 120, copies: 400, events: 200, children, largest: 3, ..middle }
+        }
+        Size::Full => {
+            let events = random.within(100, 300);
+            Room { nodes: 120, copies: 450, events, largest: 16, ..middle }
+        }
+    }
+}
+
+const LIMITS: (usize, usize, usize) = (256, 768, 512);
+
+/// A text that is accepted. It has blanks now and then.
+pub fn accepted_text(size: Size, random: &mut Random) -> Vec<u8> {
+    loop {
+        let text = drawing(size, random).into_bytes();
+        if fits(&text, size) {
+            return with_blanks(text, random);
+        }
+    }
+}
+
+fn fits(text: &[u8], size: Size) -> bool {
+    match (read(text), size) {
+        (Ok(summary), Size::Small(events)) => summary.events <= events && 2 * summary.events > events,
+        (Ok(_), _) => true,
+        (Err(_), _) => false,
+    }
+}
+
+fn with_blanks(text: Vec<u8>, random: &mut Random) -> Vec<u8> {
+    let most = match random.below(12) {
+        0 => TEXT_LIMIT,
+        1 | 2 => (2 * text.len()).min(TEXT_LIMIT),
+        _ => return text,
+    };
+    let length = random.within(text.len(), most);
+    pad_between(&text, length)
+}
+
+fn drawing(size: Size, random: &mut Random) -> String {
+    let room = room(size, random);
+    let deep = size == Size::Deep;
+    let mut maker = Maker { random, room, deep, text: String::new(), nodes: 0, copies: 0, events: 0 };
+    maker.open_flow(&[]);
+    maker.children(2, &mut Vec::new());
+    if size == Size::Full {
+        maker.fill_up();
+    }
+    maker.text.push(')');
+    maker.text
+}
+
+/// A replicator around the node that is being made.
+struct Outer {
+    par: String,
+    size: usize,
+}
+
+fn copies_within(around: &[Outer]) -> usize {
+    around.iter().map(|outer| outer.size).product()
+}
+
+struct Maker<'r> {
+    random: &'r mut Random,
+    room: Room,
+    /// One child of each flow goes down as far as it may.
+    deep: bool,
+    text: String,
+    nodes: usize,
+    copies: usize,
+    events: usize,
+}
+
+impl Maker<'_> {
+    fn put(&mut self, text: &str) {
+        self.text.push_str(text);
+    }
+
+    fn count(&mut self, around: &[Outer]) {
+        self.nodes += 1;
+        self.copies += copies_within(around);
+    }
+
+    fn has_room(&self) -> bool {
+        self.nodes < self.room.nodes && self.copies < self.room.copies && self.events < self.room.events
+    }
+
+    fn leaf(&mut self, around: &[Outer]) {
+        self.count(around);
+        self.events += copies_within(around);
+        self.put(&format!("leaf(l{})", self.nodes));
+    }
+
+    fn open_flow(&mut self, around: &[Outer]) {
+        self.count(around);
+        let pars: String = around.iter().map(|outer| format!(",{}", outer.par)).collect();
+        self.put(&format!("flow(f{}{pars},1)(", self.nodes));
+    }
+
+    fn flow(&mut self, depth: usize, around: &mut Vec<Outer>) {
+        self.open_flow(around);
+        self.children(depth + 1, around);
+        self.put(")");
+    }
+
+    fn children(&mut self, depth: usize, around: &mut Vec<Outer>) {
+        let count = self.random.within(1, self.room.children).max(self.random.within(1, self.room.children));
+        let solid = self.random.below(count);
+        let deepest = self.random.below(count);
+        for at in 0..count {
+            let down = self.deep && at == deepest;
+            self.child(depth, around, at == solid, down);
+            self.put(if at == solid { "(1)" } else { "(0)" });
+        }
+    }
+
+    fn child(&mut self, depth: usize, around: &mut Vec<Outer>, solid: bool, down: bool) {
+        // A solid child is mostly a leaf: the other constructors need the room.
+        let plain = self.random.once_in(self.room.plain) || solid && !self.random.once_in(3);
+        if plain && !down || depth >= self.room.depth || !self.has_room() {
+            return self.leaf(around);
+        }
+        let kinds: &[&str] = match solid {
+            true => &["flow", "xor", "xor", "one", "one"],
+            false => &["flow", "and", "and", "or", "or", "xor", "all", "some", "one", "loop", "loop", "loop"],
+        };
+        match *self.random.pick(kinds) {
+            "flow" => self.flow(depth, around),
+            "loop" => self.repeated(depth, around, down),
+            group @ ("and" | "or" | "xor") => self.group(group, depth, around, down),
+            replicator => self.replicator(replicator, depth, around, down),
+        }
+    }
+
+    /// A leaf or a flow; tells whether it is a flow.
+    fn member(&mut self, depth: usize, around: &mut Vec<Outer>, down: bool) -> bool {
+        let plain = !down && self.random.once_in(self.room.plain);
+        if plain || depth >= self.room.depth || !self.has_room() {
+            self.leaf(around);
+            return false;
+        }
+        self.flow(depth, around);
+        true
+    }
+
+    fn repeated(&mut self, depth: usize, around: &mut Vec<Outer>, down: bool) {
+        self.count(around);
+        self.put("loop(");
+        if self.member(depth + 1, around, down) {
+            self.events += copies_within(around);
+        }
+        self.put(")");
+    }
+
+    fn group(&mut self, keyword: &str, depth: usize, around: &mut Vec<Outer>, down: bool) {
+        self.count(around);
+        self.put(&format!("{keyword}("));
+        let most = if self.random.once_in(12) { 3 * self.room.members } else { self.room.members };
+        let count = self.random.within(2, most);
+        let deepest = self.random.below(count);
+        for at in 0..count {
+            self.member(depth + 1, around, down && at == deepest);
+        }
+        self.put(")");
+    }
+
+    fn replicator(&mut self, keyword: &str, depth: usize, around: &mut Vec<Outer>, down: bool) {
+        if around.len() == 3 {
+            return self.group("xor", depth, around, down);
+        }
+        self.count(around);
+        let par = format!("p{}", around.len());
+        let size = self.random.within(1, self.room.largest);
+        self.put(&format!("{keyword}({par}:{size})("));
+        around.push(Outer { par, size });
+        self.member(depth + 1, around, down);
+        around.pop();
+        self.put(")");
+    }
+
+    // -----------------------------------------------------------------------
+    // Filling up to the limits
+    // -----------------------------------------------------------------------
+
+    /// Dashed children at the end of the root, until no leaf fits any more.
+    fn fill_up(&mut self) {
+        let choices = *self.random.pick(&[1, 3, 7]);
+        while self.fits(1, 1, 1) {
+            match self.random.below(choices) {
+                0 | 1 if self.nearly_full() => self.fill_leaf(),
+                0 => self.fill_replicator(),
+                1 | 2 => self.fill_rounds(),
+                _ => self.fill_group(),
+            }
+        }
+    }
+
+    fn fits(&self, nodes: usize, copies: usize, events: usize) -> bool {
+        self.nodes + nodes <= LIMITS.0 && self.copies + copies <= LIMITS.1 && self.events + events <= LIMITS.2
+    }
+
+    /// Whether the largest filler might not fit.
+    fn nearly_full(&self) -> bool {
+        !self.fits(10, 90, 50)
+    }
+
+    fn fill_leaf(&mut self) {
+        self.leaf(&[]);
+        self.put("(0)");
+    }
+
+    /// A replicator over a leaf.
+    fn fill_replicator(&mut self) {
+        let size = self.random.within(1, 16);
+        if !self.fits(2, 1 + size, size) {
+            return self.fill_leaf();
+        }
+        self.count(&[]);
+        let keyword = *self.random.pick(&["all", "some", "one"]);
+        self.put(&format!("{keyword}(v:{size})("));
+        self.leaf(&[Outer { par: "v".to_string(), size }]);
+        self.put(")(0)");
+    }
+
+    /// A replicator over a flow that holds a loop over a flow.
+    fn fill_rounds(&mut self) {
+        let size = self.random.within(1, 16);
+        if !self.fits(6, 1 + 5 * size, 3 * size) {
+            return self.fill_leaf();
+        }
+        self.count(&[]);
+        let keyword = *self.random.pick(&["all", "some", "one"]);
+        self.put(&format!("{keyword}(v:{size})("));
+        let around = [Outer { par: "v".to_string(), size }];
+        self.open_flow(&around);
+        self.count(&around);
+        self.put("loop(");
+        self.open_flow(&around);
+        self.leaf(&around);
+        self.put("(1)))(0)");
+        self.events += size;
+        self.leaf(&around);
+        self.put("(1)))(0)");
+    }
+
+    /// Some leaves in a group.
+    fn fill_group(&mut self) {
+        let count = self.random.within(2, 8);
+        if !self.fits(1 + count, 1 + count, count) {
+            return self.fill_leaf();
+        }
+        self.count(&[]);
+        let keyword = *self.random.pick(&["and", "or", "xor"]);
+        self.put(&format!("{keyword}("));
+        (0..count).for_each(|_| self.leaf(&[]));
+        self.put(")(0)");
+    }
+}
+
+// ---------------------------------------------------------------------------
+// Which constructor stands inside which
+// ---------------------------------------------------------------------------
+
+/// The constructors that others may stand in.
+const OUTER: [&str; 7] = ["and", "or", "xor", "all", "some", "one", "loop"];
+
+/// All that `nestings` can tell.
+pub fn all_nestings() -> Vec<String> {
+    let inner = |outer| OUTER.iter().chain(&["leaf loop"]).map(move |inner| format!("{inner} in {outer}"));
+    OUTER.iter().flat_map(inner).collect()
+}
+
+/// For each constructor that is inside others, itself and the innermost of
+/// those; a loop over a leaf is told from one over a flow.
+pub fn nestings(nodes: &[NodeInfo]) -> Vec<String> {
+    let mut nestings = Vec::new();
+    let mut above: Vec<&NodeInfo> = Vec::new();
+    for (at, node) in nodes.iter().enumerate() {
+        above.truncate(node.depth - 1);
+        let outer = above.iter().rev().find_map(|outer| title(outer.kind));
+        let over_leaf = nodes.get(at + 1).is_some_and(|below| below.kind == Kind::Leaf);
+        let inner = if node.kind == Kind::Loop && over_leaf { Some("leaf loop") } else { title(node.kind) };
+        if let (Some(inner), Some(outer)) = (inner, outer) {
+            nestings.push(format!("{inner} in {outer}"));
+        }
+        above.push(node);
+    }
+    nestings
+}
+
+fn title(kind: Kind) -> Option<&'static str> {
+    match kind {
+        Kind::Leaf | Kind::Flow => None,
+        Kind::And => Some("and"),
+        Kind::Or => Some("or"),
+        Kind::Xor => Some("xor"),
+        Kind::All(_) => Some("all"),
+        Kind::Some(_) => Some("some"),
+        Kind::One(_) => Some("one"),
+        Kind::Loop => Some("loop"),
+    }
+}
