@@ -196,46 +196,41 @@ fn sequence(first: Runs, then: Runs) -> Runs {
     Rc::new(Expression { form: Form::Sequence(first, then), accepts_empty, within })
 }
 
+/// The parts under one form; one part needs no form, and `none` stands for no
+/// part at all.
+fn under(form: fn(Vec<Runs>) -> Form, mut parts: Vec<Runs>, none: Runs, accepts_empty: bool) -> Runs {
+    match parts.len() {
+        0 => none,
+        1 => parts.remove(0),
+        _ => {
+            let within = around(&parts);
+            Rc::new(Expression { form: form(parts), accepts_empty, within })
+        }
+    }
+}
+
 fn interleaving(mut parts: Vec<Runs>) -> Runs {
     if parts.iter().any(|part| part.is_nothing()) {
         return nothing();
     }
     parts.retain(|part| !part.is_done());
-    match parts.len() {
-        0 => done(),
-        1 => parts.remove(0),
-        _ => {
-            let accepts_empty = parts.iter().all(|part| part.accepts_empty);
-            let within = around(&parts);
-            Rc::new(Expression { form: Form::Interleaving(parts), accepts_empty, within })
-        }
-    }
+    let accepts_empty = parts.iter().all(|part| part.accepts_empty);
+    under(Form::Interleaving, parts, done(), accepts_empty)
 }
 
-fn choice(mut parts: Vec<Runs>) -> Runs {
+/// One of the parts, or several of them, by the form.
+fn chosen(form: fn(Vec<Runs>) -> Form, mut parts: Vec<Runs>) -> Runs {
     parts.retain(|part| !part.is_nothing());
-    match parts.len() {
-        0 => nothing(),
-        1 => parts.remove(0),
-        _ => {
-            let accepts_empty = parts.iter().any(|part| part.accepts_empty);
-            let within = around(&parts);
-            Rc::new(Expression { form: Form::Choice(parts), accepts_empty, within })
-        }
-    }
+    let accepts_empty = parts.iter().any(|part| part.accepts_empty);
+    under(form, parts, nothing(), accepts_empty)
 }
 
-fn nonempty_choice(mut parts: Vec<Runs>) -> Runs {
-    parts.retain(|part| !part.is_nothing());
-    match parts.len() {
-        0 => nothing(),
-        1 => parts.remove(0),
-        _ => {
-            let accepts_empty = parts.iter().any(|part| part.accepts_empty);
-            let within = around(&parts);
-            Rc::new(Expression { form: Form::NonemptyChoice(parts), accepts_empty, within })
-        }
-    }
+fn choice(parts: Vec<Runs>) -> Runs {
+    chosen(Form::Choice, parts)
+}
+
+fn nonempty_choice(parts: Vec<Runs>) -> Runs {
+    chosen(Form::NonemptyChoice, parts)
 }
 
 fn repeated(body: Runs) -> Runs {

@@ -22,6 +22,7 @@ use Rattle.guards.specs.declared.Mark.{Mark}
 use Rattle.guards.proofs.Plan.{Plan, Guards, joined, up, later-may, earlier-may, joint-words, down, says, Obeys, Marks, Below}
 use Rattle.guards.proofs.Decoded.{both-says, record-fields}
 use Rattle.guards.proofs.Within.{obeys-split, below-more, join-length, up-below, records-length}
+use Rattle.guards.proofs.Mays.{Mays-below, mays-below}
 use Rattle.guards.proofs.UpTrue.{row-says, up-true}
 
 -- ---- Booleans and lists
@@ -78,19 +79,6 @@ enabled-earlier seq p q s e o = rw o
 enabled-earlier and p q s e o = rw o (sym (and-true (enabled p s e)))
 enabled-earlier or p q s e o = rw o (sym (and-true (enabled p s e)))
 enabled-earlier xor p q s e o = rw o
-
--- The rows by which the parts go on are among those written so far.
-later-small : (j : Joint) (k m : ℕ) (c : Piece) → k + length (joint-words j m c) ≤ 16384 → m < 16384 → later-may j k m < 16384
-later-small seq k m c h g = omega arith
-later-small and k m c h g = g
-later-small or k m c h g = g
-later-small xor k m c h g = omega arith
-
-earlier-small : (j : Joint) (k m : ℕ) (c : Piece) → k + length (joint-words j m c) ≤ 16384 → m < 16384 → earlier-may j k m < 16384
-earlier-small seq k m c h g = omega arith
-earlier-small and k m c h g = g
-earlier-small or k m c h g = g
-earlier-small xor k m c h g = omega arith
 
 module _ (s : Bits) (v : ℕ → Bool) where
   -- A row that lets a part go on by row m and one more row.
@@ -197,6 +185,10 @@ module _ (s : Bits) (v : ℕ → Bool) where
     unfolding down
     length-down = join-length k own (guards-q .words) (guards-p .words)
 
+    -- The rows by which the parts go on are among those written so far.
+    mays : Mays-below j k m 16384
+    mays = mays-below j k m 16384 (joined j u plan-p plan-q) (c .small) (omega (arith, c .room-down, length-down))
+
     earlier : Stands p u (down-q + length (guards-q .words)) (earlier-may j k m) lo
     unfolding Numbered size
     earlier = record {
@@ -205,7 +197,7 @@ module _ (s : Bits) (v : ℕ → Bool) where
       low = c .low;
       room-up = omega (arith, c .room-up, length-up);
       room-down = omega (arith, c .room-down, length-down);
-      small = earlier-small j k m (joined j u plan-p plan-q) (omega (arith, c .room-down, length-down)) (c .small);
+      small = mays .its-earlier;
       on = c .on;
       obeys-up = rows-up .0;
       obeys-down = rows-down .1 .1;
@@ -219,7 +211,7 @@ module _ (s : Bits) (v : ℕ → Bool) where
       low = omega (arith, c .low);
       room-up = omega (arith, c .room-up, length-up);
       room-down = omega (arith, c .room-down, length-down);
-      small = later-small j k m (joined j u plan-p plan-q) (omega (arith, c .room-down, length-down)) (c .small);
+      small = mays .its-later;
       on = c .on;
       obeys-up = rows-up .1 .0;
       obeys-down = rows-down .1 .0;

@@ -1,5 +1,5 @@
--- The rows by which the parts of a joint may go on are below the rows that come after the joint's own.
-use Prim.Native.Nat.{ℕ, _+_, _<_}
+-- The rows by which the parts of a joint may go on are below what is above the joint's own rows and its own such row.
+use Prim.Native.Nat.{ℕ, _+_, _≤_, _<_}
 use native.Mathlib.Omega.{arith}
 use lib.ListN.{length}
 use Rattle.process.specs.Process.{Joint, seq, and, or, xor}
@@ -11,8 +11,8 @@ pub record Mays-below (j : Joint) (k m end : ℕ) : Type 0 where
   pub its-later : later-may j k m < end
   pub its-earlier : earlier-may j k m < end
 
-pub mays-below : (j : Joint) (k m : ℕ) (p : Piece) → m < k → Mays-below j k m (k + length (joint-words j m p))
-mays-below seq k m p h = record { its-later = omega arith; its-earlier = omega arith }
-mays-below and k m p h = record { its-later = omega arith; its-earlier = omega arith }
-mays-below or k m p h = record { its-later = omega arith; its-earlier = omega arith }
-mays-below xor k m p h = record { its-later = omega arith; its-earlier = omega arith }
+pub mays-below : (j : Joint) (k m end : ℕ) (p : Piece) → m < end → k + length (joint-words j m p) ≤ end → Mays-below j k m end
+mays-below seq k m end p h g = record { its-later = omega arith; its-earlier = omega arith }
+mays-below and k m end p h g = record { its-later = h; its-earlier = h }
+mays-below or k m end p h g = record { its-later = h; its-earlier = h }
+mays-below xor k m end p h g = record { its-later = omega arith; its-earlier = omega arith }

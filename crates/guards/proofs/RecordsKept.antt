@@ -169,7 +169,7 @@ records-kept (join j p q) bound u k m lo num few h b e c =
     let after = down q v (k + length ws) (later-may j k m) in
     let before = down p u (k + length ws + length (after .words)) (earlier-may j k m) in
     let z = join-length k ws (after .words) (before .words) in
-    let mays = mays-below j k m o b in
+    let mays = mays-below j k m (k + length (joint-words j m o)) o (omega (arith, b)) (omega arith) in
     joint-kept p q lo (num .0) (num .1) bound j (before .records) (after .records)
     (records-length p u (k + length ws + length (after .words)) (earlier-may j k m))
     (records-kept p bound u (k + length ws + length (after .words)) (earlier-may j k m) lo (num .0) (omega arith) h (omega (arith, mays .its-earlier))

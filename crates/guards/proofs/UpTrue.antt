@@ -78,9 +78,11 @@ module _ (s : Bits) (v : ℕ → Bool) where
     where
       new : eqb (m .settled) 0 ≡ true → v (settled-row k m) ≡ (complete p s || not (begun p s))
       new e =
+          let first : getD (settling m) 0 0 ≡ either-row (m .done) (m .idle) = rw e refl in
+          let some : 1 ≤ length (settling m) = rw e (omega arith) in
           rw e
-          (row-says k (either-row (m .done) (m .idle) ∷ []) 0 k (rw e at h) (omega arith) (omega arith)
-          ∙ (either-says s v (m .done) (m .idle) (omega arith) (omega arith) ∙ ap₂ _||_ (t .its-done) (t .its-idle)))
+          (row-says k (settling m) 0 k h (omega arith) some
+          ∙ (ap (λ w. says w s v) first ∙ (either-says s v (m .done) (m .idle) (omega arith) (omega arith) ∙ ap₂ _||_ (t .its-done) (t .its-idle))))
 
       own : eqb (m .settled) 0 ≡ false → v (settled-row k m) ≡ (complete p s || not (begun p s))
       own e = rw e (t .its-settled (eqb-false (m .settled) 0 e))
