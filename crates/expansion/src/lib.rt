@@ -12,20 +12,38 @@ pub struct Walk {
     pub count: usize,
 }
 
+// The numbers of a process in postfix order: a leaf copy, a loop over a leaf, a loop over the flow before it, and the joints of the two parts before them.
+const LEAF: u8 = 0;
+
+const AGAIN: u8 = 1;
+
+const ROUNDS: u8 = 2;
+
+const SEQ: u8 = 3;
+
+const AND: u8 = 4;
+
+const OR: u8 = 5;
+
+const XOR: u8 = 6;
+
+// What a loop is among the kinds of nodes: which of the two loops it is depends on its member.
+const LOOP: u8 = 1;
+
 // What a node is, as a number: a leaf, a loop, or how its parts are joined.
 fn number(kind: Kind) -> u8
     ensures { λ r. ⌜ r ≡ kind-number kind ⌝ }
 {
     match kind {
-        Kind::Flow => 3,
-        Kind::Leaf => 0,
-        Kind::And => 4,
-        Kind::Or => 5,
-        Kind::Xor => 6,
-        Kind::All(_) => 4,
-        Kind::Some(_) => 5,
-        Kind::One(_) => 6,
-        Kind::Loop => 1,
+        Kind::Flow => SEQ,
+        Kind::Leaf => LEAF,
+        Kind::And => AND,
+        Kind::Or => OR,
+        Kind::Xor => XOR,
+        Kind::All(_) => AND,
+        Kind::Some(_) => OR,
+        Kind::One(_) => XOR,
+        Kind::Loop => LOOP,
     }
 }
 
@@ -101,10 +119,10 @@ fn part(
         node: i + 1,
         count: s.count,
     };
-    if kinds[i] == 0 {
-        return add(codes, 0, inside);
+    if kinds[i] == LEAF {
+        return add(codes, LEAF, inside);
     }
-    if kinds[i] == 1 {
+    if kinds[i] == LOOP {
         return looped(kinds, sizes, depths, left - 1, inside, codes);
     }
     let first = part(kinds, sizes, depths, left - 1, inside, codes);
@@ -124,16 +142,16 @@ fn looped(
 {
     let i = s.node;
     if i < kinds.len() {
-        if kinds[i] == 0 {
+        if kinds[i] == LEAF {
             let after = Walk {
                 node: i + 1,
                 count: s.count,
             };
-            return add(codes, 1, after);
+            return add(codes, AGAIN, after);
         }
     }
     let t = part(kinds, sizes, depths, left, s, codes);
-    add(codes, 2, t)
+    add(codes, ROUNDS, t)
 }
 
 // How many parts of node i may follow its first.

@@ -1,6 +1,6 @@
 ghost use mathlib.Core.Path.{_≡_};
 ghost use mathlib.Core.List.{[], _∷_};
-ghost use Prim.Native.Nat.{_+_, _*_, _-_, _≤_, _<_, _%_, _/_, _^_};
+ghost use Prim.Native.Nat.{_+_, _*_, _≤_, _<_};
 ghost use lib.ListN.{length, getD, set};
 ghost use Rattle.guards.specs.Words.{put-word, put-rows};
 ghost use Rattle.guards.specs.Pieces.{event-piece, again-piece, rounds-piece, both-piece, one-piece, settling, settled-row, or-piece};
@@ -42,6 +42,24 @@ const EITHER: usize = 3221225472;
 
 // Where left stands in a row.
 const SIDE: usize = 32768;
+
+// Where the guard row and the first cleared bit stand in an event record.
+const GUARD: usize = 262144;
+
+const RUN: usize = 512;
+
+// The numbers of a process in postfix order that have a meaning of their own here; the others join two parts in order, or both.
+const LEAF: u8 = 0;
+
+const AGAIN: u8 = 1;
+
+const ROUNDS: u8 = 2;
+
+const SEQ: u8 = 3;
+
+const OR: u8 = 5;
+
+const XOR: u8 = 6;
 
 fn narrow(x: usize) -> u16
     requires { ⌜ x < 65536 ⌝ }
@@ -291,19 +309,19 @@ fn part(out: &mut [u8], base: usize, op: u8, k: usize, e: usize, q: Mark, p: Mar
     requires { ⌜ (base ≤ 2052) × (k < 11900) × (e < 2048) ⌝ }
     ensures { λ r. ⌜ Makes (piece-of op k e q p) base k (now (out .entry)) r (now (out .exit)) ⌝ }
 {
-    if op == 0 {
+    if op == LEAF {
         return event(out, base, k, e);
     }
-    if op == 1 {
+    if op == AGAIN {
         return again(out, base, k, e);
     }
-    if op == 2 {
+    if op == ROUNDS {
         return rounds(out, base, k, e, q);
     }
-    if op == 5 {
+    if op == OR {
         return some(out, base, k, p, q);
     }
-    if op == 6 {
+    if op == XOR {
         return one(out, base, k, p, q);
     }
     both(out, base, k, p, q)
@@ -338,10 +356,10 @@ fn moved(op: u8, top: usize) -> usize
     requires { ⌜ top < 65536 ⌝ }
     ensures { λ r. ⌜ (r ≡ moved-of op top) × (r ≤ top + 5) ⌝ }
 {
-    if op == 2 {
+    if op == ROUNDS {
         return top;
     }
-    if 2 < op {
+    if ROUNDS < op {
         return top + 5;
     }
     if top < 5 {
@@ -377,7 +395,7 @@ fn ups(
         put(xs, i, made.x);
         put(ys, i, made.y);
         rows = made.rows;
-        if op < 3 {
+        if op < SEQ {
             e += 1;
         }
         i += 1;
@@ -395,12 +413,12 @@ fn down_rows(out: &mut [u8], base: usize, op: u8, k: usize, m: u16, x: u16, y: u
     ensures { λ r. ⌜ (r ≡ k + length (down-words op m x y)) × (r ≤ k + 2) ⌝ }
     ensures { λ _. ⌜ now (out .exit) ≡ put-rows base k (down-words op m x y) (now (out .entry)) ⌝ }
 {
-    if (op == 3) | (op == 6) {
+    if (op == SEQ) | (op == XOR) {
         row(out, base, k, both_row(m, x));
         row(out, base, k + 1, both_row(m, y));
         return k + 2;
     }
-    if (op == 0) | (op == 2) {
+    if (op == LEAF) | (op == ROUNDS) {
         row(out, base, k, both_row(m, x));
         return k + 1;
     }
@@ -412,15 +430,15 @@ fn event_record(op: u8, k: usize, m: u16, y: u16, e: usize) -> usize
     requires { ⌜ (k < 65536) × (e < 2048) ⌝ }
     ensures { λ r. ⌜ r ≡ down-record op k m y e ⌝ }
 {
-    if op == 0 {
-        return k * 262144;
+    if op == LEAF {
+        return k * GUARD;
     }
-    if op == 1 {
-        return wide(m) * 262144;
+    if op == AGAIN {
+        return wide(m) * GUARD;
     }
     let first = wide(y);
     let count = if e < first { 0 } else { e - first };
-    k * 262144 + first * 512 + count
+    k * GUARD + first * RUN + count
 }
 
 // The rows by which the parts of a number may go on; answers where the latest of them stands.
@@ -429,14 +447,14 @@ fn split(mays: &mut [u16], op: u8, k: usize, m: u16, top: usize) -> usize
     ensures { λ r. ⌜ (r ≡ may-top op top) × (r ≤ top + 1) ⌝ }
     ensures { λ _. ⌜ now (mays .exit) ≡ may-rows op k m top (now (mays .entry)) ⌝ }
 {
-    if op < 2 {
+    if op < ROUNDS {
         return top + 1;
     }
-    if op == 2 {
+    if op == ROUNDS {
         return top;
     }
     let next = if top == 0 { 0 } else { top - 1 };
-    if (op == 3) | (op == 6) {
+    if (op == SEQ) | (op == XOR) {
         put(mays, top, narrow(k + 1));
         put(mays, next, narrow(k));
         return next;
@@ -469,7 +487,7 @@ fn downs(
         let m = number(mays, top);
         let y = number(ys, left);
         let next = down_rows(out, base, op, rows, m, number(xs, left), y);
-        if op < 3 {
+        if op < SEQ {
             e = if e == 0 { 0 } else { e - 1 };
             put_word(out, 4 + 4 * e, event_record(op, rows, m, y, e));
         }
