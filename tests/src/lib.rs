@@ -1,4 +1,5 @@
-//! A reader and printer of diagrams, written from document 01 alone.
+//! A reader and printer of diagrams and their meaning, written from document 01
+//! alone.
 //!
 //! The text is cut into tokens, the tokens are made into an owned tree by
 //! recursive descent, and the rules beyond grammar are looked at on the
@@ -15,8 +16,9 @@
 //!   proved translation and runs against the reference's meaning of drawings.
 //! - `ADL_ARCHIVE=1 cargo run --release --bin bench`: both timed.
 //!
-//! The last three link ../target/staticlib/libharness.a, which `rt staticlib
-//! harness` makes in the directory above.
+//! The last three link the archives libharness.a and libfirmware.a in
+//! ../target/staticlib, which `rt staticlib harness` and `rt staticlib firmware`
+//! make in the directory above.
 
 pub mod drawings;
 pub mod generate;

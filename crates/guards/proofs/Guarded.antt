@@ -1,6 +1,6 @@
 -- The table that the plan of a process makes says what the process says.
 use mathlib.Core.Path.{_≡_, refl, sym, ap, _∙_}
-use mathlib.Core.Bool.{Bool, true, false, not, _&&_, _||_}
+use mathlib.Core.Bool.{Bool, true, false, not, _&&_, _||_, or-not-self}
 use mathlib.Core.List.{List, [], _∷_, _++_}
 use Prim.Native.Nat.{ℕ, suc, _+_, _-_, _≤_, _<_, _^_}
 use native.Mathlib.Nat.{zero-add}
@@ -29,10 +29,6 @@ use Rattle.guards.proofs.Tabled.{Kept, size-of, told, head, table-lengt
 all-small : (rs : List ℕ) → ((i : ℕ) → i < length rs → getD rs i 0 < 2 ^ 32) → Small rs
 all-small [] f = tt
 all-small (r ∷ rs) f = (f 0 (omega arith), all-small rs (λ i h. f (suc i) (omega arith)))
-
-either-way : (b : Bool) → (b || not b) ≡ true
-either-way true = refl
-either-way false = refl
 
 and-same : (b : Bool) → (b && b) ≡ b
 and-same true = refl
@@ -94,7 +90,7 @@ module _ (p : Process) (n : ℕ) (numbered : Numbered p 0) (its-size : size p �
     unfolding Obeys
     always =
         obeys .1 .1 .0 ∙ (either-says s v 0 1 (omega arith) (omega arith)
-        ∙ (ap (λ (b : Bool). v 0 || b) (obeys .1 .0 ∙ not-says s v 0 (omega arith)) ∙ either-way (v 0)))
+        ∙ (ap (λ (b : Bool). v 0 || b) (obeys .1 .0 ∙ not-says s v 0 (omega arith)) ∙ or-not-self (v 0)))
 
     after-constants : Obeys s v 3 (up p 3 .words ++ (down p 3 (middle p) 2 .words ++ (last ∷ [])))
     after-constants = obeys-split s v 0 constants _ obeys .1
