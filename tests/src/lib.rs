@@ -23,6 +23,7 @@
 pub mod drawings;
 pub mod generate;
 pub mod meaning;
+pub mod plain;
 #[cfg(adl_archive)]
 pub mod proved;
 

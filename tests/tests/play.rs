@@ -10,6 +10,9 @@
 //! of the first; each later drawing has the next seed, so that a failing case
 //! is played again with its own seed and ADL_CASES=1. Fixed drawings are
 //! played at each call.
+//!
+//! The plain translation, which the benchmark takes for comparison, is played
+//! in the same way on some hundred drawings.
 #![cfg(adl_archive)]
 
 use reference::drawings::{accepted_text, all_nestings, nestings, Size};
@@ -18,13 +21,14 @@ use reference::generate::{
     root_with_leaves, Random, T, U,
 };
 use reference::meaning::{holds, runs_of, Book, Copy, Diagram, FINISHED, NOT_FINISHED, NOT_NOW, NO_EVENT, TAKEN};
-use reference::{proved, read, Kind, Summary};
+use reference::{plain, proved, read, Kind, Summary};
 use std::collections::BTreeMap;
 use std::env;
 use std::fmt;
 use std::hint::black_box;
 
 const CASES: u64 = 4_000;
+const PLAIN_CASES: u64 = 300;
 /// The shortest buffer that translation takes.
 const TABLE_LIMIT: usize = 51_204;
 const ROWS_FOR_EACH_COPY: usize = 16;
@@ -50,6 +54,54 @@ fn proved_runs_agree_with_the_book() {
     counts.show();
     if cases >= CASES {
         counts.assert_all_met();
+    }
+}
+
+/// The baseline of the benchmark does the job that it is timed for.
+#[test]
+fn plain_translation_does_the_job() {
+    // Refusals are the reference reader's own: some of the edge texts will do.
+    for (at, text) in edge_texts().iter().enumerate().step_by(20) {
+        plain_table(text, &format!("edge text {at}"));
+    }
+    for (at, text) in fixed_drawings().iter().enumerate() {
+        play_plain(text.as_bytes(), &format!("fixed drawing {at}"), &mut Random::new(at as u64));
+    }
+    for seed in 1..=PLAIN_CASES {
+        let random = &mut Random::new(seed);
+        let size = *random.pick(&[Size::Small(8), Size::Small(14), Size::Middle, Size::Deep, Size::Full]);
+        let text = accepted_text(size, random);
+        play_plain(&text, &format!("seed {seed}"), random);
+    }
+}
+
+fn play_plain(text: &[u8], source: &str, random: &mut Random) {
+    let table = plain_table(text, source).expect("the drawing is accepted");
+    let diagram = Diagram::of(text).expect("the drawing is accepted");
+    for _ in 0..lists_for(diagram.events.len()) {
+        let calls = random_calls(&diagram, random);
+        if let Some(difference) = difference(&table, &diagram, &calls) {
+            let short = shorten(&table, &diagram, &calls);
+            panic!("{source}: b\"{}\"\n{difference}\ncalls, shortened: {short:?}", text.escape_ascii());
+        }
+    }
+}
+
+fn plain_table(text: &[u8], source: &str) -> Option<Vec<u8>> {
+    let mut table = None;
+    for length in [0, TABLE_LIMIT - 1, TABLE_LIMIT, TABLE_LIMIT + 1] {
+        table = translated_by(plain_number, text, length).unwrap_or_else(|difference| {
+            panic!("{source}: b\"{}\" to {length} bytes: {difference}", text.escape_ascii())
+        });
+    }
+    table
+}
+
+/// The plain translation's answer, as the C function would give it.
+fn plain_number(text: &[u8], out: &mut [u8]) -> u64 {
+    match plain::translate(text, out) {
+        Ok(length) => length as u64,
+        Err(refusal) => proved::refusal_number(refusal),
     }
 }
 
@@ -129,7 +181,7 @@ fn translate_or_fail(text: &[u8], source: &str, counts: &mut Counts) -> Option<V
     // Another length for each text, all of them long enough.
     let longer = TABLE_LIMIT + text.len() % 97;
     for length in [0, TABLE_LIMIT - 1, TABLE_LIMIT, longer] {
-        match translated(text, length) {
+        match translated_by(proved::translate, text, length) {
             Ok(written) => table = written,
             Err(difference) => {
                 println!("failing text, {source}: b\"{}\"", text.escape_ascii());
@@ -145,13 +197,16 @@ fn translate_or_fail(text: &[u8], source: &str, counts: &mut Counts) -> Option<V
     table
 }
 
+/// Writes a table to a lent buffer, and answers as the C function does.
+type Translate = fn(&[u8], &mut [u8]) -> u64;
+
 /// The table, none if the text is turned away as it should be; or what is
 /// wrong.
-fn translated(text: &[u8], length: usize) -> Result<Option<Vec<u8>>, String> {
+fn translated_by(translate: Translate, text: &[u8], length: usize) -> Result<Option<Vec<u8>>, String> {
     let lent_text = lent(text, b'x');
     let before = pattern(length + MARGIN, text.len());
     let mut after = before.clone();
-    let answer = proved::translate(&lent_text[MARGIN..MARGIN + text.len()], &mut after[..length]);
+    let answer = translate(&lent_text[MARGIN..MARGIN + text.len()], &mut after[..length]);
     // The archive is outside what the compiler knows: look at the bytes anew.
     if black_box(&lent_text) != &lent(text, b'x') {
         return Err("the text itself was changed".to_string());

@@ -1,5 +1,6 @@
-//! Times the reference against the proved library, in the same run. Built
-//! with ADL_ARCHIVE=1 only; run it with --release.
+//! Times the reference against the proved library, in the same run: reading,
+//! printing, and translation by plain.rs. Built with ADL_ARCHIVE=1 only; run it
+//! with --release.
 
 #[cfg(not(adl_archive))]
 fn main() {
@@ -15,14 +16,19 @@ fn main() {
 #[cfg(adl_archive)]
 mod bench {
     use reference::generate::{
-        every_constructor, longest_drawing, many_copies, pad_between, root_with_leaves, T,
+        every_constructor, longest_drawing, many_copies, many_events, pad_between, root_with_leaves, T,
     };
+    use reference::plain::{self, TABLE_LIMIT};
     use reference::{print, proved, read, TEXT_LIMIT};
+    use std::array::from_fn;
     use std::hint::black_box;
     use std::time::{Duration, Instant};
 
-    const ROUNDS: usize = 50;
-    const ROUND_TIME: Duration = Duration::from_millis(8);
+    // Many short rounds: on a busy machine some of them are left in peace.
+    const ROUNDS: usize = 384;
+    const ROUND_TIME: Duration = Duration::from_millis(1);
+    const STACK_PLACES: usize = 24;
+    const PASSES: usize = 4;
 
     pub fn main() {
         if cfg!(debug_assertions) {
@@ -37,6 +43,7 @@ mod bench {
             compare_print(title, &text);
         }
         println!("best of {ROUNDS} rounds each; a ratio under 1 means the proved library is faster");
+        translations();
     }
 
     fn texts() -> Vec<(&'static str, Vec<u8>)> {
@@ -54,9 +61,10 @@ mod bench {
         let answer = proved::read_number(&read(text));
         assert_eq!(proved::read(text), answer, "{title}: the two disagree");
         assert!(answer >> 32 == 0, "{title}: the text should be accepted");
-        let times = best_times(|| drop(black_box(read(black_box(text)))), || {
-            black_box(proved::read(black_box(text)));
-        });
+        let times = best_times([
+            &mut || used(read(black_box(text))),
+            &mut || used(proved::read(black_box(text))),
+        ]);
         show(title, text, "read", times);
     }
 
@@ -65,23 +73,42 @@ mod bench {
         let printed = print(text, TEXT_LIMIT).expect("the text is accepted");
         assert_eq!(proved::print(text, &mut buffer), printed.len() as u64);
         assert_eq!(buffer[..printed.len()], printed, "{title}: the two disagree");
-        let times = best_times(|| drop(black_box(print(black_box(text), TEXT_LIMIT))), || {
-            black_box(proved::print(black_box(text), black_box(&mut buffer)));
-        });
+        let times = best_times([
+            &mut || used(print(black_box(text), TEXT_LIMIT)),
+            &mut || used(proved::print(black_box(text), black_box(&mut buffer))),
+        ]);
         show(title, text, "print", times);
     }
 
-    /// The best time of one call of each, in nanoseconds. The two take turns,
-    /// so that both meet the same machine.
-    fn best_times(mut reference: impl FnMut(), mut proved: impl FnMut()) -> (f64, f64) {
-        let reference_calls = calls_per_round(&mut reference);
-        let proved_calls = calls_per_round(&mut proved);
-        let mut best = (f64::INFINITY, f64::INFINITY);
-        for _ in 0..ROUNDS {
-            best.0 = best.0.min(time_of(reference_calls, &mut reference));
-            best.1 = best.1.min(time_of(proved_calls, &mut proved));
+    /// For the compiler the answer is used.
+    fn used<V>(answer: V) {
+        black_box(answer);
+    }
+
+    /// The best time of one call of each, in nanoseconds. They take turns, so
+    /// that all meet the same machine.
+    fn best_times<const N: usize>(mut calls: [&mut dyn FnMut(); N]) -> [f64; N] {
+        let counts = calls.each_mut().map(calls_per_round);
+        let mut best = [f64::INFINITY; N];
+        for round in 0..ROUNDS {
+            for at in 0..N {
+                let time = down_the_stack(round % STACK_PLACES, &mut || time_of(counts[at], &mut calls[at]));
+                best[at] = best[at].min(time);
+            }
         }
         best
+    }
+
+    /// Times from a place so many steps down the stack. The place changes some
+    /// times by a fifth and is another in each run; so all take the best of
+    /// many places.
+    #[inline(never)]
+    fn down_the_stack(steps: usize, time: &mut dyn FnMut() -> f64) -> f64 {
+        let step = [0u8; 100];
+        black_box(&step);
+        let time = if steps == 0 { time() } else { down_the_stack(steps - 1, time) };
+        black_box(&step);
+        time
     }
 
     /// How many calls fill a round, found by doubling.
@@ -102,7 +129,7 @@ mod bench {
         start.elapsed().as_nanos() as f64 / f64::from(calls)
     }
 
-    fn show(title: &str, text: &[u8], call: &str, (reference, proved): (f64, f64)) {
+    fn show(title: &str, text: &[u8], call: &str, [reference, proved]: [f64; 2]) {
         let per_byte = |time: f64| time / text.len() as f64;
         println!(
             "{title:<32} {:>6} {call:>6} {:>15.2} {:>12.2} {:>17.2}",
@@ -110,6 +137,105 @@ mod bench {
             per_byte(reference),
             per_byte(proved),
             proved / reference
+        );
+    }
+
+    // -----------------------------------------------------------------------
+    // Translation
+    // -----------------------------------------------------------------------
+
+    /// A number of the proved library, and that of plain Rust.
+    struct Pair {
+        proved: f64,
+        plain: f64,
+    }
+
+    fn translations() {
+        println!();
+        println!("{:<60} {:>13} {:>15} {:>13} {:>15}", "", "reading/time", "rows/copy", "rows", "time, ns");
+        let pair = "proved  plain";
+        println!(
+            "{:<32} {:>6} {:>6} {:>13} {pair:>13} {pair:>15} {pair:>13} {pair:>15}",
+            "text to table", "bytes", "copies", "proved/plain"
+        );
+        let drawings = drawings();
+        for ((title, text), times) in drawings.iter().zip(translation_times(&drawings)) {
+            show_translation(title, text.as_bytes(), times);
+        }
+        println!("plain: a translator in plain Rust after the reference's reader; rows are each one's own choice");
+        println!("reading/time: the time of reading alone, by each one's own reader, as part of the whole");
+        println!("best of {} rounds each", PASSES * ROUNDS);
+    }
+
+    fn drawings() -> Vec<(&'static str, String)> {
+        vec![
+            ("T", T.to_string()),
+            ("root with 255 leaves", root_with_leaves(255)),
+            ("768 copies", many_copies(8)),
+            ("512 events", many_events(16)),
+        ]
+    }
+
+    /// Times of the whole translation and of reading alone.
+    struct Times {
+        whole: Pair,
+        reading: Pair,
+    }
+
+    /// The drawings take turns too, so that each meets the machine at several
+    /// moments.
+    fn translation_times(drawings: &[(&str, String)]) -> Vec<Times> {
+        let mut best = vec![[f64::INFINITY; 4]; drawings.len()];
+        for _ in 0..PASSES {
+            for ((_, text), best) in drawings.iter().zip(&mut best) {
+                let times = times_of_a_pass(text.as_bytes());
+                *best = from_fn(|at| best[at].min(times[at]));
+            }
+        }
+        let pair = |proved, plain| Pair { proved, plain };
+        best.iter().map(|&[a, b, c, d]| Times { whole: pair(a, b), reading: pair(c, d) }).collect()
+    }
+
+    fn times_of_a_pass(text: &[u8]) -> [f64; 4] {
+        let mut proved_table = vec![0; TABLE_LIMIT];
+        let mut plain_table = vec![0; TABLE_LIMIT];
+        best_times([
+            &mut || used(proved::translate(black_box(text), black_box(&mut proved_table))),
+            &mut || used(plain::translate(black_box(text), black_box(&mut plain_table))),
+            &mut || used(proved::read(black_box(text))),
+            &mut || used(read(black_box(text))),
+        ])
+    }
+
+    fn rows(text: &[u8]) -> Pair {
+        let mut table = vec![0; TABLE_LIMIT];
+        let length = proved::translate(text, &mut table) as usize;
+        let proved = rows_of(&table[..length]);
+        let length = plain::translate(text, &mut table).expect("the text is accepted");
+        Pair { proved, plain: rows_of(&table[..length]) }
+    }
+
+    /// R of a table, once it is found sound.
+    fn rows_of(table: &[u8]) -> f64 {
+        assert_eq!(proved::check(table), 0, "the table should be sound");
+        f64::from(u16::from_be_bytes([table[2], table[3]]))
+    }
+
+    fn show_translation(title: &str, text: &[u8], times: Times) {
+        let copies = read(text).expect("the text is accepted").copies;
+        let rows = rows(text);
+        println!(
+            "{title:<32} {:>6} {copies:>6} {:>13.2} {:>6.2} {:>6.2} {:>8.2} {:>6.2} {:>6} {:>6} {:>8.0} {:>6.0}",
+            text.len(),
+            times.whole.proved / times.whole.plain,
+            times.reading.proved / times.whole.proved,
+            times.reading.plain / times.whole.plain,
+            rows.proved / copies as f64,
+            rows.plain / copies as f64,
+            rows.proved,
+            rows.plain,
+            times.whole.proved,
+            times.whole.plain
         );
     }
 }
