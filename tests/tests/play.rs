@@ -21,7 +21,8 @@ use reference::generate::{
     root_with_leaves, Random, T, U,
 };
 use reference::meaning::{holds, runs_of, Book, Copy, Diagram, FINISHED, NOT_FINISHED, NOT_NOW, NO_EVENT, TAKEN};
-use reference::{plain, proved, read, Kind, Summary};
+use reference::plain::{self, TABLE_LIMIT};
+use reference::{proved, read, Kind, Summary};
 use std::collections::BTreeMap;
 use std::env;
 use std::fmt;
@@ -29,8 +30,6 @@ use std::hint::black_box;
 
 const CASES: u64 = 4_000;
 const PLAIN_CASES: u64 = 300;
-/// The shortest buffer that translation takes.
-const TABLE_LIMIT: usize = 51_204;
 const ROWS_FOR_EACH_COPY: usize = 16;
 const RECORD: usize = 64;
 /// Bytes around what is lent, which nobody may look at or change.

@@ -1,11 +1,10 @@
 -- Laws of a lent list after values were written over its front, for every crate that writes one.
 use mathlib.Core.Path.{_≡_, refl, sym, ap, _∙_}
-use mathlib.Core.List.{List, [], _∷_}
+use mathlib.Core.List.{List, [], _∷_, _++_}
 use Prim.Native.Nat.{ℕ, zero, suc, _≤_, _<_}
 use native.Mathlib.Omega.{arith}
 use lib.ListN.{length, take, drop, getD, set}
-use lib.Seq.{take-all}
-use lib.Seq.{getD-take}
+use lib.Seq.{take-all, take-suc, length-take-le, getD-take}
 use Rattle.base.specs.Fill.{fill}
 
 -- A lent list keeps its length.
@@ -39,13 +38,16 @@ unfolding fill
 fill-none [] = refl
 fill-none (x ∷ xs) = refl
 
-pub fill-more : (xs vs : List ℕ) (n : ℕ) → n < length vs → set (fill xs (take n vs)) n (getD vs n 0) ≡ fill xs (take (suc n) vs)
+pub fill-next : (xs vs : List ℕ) (v : ℕ) → set (fill xs vs) (length vs) v ≡ fill xs (vs ++ (v ∷ []))
 unfolding fill
-fill-more xs [] n h = let z : ⊥ = omega arith in absurd z
-fill-more [] (v ∷ vs) zero h = refl
-fill-more (x ∷ xs) (v ∷ vs) zero h = rw (fill-none xs)
-fill-more [] (v ∷ vs) (suc n) h = refl
-fill-more (x ∷ xs) (v ∷ vs) (suc n) h = rw (fill-more xs vs n (omega arith))
+fill-next [] vs v = refl
+fill-next (x ∷ xs) [] v = rw (fill-none xs)
+fill-next (x ∷ xs) (w ∷ vs) v = rw (fill-next xs vs v)
+
+-- The same where the values are those of a list, in its order.
+pub fill-more : (xs vs : List ℕ) (n : ℕ) → n < length vs → set (fill xs (take n vs)) n (getD vs n 0) ≡ fill xs (take (suc n) vs)
+fill-more xs vs n h =
+    rw (take-suc vs n 0 h) (rw (length-take-le n vs (omega arith)) at (fill-next xs (take n vs) (getD vs n 0)))
 
 -- Values as many as the list has leave nothing of it.
 pub fill-whole : (xs vs : List ℕ) → length vs ≡ length xs → fill xs vs ≡ vs

@@ -1,18 +1,12 @@
 -- Numbers written over the front of the lent bytes, one after the other.
-use mathlib.Core.Path.{_≡_, refl, sym, ap₂}
+use mathlib.Core.Path.{_≡_, sym, ap₂}
 use mathlib.Core.List.{List, [], _∷_, _++_}
 use Prim.Native.Nat.{ℕ, _<_}
-use lib.ListN.{length, set, length-append}
+use lib.ListN.{length, length-append}
 use borrow.Author.Tests.{lt-ltb}
 use Rattle.base.specs.Fill.{fill}
-use Rattle.base.proofs.Filled.{fill-none}
+use Rattle.base.proofs.Filled.{fill-next}
 use Rattle.expansion.specs.Walks.{Place, place, add}
-
-fill-next : (xs ws : List ℕ) (c : ℕ) → set (fill xs ws) (length ws) c ≡ fill xs (ws ++ (c ∷ []))
-unfolding fill
-fill-next [] ws c = refl
-fill-next (x ∷ xs) [] c = rw (fill-none xs)
-fill-next (x ∷ xs) (v ∷ ws) c = rw (fill-next xs ws c)
 
 -- The walk stands at a node, and has written these numbers over the lent bytes.
 abbrev pub written : List ℕ → ℕ → List ℕ → Place

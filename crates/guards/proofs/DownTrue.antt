@@ -17,7 +17,7 @@ use Rattle.process.specs.Postfix.{joint-code}
 use Rattle.process.proofs.Numbered.{Numbered, size, interval}
 use Rattle.table.specs.Fields.{guard-of}
 use Rattle.guards.specs.Words.{both-row, event-record}
-use Rattle.guards.specs.Pieces.{Piece, rounds-piece, join-piece}
+use Rattle.guards.specs.Pieces.{rounds-piece, join-piece}
 use Rattle.guards.specs.declared.Mark.{Mark}
 use Rattle.guards.proofs.Plan.{Plan, Guards, joined, up, later-may, earlier-may, joint-words, down, says, Obeys, Marks, Below}
 use Rattle.guards.proofs.Decoded.{both-says, record-fields}

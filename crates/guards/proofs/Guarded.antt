@@ -1,6 +1,6 @@
 -- The table that the plan of a process makes says what the process says.
 use mathlib.Core.Path.{_≡_, refl, sym, ap, _∙_}
-use mathlib.Core.Bool.{Bool, true, false, not, _&&_, _||_, or-not-self}
+use mathlib.Core.Bool.{Bool, true, false, _&&_, _||_, or-not-self}
 use mathlib.Core.List.{List, [], _∷_, _++_}
 use Prim.Native.Nat.{ℕ, suc, _+_, _-_, _≤_, _<_, _^_}
 use native.Mathlib.Nat.{zero-add}
@@ -11,7 +11,7 @@ use Rattle.process.specs.Process.{Process}
 use Rattle.process.specs.Bits.{Bits, clears}
 use Rattle.process.specs.Guards.{complete, enabled}
 use Rattle.process.proofs.Numbered.{size, Numbered, interval}
-use Rattle.process.proofs.Short.{size-some}
+use Rattle.process.proofs.Cleared.{size-positive}
 use Rattle.table.specs.Fields.{rows, guard-of}
 use Rattle.book.specs.Tells.{Tells}
 use Rattle.guards.specs.Words.{both-row}
@@ -65,7 +65,7 @@ module _ (p : Process) (n : ℕ) (numbered : Numbered p 0) (its-size : size p �
       let tail = both-first n (middle p + length (down p 3 (middle p) 2 .words)) [] (up p 3 .mark .done) (up p 3 .mark .done) (omega (arith, done-below)) (omega (arith, done-below)) down-few (no-rows n _) in
       let rest = lower-join n (middle p) (down p 3 (middle p) 2 .words) _ (down-lower n p 3 (middle p) 2 0 numbered below-n few (omega arith) (omega arith) (omega arith) down-few) tail in
       let body = lower-join n 3 (up p 3 .words) _ (up-lower n p 3 0 numbered below-n few (omega arith) up-few) rest in
-      bit-first n 0 _ 0 (omega (arith, its-size, size-some p)) few
+      bit-first n 0 _ 0 (omega (arith, its-size, size-positive p)) few
       (not-first n 1 _ 0 (omega arith) (omega arith) (either-first n 2 _ 0 1 (omega arith) (omega arith) (omega arith) body))
 
   record-kept : (e : ℕ) → e < n → Kept-record (length (rows-of p)) (clears p) (getD (records-of p) e 0) (0 + e)
@@ -73,7 +73,7 @@ module _ (p : Process) (n : ℕ) (numbered : Numbered p 0) (its-size : size p �
 
   kept : Kept n (rows-of p) (records-of p)
   kept = record {
-    some = omega (arith, its-size, size-some p);
+    some = omega (arith, its-size, size-positive p);
     few = few;
     rows-some = omega (arith, total);
     rows-few = rows-few;

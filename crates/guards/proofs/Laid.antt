@@ -1,5 +1,5 @@
 -- The whole table, as `lay` writes it: three rows, the two passes, one row more, E and R.
-use mathlib.Core.Path.{_≡_, refl, sym, _∙_}
+use mathlib.Core.Path.{_≡_, refl, sym, ap, _∙_}
 use mathlib.Core.Bool.{Bool, true, false, not, cond, _&&_, _||_}
 use mathlib.Core.List.{List, [], _∷_}
 use Prim.Native.Nat.{ℕ, suc, _+_, _*_, _≤_}
@@ -30,11 +30,8 @@ room-test : (n events l : ℕ) → (leb n 1024 && (leb events 512 && leb 51204 l
 room-test n events l =
     rw (leb-not n 1024, leb-not events 512, leb-not 51204 l) (none-of (ltb 1024 n) (ltb 512 events) (ltb l 51204))
 
-not-of : (b c : Bool) → b ≡ c → not b ≡ not c
-not-of b c q = rw q
-
 has-room : (n events l : ℕ) → cramped n events l ≡ false → (leb n 1024 && (leb events 512 && leb 51204 l)) ≡ true
-has-room n events l f = room-test n events l ∙ not-of (cramped n events l) false f
+has-room n events l f = room-test n events l ∙ ap not f
 
 -- Where there is room the numbers are small.
 pub few : (n events l : ℕ) → cramped n events l ≡ false → (n ≤ 1024) × (events ≤ 512)
@@ -54,7 +51,7 @@ pub laid-nothing : (ops : List ℕ) (events : ℕ) (lent : List ℕ) → cramped
     → (0 ≡ laid-size ops events lent) × (lent ≡ laid-out ops events lent)
 unfolding laid-size laid-out
 laid-nothing ops events lent t =
-    let f = room-test (length ops) events (length lent) ∙ not-of (cramped (length ops) events (length lent)) true t in
+    let f = room-test (length ops) events (length lent) ∙ ap not t in
     (sym (cond-no (room ops events lent) _ _ f), sym (cond-no (room ops events lent) _ _ f))
 
 -- ---- the rows before all others

@@ -15,7 +15,7 @@ use Rattle.guards.specs.Pieces.{Piece, rounds-piece, both-piece, one-pie
 use Rattle.guards.specs.declared.Mark.{Mark}
 use Rattle.guards.proofs.Plan.{up, down, joined, joint-words, later-may, earlier-may, Lower, Below}
 use Rattle.guards.proofs.Decoded.{Fields, bit-fields, not-fields, both-fields, either-fields}
-use Rattle.guards.proofs.Within.{lower-join, below-more, join-length, up-below}
+use Rattle.guards.proofs.Within.{lower-join, below-more, settled-below, join-length, up-below}
 use Rattle.guards.proofs.Mays.{mays-below}
 
 -- ---- one row
@@ -69,9 +69,6 @@ settling-lower : (n k lo : ℕ) (m : Mark) → Below k lo m → k ≤ 16384 → 
 settling-lower n k lo m b c =
     by-cases (eqb (m .settled) 0)
     (λ t. rw t (either-first n k [] (m .done) (m .idle) (b .its-done) (b .its-idle) c (no-rows n (suc k)))) (λ f. rw f (no-rows n k))
-
-settled-below : (k lo : ℕ) (m : Mark) → Below k lo m → settled-row k m < k + length (settling m)
-settled-below k lo m b = by-cases (eqb (m .settled) 0) (λ t. rw t (omega arith)) (λ f. rw f (omega (arith, b .its-settled)))
 
 -- Two parts whose marks are below k, the first row of their joint.
 module _ (n k first second : ℕ) (p q : Mark) (a : Below k first p) (b : Below k second q) where

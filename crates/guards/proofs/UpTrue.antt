@@ -18,7 +18,7 @@ use Rattle.guards.specs.Pieces.{mark, event-piece, again-piece, rounds-p
 use Rattle.guards.specs.declared.Mark.{Mark}
 use Rattle.guards.proofs.Plan.{joined, up, says, Obeys, Marks, Below}
 use Rattle.guards.proofs.Decoded.{bit-says, not-says, both-says, either-says}
-use Rattle.guards.proofs.Within.{obeys-split, below-more, join-length, up-below}
+use Rattle.guards.proofs.Within.{obeys-split, below-more, settled-below, join-length, up-below}
 
 -- A loop over a flow is complete where its body is not begun, and then settled; c is the reset's bit.
 reset-settled : (a c : Bool) → not a ≡ (not a || not (a || c))
@@ -60,9 +60,10 @@ module _ (s : Bits) (v : ℕ → Bool) where
   unfolding begun complete
   rounds-true p r l k lo m small room low t h =
       let c : v k ≡ s r = row-says k _ 0 k h (omega arith) (omega arith) ∙ bit-says s v r (omega arith) in
+      let word : getD (rounds-piece k r m .words) 1 0 ≡ either-row (m .begun) k = omega arith in
       let b : v (k + 1) ≡ (begun p s || s r) =
       row-says k _ 1 (k + 1) h (omega arith) (omega arith)
-      ∙ (either-says s v (m .begun) k (omega arith) (omega arith) ∙ ap₂ _||_ (t .its-begun) c)
+      ∙ (ap (λ w. says w s v) word ∙ (either-says s v (m .begun) k (omega arith) (omega arith) ∙ ap₂ _||_ (t .its-begun) c))
       in
       record {
         its-begun = b;
@@ -123,18 +124,15 @@ module _ (s : Bits) (v : ℕ → Bool) where
         let w : v (k + 2) ≡ ((complete p s || not (begun p s)) && (complete q s || not (begun q s))) =
         row-says k _ 2 (k + 2) h (omega arith) (omega arith) ∙ (both-says s v x y (omega arith) (omega arith) ∙ ap₂ _&&_ c d)
         in
+        let word : getD (some-piece k m n x y .words) 3 0 ≡ both-row k (k + 2) = omega arith in
         record {
           its-begun = one-begun _ h;
           its-idle = none-begun _ h;
           its-done =
               row-says k _ 3 (k + 3) h (omega arith) (omega arith)
-              ∙ (both-says s v k (k + 2) (omega arith) (omega arith) ∙ ap₂ _&&_ (one-begun _ h) w);
+              ∙ (ap (λ x. says x s v) word ∙ (both-says s v k (k + 2) (omega arith) (omega arith) ∙ ap₂ _&&_ (one-begun _ h) w));
           its-settled = λ z. w ∙ some-settled (begun p s) (begun q s) (complete p s) (complete q s);
         }
-
-  -- The row that settles a part is written by then.
-  settled-low : (k lo : ℕ) (m : Mark) → Below k lo m → settled-row k m < k + length (settling m)
-  settled-low k lo m a = by-cases (eqb (m .settled) 0) (λ e. rw e (omega arith)) (λ e. rw e (omega arith))
 
   -- The same, with the rows that settle the parts.
   choice-true : (p q : Process) (k lo hi : ℕ) (m n : Mark) → k + length (or-piece k m n .words) ≤ 16384 → Below k lo m → Below k hi n
@@ -150,9 +148,9 @@ module _ (s : Bits) (v : ℕ → Bool) where
       let w = obeys-split s v k (settling m) (settling n) (u .0) in
       let g : k + length (settling m ++ settling n) ≡ i + length (settling n) = omega arith in
       let c = below-more k i hi n (omega arith) b in
-      let f = settled-low k lo m a in
+      let f = settled-below k lo m a in
       some-true p q (i + length (settling n)) lo hi m n (omega arith)
-      (below-more k _ lo m (omega arith) a) (below-more k _ hi n (omega arith) b) t r x y (omega arith) (omega arith) (settled-low i hi n c)
+      (below-more k _ lo m (omega arith) a) (below-more k _ hi n (omega arith) b) t r x y (omega arith) (omega arith) (settled-below i hi n c)
       (settled-true p k lo m (omega arith) a t (w .0)) (settled-true q i hi n (omega arith) c r (w .1)) (rw g at (u .1))
 
   -- Any joint.

@@ -2,15 +2,17 @@
 use mathlib.Core.Path.{_≡_, refl}
 use mathlib.Core.Bool.{Bool}
 use mathlib.Core.List.{List, [], _∷_, _++_}
-use Prim.Native.Nat.{ℕ, suc, _+_, _≤_}
+use Prim.Native.Nat.{ℕ, suc, _+_, _≤_, _<_}
 use native.Mathlib.Omega.{arith}
 use native.Mathlib.Nat.{add-zero}
+use lib.Dec.{eqb}
 use lib.ListN.{length, length-append}
+use Rattle.base.proofs.Truth.{by-cases}
 use Rattle.process.specs.Process.{Joint, seq, and, or, xor, Process, event, join, again, rounds}
 use Rattle.process.specs.Bits.{Bits}
 use Rattle.process.specs.Postfix.{joint-code}
 use Rattle.process.proofs.Numbered.{Numbered, size}
-use Rattle.guards.specs.Pieces.{mark, rounds-piece, join-piece}
+use Rattle.guards.specs.Pieces.{mark, rounds-piece, settling, settled-row, join-piece}
 use Rattle.guards.specs.declared.Mark.{Mark}
 use Rattle.guards.proofs.Plan.{joined, up, down, Obeys, Lower, Below}
 
@@ -43,6 +45,10 @@ below-more k n lo m h b = record {
   its-first = b .its-first;
 }
 
+-- The row that settles a part is written by then.
+pub settled-below : (k lo : ℕ) (m : Mark) → Below k lo m → settled-row k m < k + length (settling m)
+settled-below k lo m b = by-cases (eqb (m .settled) 0) (λ t. rw t (omega arith)) (λ f. rw f (omega (arith, b .its-settled)))
+
 leaf-below : (k lo e done : ℕ) → 3 ≤ k → done ≤ k → e ≡ lo → Below (k + 2) lo (mark k (k + 1) done 2 e)
 leaf-below k lo e done h d q =
     record { its-begun = omega arith; its-idle = omega arith; its-done = omega arith; its-settled = omega arith; its-first = q }
@@ -57,12 +63,12 @@ three-below k lo e q =
 
 join-below : (j : Joint) (k lo : ℕ) (m n : Mark) → m .first ≡ lo
     → Below (k + length (join-piece (joint-code j) k m n .words)) lo (join-piece (joint-code j) k m n .mark)
-join-below seq k lo m n f = three-below k lo (m .first) f
-join-below and k lo m n f = three-below k lo (m .first) f
+join-below seq k lo m n f = three-below k lo (join-piece (joint-code seq) k m n .mark .first) (omega (arith, f))
+join-below and k lo m n f = three-below k lo (join-piece (joint-code and) k m n .mark .first) (omega (arith, f))
 join-below or k lo m n f =
     rw (length-append, length-append)
     record { its-begun = omega arith; its-idle = omega arith; its-done = omega arith; its-settled = omega arith; its-first = f }
-join-below xor k lo m n f = three-below k lo (m .first) f
+join-below xor k lo m n f = three-below k lo (join-piece (joint-code xor) k m n .mark .first) (omega (arith, f))
 
 -- How many rows a joint has with its parts, from row k on.
 pub join-length : (k : ℕ) (a b c : List ℕ) → k + length (a ++ (b ++ c)) ≡ k + length a + length b + length c

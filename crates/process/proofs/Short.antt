@@ -25,7 +25,3 @@ postfix-short (event n l) = omega arith
 postfix-short (join j p q) = omega (arith, long-join j p q, postfix-short p, postfix-short q)
 postfix-short (again n l) = omega arith
 postfix-short (rounds p r l) = omega (arith, long-rounds p r l, postfix-short p)
-
--- A process has an event.
-pub size-some : (p : Process) → 1 ≤ size p
-size-some p = omega (arith, postfix-short p)
