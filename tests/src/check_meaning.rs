@@ -5,7 +5,7 @@ use crate::drawings::{accepted_text, all_nestings, nestings, Size};
 use crate::generate::{
     edge_texts, every_constructor, many_copies, many_events, random_text, root, root_with_leaves, Random, T, U,
 };
-use crate::meaning::{listing, Book, Diagram, Event, FINISHED, NOT_FINISHED, NOT_NOW, NO_EVENT, TAKEN};
+use crate::meaning::{Book, Diagram, Event, FINISHED, NOT_FINISHED, NOT_NOW, NO_EVENT, TAKEN};
 use crate::{accept, read, Group, Node, Replicator, Shape};
 use std::collections::BTreeSet;
 
@@ -92,18 +92,6 @@ fn numbers_past_the_events() {
         assert_eq!((answer, book.record()[0]), (NO_EVENT, 128), "{event}");
     }
     assert!(!drawing.begins(&[4]) && !drawing.whole(&[3, 4]));
-}
-
-#[test]
-fn listings() {
-    assert_eq!(listing(T.as_bytes()), "events 5 copies 8\n0 take\n1 fill\n2 send\n3 drop\n4 free\n");
-    assert_eq!(listing(U.as_bytes()), "events 4 copies 6\n0 a\n1 b\n2 reset r\n3 c\n");
-    assert_eq!(listing(b""), "refused 5 0\n");
-    assert_eq!(listing(many_events(17).as_bytes()), "refused 11 0\n");
-    let nested = root("all(v:2)(flow(k,v,1)(loop(flow(m,v,1)(one(w:2)(leaf(l))(1)))(0)leaf(n)(1)))(0)leaf(z)(1)");
-    let wanted = "events 9 copies 17\n0 l 0 0\n1 l 0 1\n2 reset m 0\n3 n 0\n\
-                  4 l 1 0\n5 l 1 1\n6 reset m 1\n7 n 1\n8 z\n";
-    assert_eq!(listing(nested.as_bytes()), wanted);
 }
 
 #[test]

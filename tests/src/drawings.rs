@@ -2,7 +2,7 @@
 //! constructor inside every other, small ones and ones at the limits.
 
 use crate::generate::{pad_between, Random};
-use crate::{read, Kind, NodeInfo, TEXT_LIMIT};
+use crate::{read, Kind, NodeInfo, Summary, TEXT_LIMIT};
 
 /// How large a drawing shall be.
 #[derive(Clone, Copy, Debug, PartialEq)]
@@ -310,8 +310,35 @@ impl Maker<'_> {
 }
 
 // ---------------------------------------------------------------------------
-// Which constructor stands inside which
+// What a drawing has that others may not have
 // ---------------------------------------------------------------------------
+
+const LARGE: [&str; 5] = [
+    "drawings with 512 events",
+    "drawings with 768 copies",
+    "drawings with 256 nodes",
+    "drawings with 255 leaves",
+    "drawings of depth 12",
+];
+
+/// All that `traits` can tell.
+pub fn all_traits() -> Vec<String> {
+    LARGE.iter().map(|title| title.to_string()).chain(all_nestings()).collect()
+}
+
+/// At which limits a drawing is, and which constructors stand inside which.
+pub fn traits(summary: &Summary) -> Vec<String> {
+    let leaves = summary.nodes.iter().filter(|node| node.kind == Kind::Leaf).count();
+    let holds = [
+        summary.events == 512,
+        summary.copies == 768,
+        summary.nodes.len() == 256,
+        leaves == 255,
+        summary.nodes.iter().any(|node| node.depth == 12),
+    ];
+    let large = LARGE.iter().zip(holds).filter(|(_, holds)| *holds).map(|(title, _)| title.to_string());
+    large.chain(nestings(&summary.nodes)).collect()
+}
 
 /// The constructors that others may stand in.
 const OUTER: [&str; 7] = ["and", "or", "xor", "all", "some", "one", "loop"];

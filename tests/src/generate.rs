@@ -136,6 +136,21 @@ fn damage_one_byte(text: &mut Vec<u8>, random: &mut Random) {
     }
 }
 
+/// One to three bytes changed, removed or doubled.
+pub fn damaged(mut text: Vec<u8>, random: &mut Random) -> Vec<u8> {
+    for _ in 0..random.within(1, 3) {
+        let at = random.below(text.len());
+        match random.below(4) {
+            0 => text[at] = *random.pick(b"(),:01lf \n!"),
+            1 => text.truncate(at + 1),
+            2 => text.insert(at, text[at]),
+            _ if text.len() > 1 => drop(text.remove(at)),
+            _ => {}
+        }
+    }
+    text
+}
+
 /// Mostly a byte that is not foreign, sometimes one at the edge of a class,
 /// sometimes any.
 fn near_byte(random: &mut Random) -> u8 {
@@ -182,7 +197,8 @@ fn word_of(length: usize, random: &mut Random) -> String {
     (0..length).map(|_| *random.pick(bytes) as char).collect()
 }
 
-fn random_bytes(random: &mut Random) -> Vec<u8> {
+/// Bytes in no order: any, or only ones of the language.
+pub fn random_bytes(random: &mut Random) -> Vec<u8> {
     let length = match random.below(40) {
         0 => random.within(16_380, 16_390),
         1..=10 => random.within(0, 400),

@@ -1,5 +1,5 @@
-//! A reader and printer of diagrams and their meaning, written from document 01
-//! alone.
+//! A reader and printer of diagrams, their listing and their meaning, written
+//! from document 01 alone.
 //!
 //! The text is cut into tokens, the tokens are made into an owned tree by
 //! recursive descent, and the rules beyond grammar are looked at on the
@@ -14,23 +14,33 @@
 //!   texts and from which seed on.
 //! - `ADL_ARCHIVE=1 cargo test --release --test play -- --nocapture`: the
 //!   proved translation and runs against the reference's meaning of drawings.
+//! - `ADL_ARCHIVE=1 cargo test --release --test listing -- --nocapture`: the
+//!   proved listing, name call and values call against the reference.
+//! - `ADL_LISTING=/path/to/program cargo test --test program`: the listing
+//!   program against the reference; needs no archive.
 //! - `ADL_ARCHIVE=1 cargo run --release --bin bench`: both timed.
 //!
-//! The last three link the archives libharness.a and libfirmware.a in
-//! ../target/staticlib, which `rt staticlib harness` and `rt staticlib firmware`
-//! make in the directory above.
+//! With ADL_ARCHIVE=1 the archives libharness.a and libfirmware.a are linked,
+//! which `rt staticlib harness` and `rt staticlib firmware` make in the
+//! directory above, in ../target/staticlib.
 
 pub mod drawings;
 pub mod generate;
+pub mod kit;
+pub mod listing;
 pub mod meaning;
 pub mod plain;
+pub mod plain_listing;
 #[cfg(adl_archive)]
 pub mod proved;
+pub mod worked;
 
 #[cfg(test)]
 mod check_drawings;
 #[cfg(test)]
 mod check_grammar;
+#[cfg(test)]
+mod check_listing;
 #[cfg(test)]
 mod check_meaning;
 
@@ -39,7 +49,8 @@ pub type Refusal = (u8, usize);
 
 /// The longest text that is read, and the shortest buffer for printing.
 pub const TEXT_LIMIT: usize = 16_384;
-const WORD_LIMIT: usize = 24;
+/// The longest word, and the shortest buffer for a name.
+pub const WORD_LIMIT: usize = 24;
 const NODE_LIMIT: usize = 256;
 const DEPTH_LIMIT: usize = 12;
 const REPLICATOR_LIMIT: usize = 3;

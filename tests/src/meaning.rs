@@ -105,24 +105,6 @@ fn count(copy: &Copy) -> usize {
     1 + copy.below.iter().map(count).sum::<usize>()
 }
 
-/// What the listing program prints for a text.
-pub fn listing(text: &[u8]) -> String {
-    match Diagram::of(text) {
-        Ok(diagram) => {
-            let lines: String =
-                diagram.events.iter().enumerate().map(|(number, event)| listed(number, event)).collect();
-            format!("events {} copies {}\n{lines}", diagram.events.len(), diagram.copies)
-        }
-        Err((number, place)) => format!("refused {number} {place}\n"),
-    }
-}
-
-fn listed(number: usize, event: &Event) -> String {
-    let mark = if event.reset { "reset " } else { "" };
-    let values: String = event.values.iter().map(|value| format!(" {value}")).collect();
-    format!("{number} {mark}{}{values}\n", event.name)
-}
-
 // ---------------------------------------------------------------------------
 // Expressions for sets of runs
 // ---------------------------------------------------------------------------

@@ -1,12 +1,16 @@
-//! The proved library, through the C functions of its test archive: three made
+//! The proved library, through the C functions of its test archive: those made
 //! for these tests, and those of the firmware (adl.h) that play a run.
 
+use crate::listing::Values;
 use crate::{Refusal, Summary};
 
 extern "C" {
     fn adl_test_read(text: *const u8, len: usize) -> u64;
     fn adl_test_print(text: *const u8, len: usize, out: *mut u8, out_len: usize) -> u64;
     fn adl_test_translate(text: *const u8, len: usize, out: *mut u8, out_len: usize) -> u64;
+    fn adl_test_list(text: *const u8, len: usize, out: *mut u8, out_len: usize) -> u64;
+    fn adl_test_name(text: *const u8, len: usize, event: u64, out: *mut u8, out_len: usize) -> u64;
+    fn adl_test_values(text: *const u8, len: usize, event: u64) -> u64;
     fn adl_check(table: *const u8, table_len: usize) -> u8;
     fn adl_step(table: *const u8, table_len: usize, record: *mut u8, record_len: usize, event: u64) -> u8;
     fn adl_finished(table: *const u8, table_len: usize, record: *const u8, record_len: usize) -> u8;
@@ -28,6 +32,26 @@ pub fn print(text: &[u8], out: &mut [u8]) -> u64 {
 pub fn translate(text: &[u8], out: &mut [u8]) -> u64 {
     // Pointers and lengths are those of two slices; the second may be written.
     unsafe { adl_test_translate(text.as_ptr(), text.len(), out.as_mut_ptr(), out.len()) }
+}
+
+/// The number of bytes written; 0 where the buffer is under LISTING_LIMIT.
+pub fn list(text: &[u8], out: &mut [u8]) -> u64 {
+    // Pointers and lengths are those of two slices; the second may be written.
+    unsafe { adl_test_list(text.as_ptr(), text.len(), out.as_mut_ptr(), out.len()) }
+}
+
+/// The number of bytes written; 0 for a refusal or where the buffer is under
+/// WORD_LIMIT.
+pub fn name(text: &[u8], event: u64, out: &mut [u8]) -> u64 {
+    // Pointers and lengths are those of two slices; the second may be written.
+    unsafe { adl_test_name(text.as_ptr(), text.len(), event, out.as_mut_ptr(), out.len()) }
+}
+
+/// The mark and the values as `values_number` packs them, or
+/// number * 2^32 + place for a refusal.
+pub fn values(text: &[u8], event: u64) -> u64 {
+    // The pointer and the length are those of one slice, which is only read.
+    unsafe { adl_test_values(text.as_ptr(), text.len(), event) }
 }
 
 /// 0 for a sound table, otherwise the number of the refusal.
@@ -60,6 +84,20 @@ pub fn read_number(answer: &Result<Summary, Refusal>) -> u64 {
 pub fn print_number(answer: &Result<Vec<u8>, Refusal>) -> u64 {
     match answer {
         Ok(bytes) => bytes.len() as u64,
+        Err(refusal) => refusal_number(*refusal),
+    }
+}
+
+/// The reference's answer to the values call, as the C function would give it:
+/// reset * 2^24 + count * 2^18 + v0 * 2^12 + v1 * 2^6 + v2, a value that is not
+/// there being 0.
+pub fn values_number(answer: &Result<Values, Refusal>) -> u64 {
+    match answer {
+        Ok(values) => {
+            let value = |at: usize| values.list.get(at).map_or(0, |&value| value as u64);
+            let packed = value(0) << 12 | value(1) << 6 | value(2);
+            u64::from(values.reset) << 24 | (values.list.len() as u64) << 18 | packed
+        }
         Err(refusal) => refusal_number(*refusal),
     }
 }

@@ -7,14 +7,10 @@
 #![cfg(adl_archive)]
 
 use reference::generate::{edge_texts, random_text};
+use reference::kit::{number_from, shorten, LentBuffer, LentText};
 use reference::{print, proved, read};
-use std::env;
-use std::hint::black_box;
 
 const BUFFERS: [usize; 4] = [0, 16_383, 16_384, 16_400];
-/// Bytes around the text and after the buffer, which nobody may look at or
-/// change.
-const MARGIN: usize = 64;
 const REFUSALS: usize = 11;
 
 /// How often each refusal came up, by its number; 0 stands for acceptance.
@@ -40,17 +36,10 @@ fn proved_library_agrees_with_the_reference() {
     }
 }
 
-fn number_from(variable: &str, otherwise: u64) -> u64 {
-    match env::var(variable) {
-        Ok(word) => word.parse().unwrap_or_else(|_| panic!("{variable} must be a number, not {word}")),
-        Err(_) => otherwise,
-    }
-}
-
 /// Plays one text; on a difference shows the text, a shorter one, and stops.
 fn play(text: &[u8], source: &str, counts: &mut Counts) {
     if let Some(difference) = difference(text) {
-        let short = shorten(text);
+        let short = shorten(text, |shorter| self::difference(shorter).is_some());
         let again = self::difference(&short).unwrap_or_default();
         println!("failing text, {source}: b\"{}\"", text.escape_ascii());
         println!("shortened: b\"{}\"", short.escape_ascii());
@@ -102,18 +91,15 @@ fn print_difference(text: &[u8], length: usize) -> Option<String> {
     let lent = LentText::new(text);
     let answer = print(text, length);
     let expected = proved::print_number(&answer);
-    let before = pattern(length + MARGIN, text.len());
-    let mut after = before.clone();
-    let given = proved::print(lent.text(), &mut after[..length]);
+    let mut buffer = LentBuffer::new(length, text.len());
+    let given = proved::print(lent.text(), buffer.bytes());
     if given != expected {
         let (expected, given) = (plain(expected), plain(given));
         return Some(format!("print to {length}: reference {expected}, proved {given}"));
     }
-    let mut wanted = before;
-    let written = answer.unwrap_or_default();
-    wanted[..written.len()].copy_from_slice(&written);
-    first_difference(&wanted, &after)
-        .map(|at| format!("print to {length}: byte {at} is {}, should be {}", after[at], wanted[at]))
+    buffer
+        .difference(&answer.unwrap_or_default())
+        .map(|difference| format!("print to {length}: {difference}"))
         .or_else(|| lent.change())
 }
 
@@ -123,66 +109,4 @@ fn plain(answer: u64) -> String {
         0 => format!("{answer} (or events {} copies {})", answer >> 16, answer & 0xFFFF),
         number => format!("refusal {number} at {}", answer & 0xFFFF_FFFF),
     }
-}
-
-/// Bytes that no printer writes by chance, other ones for each case.
-fn pattern(length: usize, salt: usize) -> Vec<u8> {
-    (0..length).map(|at| (at * 37 + salt * 11 + 129) as u8 | 0x80).collect()
-}
-
-fn first_difference(wanted: &[u8], given: &[u8]) -> Option<usize> {
-    wanted.iter().zip(given).position(|(wanted, given)| wanted != given)
-}
-
-/// A text with letters right before and after it: a reader that looks past
-/// its ends sees other words. It must be unchanged after the call.
-struct LentText {
-    bytes: Vec<u8>,
-    original: Vec<u8>,
-}
-
-impl LentText {
-    fn new(text: &[u8]) -> LentText {
-        let mut bytes = vec![b'x'; MARGIN];
-        bytes.extend_from_slice(text);
-        bytes.extend_from_slice(&[b'x'; MARGIN]);
-        LentText { original: bytes.clone(), bytes }
-    }
-
-    fn text(&self) -> &[u8] {
-        &self.bytes[MARGIN..self.bytes.len() - MARGIN]
-    }
-
-    fn change(&self) -> Option<String> {
-        // The archive is outside what the compiler knows: look at the bytes anew.
-        first_difference(&self.original, black_box(&self.bytes)).map(|_| "the text itself was changed".to_string())
-    }
-}
-
-// ---------------------------------------------------------------------------
-// A shorter failing text
-// ---------------------------------------------------------------------------
-
-/// How many shorter texts are tried at most.
-const TRIES: usize = 4000;
-
-/// Takes pieces out of a failing text as long as it still fails.
-fn shorten(text: &[u8]) -> Vec<u8> {
-    let mut text = text.to_vec();
-    let mut piece = text.len().div_ceil(2);
-    let mut tries = 0;
-    while piece > 0 {
-        let mut at = 0;
-        while at < text.len() && tries < TRIES {
-            tries += 1;
-            let mut shorter = text.clone();
-            shorter.drain(at..(at + piece).min(text.len()));
-            match difference(&shorter).is_some() {
-                true => text = shorter,
-                false => at += piece,
-            }
-        }
-        piece /= 2;
-    }
-    text
 }

@@ -15,16 +15,15 @@
 //! in the same way on some hundred drawings.
 #![cfg(adl_archive)]
 
-use reference::drawings::{accepted_text, all_nestings, nestings, Size};
+use reference::drawings::{accepted_text, all_traits, traits, Size};
 use reference::generate::{
-    edge_texts, every_constructor, longest_drawing, many_copies, many_events, nested_flows, random_text, root,
-    root_with_leaves, Random, T, U,
+    damaged, edge_texts, every_constructor, longest_drawing, many_copies, many_events, nested_flows, random_text,
+    root, root_with_leaves, Random, T, U,
 };
+use reference::kit::{lent, number_from, shorten, Counts, LentBuffer, LentText, MARGIN};
 use reference::meaning::{holds, runs_of, Book, Copy, Diagram, FINISHED, NOT_FINISHED, NOT_NOW, NO_EVENT, TAKEN};
 use reference::plain::{self, TABLE_LIMIT};
 use reference::{proved, read, Kind, Summary};
-use std::collections::BTreeMap;
-use std::env;
 use std::fmt;
 use std::hint::black_box;
 
@@ -32,14 +31,12 @@ const CASES: u64 = 4_000;
 const PLAIN_CASES: u64 = 300;
 const ROWS_FOR_EACH_COPY: usize = 16;
 const RECORD: usize = 64;
-/// Bytes around what is lent, which nobody may look at or change.
-const MARGIN: usize = 64;
 
 #[test]
 fn proved_runs_agree_with_the_book() {
     let cases = number_from("ADL_CASES", CASES);
     let first_seed = number_from("ADL_SEED", 1);
-    let mut counts = Counts::new();
+    let mut counts = nothing_met();
     for (at, text) in edge_texts().iter().enumerate() {
         translate_or_fail(text, &format!("edge text {at}"), &mut counts);
     }
@@ -80,7 +77,7 @@ fn play_plain(text: &[u8], source: &str, random: &mut Random) {
     for _ in 0..lists_for(diagram.events.len()) {
         let calls = random_calls(&diagram, random);
         if let Some(difference) = difference(&table, &diagram, &calls) {
-            let short = shorten(&table, &diagram, &calls);
+            let short = shortened(&table, &diagram, &calls);
             panic!("{source}: b\"{}\"\n{difference}\ncalls, shortened: {short:?}", text.escape_ascii());
         }
     }
@@ -104,13 +101,6 @@ fn plain_number(text: &[u8], out: &mut [u8]) -> u64 {
     }
 }
 
-fn number_from(variable: &str, otherwise: u64) -> u64 {
-    match env::var(variable) {
-        Ok(word) => word.parse().unwrap_or_else(|_| panic!("{variable} must be a number, not {word}")),
-        Err(_) => otherwise,
-    }
-}
-
 fn play_seed(seed: u64, counts: &mut Counts) {
     let random = &mut Random::new(seed);
     let source = format!("seed {seed}");
@@ -124,21 +114,6 @@ fn play_seed(seed: u64, counts: &mut Counts) {
     play_drawing(&text, &source, random, counts);
     translate_or_fail(&damaged(text, random), &format!("{source}, damaged"), counts);
     translate_or_fail(&random_text(seed), &format!("{source}, any text"), counts);
-}
-
-/// One to three bytes changed, removed or doubled.
-fn damaged(mut text: Vec<u8>, random: &mut Random) -> Vec<u8> {
-    for _ in 0..random.within(1, 3) {
-        let at = random.below(text.len());
-        match random.below(4) {
-            0 => text[at] = *random.pick(b"(),:01lf \n!"),
-            1 => text.truncate(at + 1),
-            2 => text.insert(at, text[at]),
-            _ if text.len() > 1 => drop(text.remove(at)),
-            _ => {}
-        }
-    }
-    text
 }
 
 /// The drawings of document 01 and its slips, and ones at the limits.
@@ -202,33 +177,22 @@ type Translate = fn(&[u8], &mut [u8]) -> u64;
 /// The table, none if the text is turned away as it should be; or what is
 /// wrong.
 fn translated_by(translate: Translate, text: &[u8], length: usize) -> Result<Option<Vec<u8>>, String> {
-    let lent_text = lent(text, b'x');
-    let before = pattern(length + MARGIN, text.len());
-    let mut after = before.clone();
-    let answer = translate(&lent_text[MARGIN..MARGIN + text.len()], &mut after[..length]);
-    // The archive is outside what the compiler knows: look at the bytes anew.
-    if black_box(&lent_text) != &lent(text, b'x') {
-        return Err("the text itself was changed".to_string());
+    let lent_text = LentText::new(text);
+    let mut buffer = LentBuffer::new(length, text.len());
+    let answer = translate(lent_text.text(), buffer.bytes());
+    if let Some(change) = lent_text.change() {
+        return Err(change);
     }
     let expected = if length < TABLE_LIMIT { Err((1, 0)) } else { read(text) };
     let written = match &expected {
-        Ok(summary) => check_table(answer, &after[..length], summary)?,
+        Ok(summary) => check_table(answer, buffer.bytes(), summary)?,
         Err(refusal) => check_refusal(answer, proved::refusal_number(*refusal))?,
     };
-    if let Some(at) = (written..before.len()).find(|&at| after[at] != before[at]) {
-        return Err(format!("byte {at} was {} and is {}, {written} were written", before[at], after[at]));
+    let table = buffer.bytes()[..written].to_vec();
+    match buffer.difference(&table) {
+        Some(difference) => Err(difference),
+        None => Ok(expected.is_ok().then_some(table)),
     }
-    after.truncate(written);
-    Ok(expected.is_ok().then_some(after))
-}
-
-fn lent(bytes: &[u8], around: u8) -> Vec<u8> {
-    [&[around; MARGIN], bytes, &[around; MARGIN]].concat()
-}
-
-/// Bytes that no table has by chance, other ones for each case.
-fn pattern(length: usize, salt: usize) -> Vec<u8> {
-    (0..length).map(|at| (at * 37 + salt * 11 + 129) as u8 | 0x80).collect()
 }
 
 fn check_refusal(answer: u64, expected: u64) -> Result<usize, String> {
@@ -292,11 +256,11 @@ impl fmt::Debug for Call {
 fn play_drawing(text: &[u8], source: &str, random: &mut Random, counts: &mut Counts) {
     let table = translate_or_fail(text, source, counts).expect("the drawing is accepted");
     let diagram = Diagram::of(text).expect("the drawing is accepted");
-    counts.add_drawing(&read(text).expect("the drawing is accepted"), &diagram);
+    add_drawing(&read(text).expect("the drawing is accepted"), &diagram, counts);
     for _ in 0..lists_for(diagram.events.len()) {
         let calls = random_calls(&diagram, random);
         if let Some(difference) = difference(&table, &diagram, &calls) {
-            let short = shorten(&table, &diagram, &calls);
+            let short = shortened(&table, &diagram, &calls);
             let again = self::difference(&table, &diagram, &short).unwrap_or_default();
             println!("failing drawing, {source}: b\"{}\"", text.escape_ascii());
             println!("calls: {calls:?}\nshortened: {short:?}");
@@ -357,28 +321,9 @@ fn answer_of(book: &mut Book, call: Call) -> u8 {
     }
 }
 
-/// How many shorter lists are tried at most.
-const TRIES: usize = 2000;
-
-/// Takes calls out of a failing list as long as it still fails.
-fn shorten(table: &[u8], diagram: &Diagram, calls: &[Call]) -> Vec<Call> {
-    let mut calls = calls.to_vec();
-    let mut piece = calls.len().div_ceil(2);
-    let mut tries = 0;
-    while piece > 0 {
-        let mut at = 0;
-        while at < calls.len() && tries < TRIES {
-            tries += 1;
-            let mut shorter = calls.clone();
-            shorter.drain(at..(at + piece).min(calls.len()));
-            match difference(table, diagram, &shorter).is_some() {
-                true => calls = shorter,
-                false => at += piece,
-            }
-        }
-        piece /= 2;
-    }
-    calls
+/// Calls taken out of a failing list as long as it still fails.
+fn shortened(table: &[u8], diagram: &Diagram, calls: &[Call]) -> Vec<Call> {
+    shorten(calls, |shorter| difference(table, diagram, shorter).is_some())
 }
 
 // ---------------------------------------------------------------------------
@@ -541,13 +486,8 @@ fn path_to(root: &Copy, event: usize) -> Vec<Around<'_>> {
 // What was met
 // ---------------------------------------------------------------------------
 
-const MET: [&str; 23] = [
+const MET: [&str; 18] = [
     "accepted",
-    "drawings with 512 events",
-    "drawings with 768 copies",
-    "drawings with 256 nodes",
-    "drawings with 255 leaves",
-    "drawings of depth 12",
     "drawings with events of three values",
     "steps taken",
     "resets taken",
@@ -567,47 +507,16 @@ const MET: [&str; 23] = [
     "event tried after a whole run",
 ];
 
-/// How often each thing came up that has to come up.
-struct Counts(BTreeMap<String, usize>);
+fn nothing_met() -> Counts {
+    let titles = MET.iter().map(|title| title.to_string());
+    let refusals = (1..=11).map(|number| format!("refusal {number}"));
+    Counts::new(titles.chain(refusals).chain(all_traits()))
+}
 
-impl Counts {
-    fn new() -> Counts {
-        let titles = MET.iter().map(|title| title.to_string());
-        let refusals = (1..=11).map(|number| format!("refusal {number}"));
-        Counts(titles.chain(refusals).chain(all_nestings()).map(|title| (title, 0)).collect())
-    }
-
-    fn add(&mut self, title: &str) {
-        *self.0.get_mut(title).unwrap_or_else(|| panic!("{title} is not counted")) += 1;
-    }
-
-    fn add_if(&mut self, condition: bool, title: &str) {
-        if condition {
-            self.add(title);
-        }
-    }
-
-    fn add_drawing(&mut self, summary: &Summary, diagram: &Diagram) {
-        let leaves = summary.nodes.iter().filter(|node| node.kind == Kind::Leaf).count();
-        self.add_if(summary.events == 512, "drawings with 512 events");
-        self.add_if(summary.copies == 768, "drawings with 768 copies");
-        self.add_if(summary.nodes.len() == 256, "drawings with 256 nodes");
-        self.add_if(leaves == 255, "drawings with 255 leaves");
-        self.add_if(summary.nodes.iter().any(|node| node.depth == 12), "drawings of depth 12");
-        let three_values = diagram.events.iter().any(|event| event.values.len() == 3);
-        self.add_if(three_values, "drawings with events of three values");
-        nestings(&summary.nodes).iter().for_each(|nesting| self.add(nesting));
-    }
-
-    fn show(&self) {
-        self.0.iter().for_each(|(title, count)| println!("{title:<50} {count:>9}"));
-    }
-
-    fn assert_all_met(&self) {
-        let unmet = self.0.iter().filter(|(_, count)| **count == 0);
-        let missing: Vec<&String> = unmet.map(|(title, _)| title).collect();
-        assert!(missing.is_empty(), "never came up: {missing:?}");
-    }
+fn add_drawing(summary: &Summary, diagram: &Diagram, counts: &mut Counts) {
+    traits(summary).iter().for_each(|title| counts.add(title));
+    let three_values = diagram.events.iter().any(|event| event.values.len() == 3);
+    counts.add_if(three_values, "drawings with events of three values");
 }
 
 /// Beyond this number of events the questions that take long are not asked.

@@ -1,5 +1,6 @@
 pub mod Steps
 pub mod Filled
+pub mod Held
 pub mod Seen
 pub mod Writing
 pub mod Longer

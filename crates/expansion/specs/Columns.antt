@@ -1,11 +1,12 @@
 -- The nodes of a diagram as columns of numbers: what a node is, how many copies of its member it makes, and its depth.
-use mathlib.Core.List.{List, map}
-use Prim.Native.Nat.{ℕ}
-use lib.ListN.{take}
+use mathlib.Core.List.{List, _++_, map}
+use Prim.Native.Nat.{ℕ, _-_}
+use lib.ListN.{length, take, replicate}
 use Rattle.diagram.specs.declared.Kind.{Kind}
 use Rattle.diagram.specs.declared.Kind.the-variants.{Flow, Leaf, And, Or, Xor, All, Some, One, Loop}
 use Rattle.diagram.specs.declared.Node.{Node}
 use Rattle.diagram.specs.declared.Diagram.{Diagram}
+use Rattle.expansion.specs.declared.Nodes.{Nodes}
 
 -- 0 a leaf, 1 a loop, 3 to 6 how the parts are joined, as in postfix order.
 abbrev pub kind-number : Kind → ℕ
@@ -50,3 +51,16 @@ columns-of ns = record {
 -- The nodes that count.
 unfoldable pub columns : Diagram → Columns
 columns d = columns-of (take (d .count) (d .nodes))
+
+-- An array of 256 that holds these numbers, and zeros after them.
+abbrev pub array-of : List ℕ → List ℕ
+array-of l = l ++ replicate (256 - length l) 0
+
+-- The columns as the code holds them.
+unfoldable pub nodes-of : Diagram → Nodes
+nodes-of d = record {
+  kinds = array-of (columns d .kinds);
+  sizes = array-of (columns d .sizes);
+  depths = array-of (columns d .depths);
+  count = length (columns d .kinds);
+}

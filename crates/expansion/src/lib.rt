@@ -1,10 +1,18 @@
 ghost use mathlib.Core.Path.{_≡_};
 ghost use Prim.Native.Nat.{_≤_};
-ghost use lib.ListN.{length, getD};
-ghost use Rattle.expansion.specs.Columns.{kind-number, size-number, Columns, lent};
+ghost use lib.ListN.{length};
+ghost use Rattle.expansion.specs.Columns.{kind-number, size-number, Columns, lent, nodes-of};
 ghost use Rattle.expansion.specs.Walks.{add as added, further as further-of, more as more-of, looped as looped-of, part as part-of, expanded};
 use diagram::Diagram;
 use diagram::Kind;
+
+// The nodes of a diagram as columns of numbers, with zeros after them. Only the first `count` numbers of each count.
+pub struct Nodes {
+    pub kinds: [u8; 256],
+    pub sizes: [u8; 256],
+    pub depths: [usize; 256],
+    pub count: usize,
+}
 
 // Where a walk over the nodes stands: the next node, and how many numbers are written.
 pub struct Walk {
@@ -62,25 +70,6 @@ fn size(kind: Kind) -> u8
         Kind::One(n) => n,
         Kind::Loop => 0,
     }
-}
-
-// A number of a column; 0 past its end.
-fn byte(column: &[u8], i: usize) -> u8
-    ensures { λ r. ⌜ r ≡ getD (now (column .entry)) i 0 ⌝ }
-{
-    if column.len() <= i {
-        return 0;
-    }
-    column[i]
-}
-
-fn depth(depths: &[usize], i: usize) -> usize
-    ensures { λ r. ⌜ r ≡ getD (now (depths .entry)) i 0 ⌝ }
-{
-    if depths.len() <= i {
-        return 0;
-    }
-    depths[i]
 }
 
 // One number more, where there is room.
@@ -158,7 +147,7 @@ fn looped(
 fn more(sizes: &[u8], i: usize) -> u8
     ensures { λ r. ⌜ ((c : Columns) → c .sizes ≡ now (sizes .entry) → r ≡ more-of c i) ⌝ }
 {
-    let n = byte(sizes, i);
+    let n = base::byte(sizes, i);
     if n == 0 {
         return 255;
     }
@@ -179,12 +168,12 @@ fn further(
     ensures { λ r. ⌜ record { walk = r; codes = now (codes .exit) } ≡ further-of (part-of left (lent (now (kinds .entry)) (now (sizes .entry)) (now (depths .entry)))) (lent (now (kinds .entry)) (now (sizes .entry)) (now (depths .entry))) i (more-of (lent (now (kinds .entry)) (now (sizes .entry)) (now (depths .entry))) i) (record { walk = s; codes = now (codes .entry) }) ⌝ }
 {
     let most = more(sizes, i);
-    let size = byte(sizes, i);
+    let size = base::byte(sizes, i);
     let mut t = s;
     let mut turn = 0;
     while turn < most {
         let node = if size == 0 { t.node } else { i + 1 };
-        if depth(depths, node) <= depth(depths, i) {
+        if base::number(depths, node) <= base::number(depths, i) {
             return t;
         }
         let again = Walk {
@@ -192,16 +181,15 @@ fn further(
             count: t.count,
         };
         let u = part(kinds, sizes, depths, left, again, codes);
-        t = add(codes, byte(kinds, i), u);
+        t = add(codes, base::byte(kinds, i), u);
         turn += 1;
     }
     t
 }
 
-// The process of a diagram in postfix order, over the front of `codes`; answers how many numbers there are.
-pub fn expand(d: Diagram, codes: &mut [u8]) -> usize
-    ensures { λ r. ⌜ r ≡ expanded d (now (codes .entry)) .walk .count ⌝ }
-    ensures { λ r. ⌜ now (codes .exit) ≡ expanded d (now (codes .entry)) .codes ⌝ }
+// The columns of a diagram, which holds 256 nodes whatever its count says.
+pub fn columns(d: Diagram) -> Nodes
+    ensures { λ r. ⌜ r ≡ nodes-of d ⌝ }
 {
     let mut kinds = [0u8; 256];
     let mut sizes = [0u8; 256];
@@ -215,6 +203,24 @@ pub fn expand(d: Diagram, codes: &mut [u8]) -> usize
         depths[n] = x.depth;
         n += 1;
     }
+    Nodes {
+        kinds,
+        sizes,
+        depths,
+        count: n,
+    }
+}
+
+// The process of a diagram in postfix order, over the front of `codes`; answers how many numbers there are.
+pub fn expand(d: Diagram, codes: &mut [u8]) -> usize
+    ensures { λ r. ⌜ r ≡ expanded d (now (codes .entry)) .walk .count ⌝ }
+    ensures { λ r. ⌜ now (codes .exit) ≡ expanded d (now (codes .entry)) .codes ⌝ }
+{
+    let c = columns(d);
+    let kinds = c.kinds;
+    let sizes = c.sizes;
+    let depths = c.depths;
+    let n = c.count;
     let start = Walk { node: 0, count: 0 };
     let s = part(&kinds[..n], &sizes[..n], &depths[..n], 12, start, codes);
     s.count

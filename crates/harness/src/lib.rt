@@ -1,6 +1,9 @@
 // What the Rust tests and the benchmarks call: numbers and byte slices only. A refusal is its number times 2^32 and its place; a result is below
 // 2^32. The parts of a number are cut to their width, so that nothing has to be known of them here.
 
+ghost use Prim.Native.Nat.{_≤_};
+use events::Label;
+use labels::Values;
 use printer::Printed;
 use reader::Answer;
 use translator::Translated;
@@ -53,4 +56,45 @@ fn translate_refusal(t: Translated) -> u64 {
         return 0;
     };
     refusal(number, place)
+}
+
+// The bytes of the listing; 0, and nothing written, where `out` has under 32,768 bytes.
+#[no_mangle]
+pub extern "C" fn adl_test_list(text: &[u8], out: &mut [u8]) -> u64 {
+    if out.len() < 32768 {
+        return 0;
+    }
+    let mut bytes = [0u8; 32768];
+    let n = events::list(text, &mut bytes);
+    (output::bytes(out, 0, &bytes[..n]) as u64) % 4294967296
+}
+
+// The bytes of the name, over the front of `out`; 0 where refused, or where `out` has under 24 bytes.
+#[no_mangle]
+pub extern "C" fn adl_test_name(text: &[u8], event: u64, out: &mut [u8]) -> u64 {
+    if out.len() < 24 {
+        return 0;
+    }
+    (output::bytes(out, 0, events::name(text, event)) as u64) % 4294967296
+}
+
+fn packed(reset: u64, v: Values) -> u64
+    requires { ⌜ reset ≤ 1 ⌝ }
+{
+    reset * 16777216
+        + ((v.count as u64) % 64) * 262144
+        + ((v.first as u64) % 64) * 4096
+        + ((v.second as u64) % 64) * 64
+        + (v.third as u64) % 64
+}
+
+// Whether it is a reset times 2^24, how many values times 2^18, and the values times 2^12, 2^6 and 1.
+#[no_mangle]
+pub extern "C" fn adl_test_values(text: &[u8], event: u64) -> u64 {
+    let l = events::values(text, event);
+    match l {
+        Label::Leaf(v) => packed(0, v),
+        Label::Reset(v) => packed(1, v),
+        Label::Refused(number, place) => refusal(number, place),
+    }
 }

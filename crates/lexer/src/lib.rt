@@ -313,7 +313,7 @@ pub fn skip(text: &[u8], at: usize) -> usize
 }
 
 // The end of the word that starts at `at`.
-fn word_end(text: &[u8], at: usize) -> usize
+pub fn word_end(text: &[u8], at: usize) -> usize
     ensures { λ r. ⌜ r ≡ at + front worded (drop at (now (text .entry))) ⌝ }
 {
     past(text, at, 5, 7)

@@ -25,10 +25,10 @@ abbrev pub Agrees : (ℕ → Name) → ℕ → List Name → Type 0
 Agrees nm k ts = (j : ℕ) → code (getD ts j []) ≡ 6 → nm (k + j) ≡ getD ts j []
 
 -- A flow, and a replicator.
-abbrev flow-node : ℕ → ℕ → Name → List Name → Bool → Bool → Head
+abbrev pub flow-node : ℕ → ℕ → Name → List Name → Bool → Bool → Head
 flow-node k d n ps sw b = record { key = k; depth = d; code = 7; name = n; size = 0; pars = ps; strong = sw; solid = b }
 
-abbrev copy-node : ℕ → ℕ → ℕ → Name → ℕ → Bool → Head
+abbrev pub copy-node : ℕ → ℕ → ℕ → Name → ℕ → Bool → Head
 copy-node k d c par size b = record { key = k; depth = d; code = c; name = par; size = size; pars = []; strong = false; solid = b }
 
 -- The keyword of a constructor, which is a replicator or not.

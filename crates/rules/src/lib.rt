@@ -3,7 +3,7 @@ ghost use mathlib.Core.Bool.{_&&_, _||_};
 ghost use mathlib.Core.List.{List, []};
 ghost use Prim.Native.Nat.{ℕ, suc, _+_, _-_, _^_, _≤_, _<_};
 ghost use lib.Dec.{eqb};
-ghost use lib.ListN.{length, getD, drop, set};
+ghost use lib.ListN.{length, getD, drop};
 ghost use Rattle.diagram.specs.Tree.{Name};
 ghost use Rattle.lexer.specs.Classes.{between};
 ghost use Rattle.base.specs.Fill.{fill};
@@ -51,25 +51,6 @@ pub fn place(starts: &[u16], k: usize, on: usize) -> usize
         return 0;
     }
     starts[k + on] as usize
-}
-
-fn number(column: &[usize], i: usize) -> usize
-    ensures { λ r. ⌜ r ≡ getD (now (column .entry)) i 0 ⌝ }
-{
-    if column.len() <= i {
-        return 0;
-    }
-    column[i]
-}
-
-// A store that does nothing past the end of what is lent.
-fn put(column: &mut [usize], i: usize, v: usize)
-    ensures { λ r. ⌜ now (column .exit) ≡ set (now (column .entry)) i v ⌝ }
-{
-    if column.len() <= i {
-        return;
-    }
-    column[i] = v;
 }
 
 pub fn within(low: u8, high: u8, c: u8) -> bool
@@ -121,8 +102,8 @@ pub fn nodes(codes: &[u8], keys: &mut [usize], depths: &mut [usize]) -> usize
         k += 1;
         let c = codes[at];
         if within(7, 15, c) {
-            put(keys, n, at);
-            put(depths, n, p + 1);
+            base::put_number(keys, n, at);
+            base::put_number(depths, n, p + 1);
             n += 1;
         } else {
             p = opened(p, c);
@@ -229,14 +210,14 @@ fn strong(codes: &[u8], k: usize) -> bool
 fn code(codes: &[u8], keys: &[usize], i: usize) -> u8
     ensures { λ r. ⌜ r ≡ getD (now (codes .entry)) (getD (now (keys .entry)) i 0) 0 ⌝ }
 {
-    token(codes, number(keys, i), 0)
+    token(codes, base::number(keys, i), 0)
 }
 
 // The place of the name of the node i, a leaf, a flow or a replicator.
 fn name(starts: &[u16], keys: &[usize], i: usize) -> usize
     ensures { λ r. ⌜ r ≡ getD (now (starts .entry)) (getD (now (keys .entry)) i 0 + 2) 0 ⌝ }
 {
-    place(starts, number(keys, i), 2)
+    place(starts, base::number(keys, i), 2)
 }
 
 // How many nodes there are: as many as the shorter column has numbers.
@@ -324,11 +305,11 @@ fn enclosing(codes: &[u8], keys: &[usize], depths: &[usize], i: usize) -> usize
     ensures { λ r. ⌜ ((nm : ℕ → Name) → earlier nm (now (codes .entry)) (now (keys .entry)) (now (depths .entry)) r ≡ nearest-at nm (now (codes .entry)) (now (keys .entry)) (now (depths .entry)) i) ⌝ }
     ensures { λ r. ⌜ r ≤ i ⌝ }
 {
-    let mut d = number(depths, i);
+    let mut d = base::number(depths, i);
     let mut j = i;
     while 0 < j {
         let next = j - 1;
-        let e = number(depths, next);
+        let e = base::number(depths, next);
         if e < d {
             if within(12, 14, code(codes, keys, next)) {
                 return j;
@@ -386,7 +367,7 @@ fn listed(
 ) -> bool
     ensures { λ r. ⌜ r ≡ listed-at (now (text .entry)) (now (starts .entry)) (now (codes .entry)) (now (keys .entry)) (now (depths .entry)) i ⌝ }
 {
-    let k = number(keys, i);
+    let k = base::number(keys, i);
     let mut m = pars(codes, k);
     let mut j = enclosing(codes, keys, depths, i);
     while 0 < j {
@@ -421,11 +402,11 @@ fn next_solid(codes: &[u8], keys: &[usize], depths: &[usize], d: usize, i: usize
     let end = count(keys, depths);
     let mut j = i;
     while j < end {
-        let e = number(depths, j);
+        let e = base::number(depths, j);
         if e <= d {
             return end;
         }
-        if solid_child(codes, number(keys, j), d, e) {
+        if solid_child(codes, base::number(keys, j), d, e) {
             return j;
         }
         j += 1;
@@ -448,7 +429,7 @@ fn one_solid(codes: &[u8], keys: &[usize], depths: &[usize], i: usize) -> bool
     requires { ⌜ i < length (now keys) ⌝ }
     ensures { λ r. ⌜ ((nm : ℕ → Name) → r ≡ one-of (solids-at nm (now (codes .entry)) (now (keys .entry)) (now (depths .entry)) i)) ⌝ }
 {
-    let d = number(depths, i);
+    let d = base::number(depths, i);
     let end = count(keys, depths);
     let first = next_solid(codes, keys, depths, d, i + 1);
     if end <= first {
@@ -516,7 +497,7 @@ fn kept(
     if rule == 9 {
         return one_solid(codes, keys, depths, i);
     }
-    strong(codes, number(keys, i))
+    strong(codes, base::number(keys, i))
 }
 
 // The keyword of the first node that breaks the rule of this number, 7 to 10.
@@ -536,7 +517,7 @@ fn first_fault(
     let mut i = 0;
     while i < end {
         if !kept(text, codes, starts, keys, depths, marks, rule, i) {
-            return Found::At(number(keys, i));
+            return Found::At(base::number(keys, i));
         }
         i += 1;
     }
@@ -558,7 +539,7 @@ fn size(codes: &[u8], keys: &[usize], i: usize) -> usize
     ensures { λ r. ⌜ r ≡ getD (now (codes .entry)) (getD (now (keys .entry)) i 0 + 4) 0 - 16 ⌝ }
     ensures { λ r. ⌜ r < 256 ⌝ }
 {
-    let c = token(codes, number(keys, i), 4);
+    let c = token(codes, base::number(keys, i), 4);
     if c < 16 {
         return 0;
     }

@@ -1,4 +1,5 @@
 pub mod Through
+pub mod InPlace
 pub mod Drawn
 pub mod Starred
 pub mod Property

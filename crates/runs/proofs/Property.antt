@@ -15,6 +15,7 @@ use Rattle.translator.specs.declared.Translated.the-variants.{Bytes}
 use Rattle.translator.proofs.Bounds.{accepted-translated}
 use Rattle.runs.specs.Property.{Property-3}
 use Rattle.runs.proofs.Through.{blank-in-c}
+use Rattle.runs.proofs.InPlace.{in-place}
 
 -- Of any table that plays by the book.
 played : (d : Flow) (t : List ℕ) → Plays-by-book d t → (calls : List Call) → Property-3 d t calls
@@ -23,6 +24,7 @@ played d t plays calls = record {
   kept = plays calls;
   only = λ other a. admits-once d [] calls other (play t blank-record calls) a (plays calls);
   by-value = refl;
+  in-place = in-place t blank-record calls;
   in-numbers = blank-in-c t calls;
 }
 

@@ -1,3 +1,4 @@
 pub mod InC
+pub mod InPlace
 pub mod Starred
 pub mod Property

@@ -1,6 +1,6 @@
 //! Times the reference against the proved library, in the same run: reading,
-//! printing, and translation by plain.rs. Built with ADL_ARCHIVE=1 only; run it
-//! with --release.
+//! printing, translation by plain.rs, and listing, names and values by
+//! plain_listing.rs. Built with ADL_ARCHIVE=1 only; run it with --release.
 
 #[cfg(not(adl_archive))]
 fn main() {
@@ -16,10 +16,11 @@ fn main() {
 #[cfg(adl_archive)]
 mod bench {
     use reference::generate::{
-        every_constructor, longest_drawing, many_copies, many_events, pad_between, root_with_leaves, T,
+        every_constructor, longest_drawing, many_copies, many_events, nested_flows, pad_between, root_with_leaves, T,
     };
+    use reference::listing::{listing, LISTING_LIMIT};
     use reference::plain::{self, TABLE_LIMIT};
-    use reference::{print, proved, read, TEXT_LIMIT};
+    use reference::{plain_listing, print, proved, read, TEXT_LIMIT, WORD_LIMIT};
     use std::array::from_fn;
     use std::hint::black_box;
     use std::time::{Duration, Instant};
@@ -44,6 +45,7 @@ mod bench {
         }
         println!("best of {ROUNDS} rounds each; a ratio under 1 means the proved library is faster");
         translations();
+        listings();
     }
 
     fn texts() -> Vec<(&'static str, Vec<u8>)> {
@@ -159,7 +161,7 @@ mod bench {
             "text to table", "bytes", "copies", "proved/plain"
         );
         let drawings = drawings();
-        for ((title, text), times) in drawings.iter().zip(translation_times(&drawings)) {
+        for ((title, text), times) in drawings.iter().zip(times_of(&drawings, translation_pass)) {
             show_translation(title, text.as_bytes(), times);
         }
         println!("plain: a translator in plain Rust after the reference's reader; rows are each one's own choice");
@@ -176,19 +178,22 @@ mod bench {
         ]
     }
 
-    /// Times of the whole translation and of reading alone.
+    /// Times of the whole call and of reading alone.
     struct Times {
         whole: Pair,
         reading: Pair,
     }
 
+    /// The whole call, proved and plain, then reading alone, proved and plain.
+    type Pass = fn(&[u8]) -> [f64; 4];
+
     /// The drawings take turns too, so that each meets the machine at several
     /// moments.
-    fn translation_times(drawings: &[(&str, String)]) -> Vec<Times> {
+    fn times_of(drawings: &[(&str, String)], pass: Pass) -> Vec<Times> {
         let mut best = vec![[f64::INFINITY; 4]; drawings.len()];
         for _ in 0..PASSES {
             for ((_, text), best) in drawings.iter().zip(&mut best) {
-                let times = times_of_a_pass(text.as_bytes());
+                let times = pass(text.as_bytes());
                 *best = from_fn(|at| best[at].min(times[at]));
             }
         }
@@ -196,7 +201,7 @@ mod bench {
         best.iter().map(|&[a, b, c, d]| Times { whole: pair(a, b), reading: pair(c, d) }).collect()
     }
 
-    fn times_of_a_pass(text: &[u8]) -> [f64; 4] {
+    fn translation_pass(text: &[u8]) -> [f64; 4] {
         let mut proved_table = vec![0; TABLE_LIMIT];
         let mut plain_table = vec![0; TABLE_LIMIT];
         best_times([
@@ -237,5 +242,92 @@ mod bench {
             times.whole.proved,
             times.whole.plain
         );
+    }
+
+    // -----------------------------------------------------------------------
+    // Listing, names and values
+    // -----------------------------------------------------------------------
+
+    fn listings() {
+        println!();
+        println!("{:<67} {:>13} {:>15}", "", "reading/time", "time, ns");
+        let pair = "proved  plain";
+        println!(
+            "{:<32} {:>6} {:>6} {:>6} {:>13} {pair:>13} {pair:>15}",
+            "text to listing", "bytes", "events", "call", "proved/plain"
+        );
+        let mut drawings = drawings();
+        drawings.push(("eleven nested flows", nested_flows(11)));
+        assert_same_listings(&drawings);
+        show_calls("list", &drawings, listing_pass);
+        let last = [("512 events, the last", many_events(16))];
+        show_calls("name", &last, name_pass);
+        show_calls("values", &last, values_pass);
+        println!("plain: the same calls in plain Rust after the reference's reader");
+        println!("reading/time: the time of reading alone, by each one's own reader, as part of the whole");
+        println!("best of {} rounds each", PASSES * ROUNDS);
+    }
+
+    fn assert_same_listings(drawings: &[(&str, String)]) {
+        let mut out = vec![0; LISTING_LIMIT];
+        for (title, text) in drawings {
+            let wanted = listing(text.as_bytes());
+            let length = proved::list(text.as_bytes(), &mut out) as usize;
+            assert_eq!(out[..length], wanted, "{title}: the proved listing");
+            let length = plain_listing::list(text.as_bytes(), &mut out);
+            assert_eq!(out[..length], wanted, "{title}: the plain listing");
+        }
+    }
+
+    fn listing_pass(text: &[u8]) -> [f64; 4] {
+        let mut proved_out = vec![0; LISTING_LIMIT];
+        let mut plain_out = vec![0; LISTING_LIMIT];
+        best_times([
+            &mut || used(proved::list(black_box(text), black_box(&mut proved_out))),
+            &mut || used(plain_listing::list(black_box(text), black_box(&mut plain_out))),
+            &mut || used(proved::read(black_box(text))),
+            &mut || used(read(black_box(text))),
+        ])
+    }
+
+    fn last_event(text: &[u8]) -> u64 {
+        read(text).expect("the text is accepted").events as u64 - 1
+    }
+
+    fn name_pass(text: &[u8]) -> [f64; 4] {
+        let last = last_event(text);
+        let mut name = [0; WORD_LIMIT];
+        best_times([
+            &mut || used(proved::name(black_box(text), black_box(last), black_box(&mut name))),
+            &mut || used(plain_listing::name(black_box(text), black_box(last))),
+            &mut || used(proved::read(black_box(text))),
+            &mut || used(read(black_box(text))),
+        ])
+    }
+
+    fn values_pass(text: &[u8]) -> [f64; 4] {
+        let last = last_event(text);
+        best_times([
+            &mut || used(proved::values(black_box(text), black_box(last))),
+            &mut || used(plain_listing::values(black_box(text), black_box(last))),
+            &mut || used(proved::read(black_box(text))),
+            &mut || used(read(black_box(text))),
+        ])
+    }
+
+    fn show_calls(call: &str, drawings: &[(&str, String)], pass: Pass) {
+        for ((title, text), times) in drawings.iter().zip(times_of(drawings, pass)) {
+            let summary = read(text.as_bytes()).expect("the text is accepted");
+            println!(
+                "{title:<32} {:>6} {:>6} {call:>6} {:>13.2} {:>6.2} {:>6.2} {:>8.0} {:>6.0}",
+                text.len(),
+                summary.events,
+                times.whole.proved / times.whole.plain,
+                times.reading.proved / times.whole.proved,
+                times.reading.plain / times.whole.plain,
+                times.whole.proved,
+                times.whole.plain
+            );
+        }
     }
 }

@@ -20,8 +20,8 @@ use Rattle.expansion.proofs.part.Reads as part
 use Rattle.expansion.proofs.part.Kinds as part-kinds
 use Rattle.expansion.proofs.+further+looped+part.Lts-part as part-lts
 use Rattle.expansion.proofs.add.Reads as add-reads
-use Rattle.expansion.proofs.byte.Reads as byte-reads
-use Rattle.expansion.proofs.depth.Reads as depth-reads
+use Rattle.base.proofs.byte.Reads as byte-reads
+use Rattle.base.proofs.number.Reads as number-reads
 use Rattle.expansion.proofs.more.Reads as more-reads
 use Rattle.expansion.proofs.+further+looped+part.{statement}
 use Rattle.expansion.proofs.+further+looped+part.Tie.{close}
@@ -54,7 +54,7 @@ abbrev part-below : ℕ → In 4 part-kinds.ps
 part-below t = and 4 part-kinds.ps (falls 4 part-kinds.ps _<_ μ-part t) part.Pre
 
 abbrev further-claims : ℕ → further-lts.Claims
-further-claims t = (more-reads.Asked, more-reads.Learnt, byte-reads.Asked, byte-reads.Learnt, depth-reads.Asked, depth-reads.Learnt, part-below t, part.Post, add-reads.Asked, add-reads.Learnt)
+further-claims t = (more-reads.Asked, more-reads.Learnt, byte-reads.Asked, byte-reads.Learnt, number-reads.Asked, number-reads.Learnt, part-below t, part.Post, add-reads.Asked, add-reads.Learnt)
 
 abbrev looped-claims : ℕ → looped-lts.Claims
 looped-claims t = (add-reads.Asked, add-reads.Learnt, part-below t, part.Post)
@@ -82,11 +82,11 @@ module _ (t : ℕ) where
   further-add-node : further-lts.Need-add-node (further-claims t) (further-at t) further.Post further-Inv-loop further-μ-loop
   further-add-node c = search needs
 
-  further-depth-requires : further-lts.Need-depth-requires (further-claims t) (further-at t) further.Post further-Inv-loop further-μ-loop
-  further-depth-requires c κs = tt
+  further-number-requires : further-lts.Need-number-requires (further-claims t) (further-at t) further.Post further-Inv-loop further-μ-loop
+  further-number-requires c κs = tt
 
-  further-depth-requires-2 : further-lts.Need-depth-requires-2 (further-claims t) (further-at t) further.Post further-Inv-loop further-μ-loop
-  further-depth-requires-2 c κs = tt
+  further-number-requires-2 : further-lts.Need-number-requires-2 (further-claims t) (further-at t) further.Post further-Inv-loop further-μ-loop
+  further-number-requires-2 c κs = tt
 
   further-same-length : further-lts.Need-same-length (further-claims t) (further-at t) further.Post further-Inv-loop further-μ-loop
   further-same-length c = search needs
@@ -107,7 +107,7 @@ module _ (t : ℕ) where
       let j = c .before .before .before in
       let e = j .before .before .before in
       let a = e .before .before .before .before .before .before .args in
-      gone-up (j .before .before .loop .inv) (j .before .loop-test .taken) (further-next j) (c .before .before .depth .ensures) (c .before .depth2 .ensures)
+      gone-up (j .before .before .loop .inv) (j .before .loop-test .taken) (further-next j) (c .before .before .number .ensures) (c .before .number2 .ensures)
       (e .before .more .ensures (lent (a .kinds .now) (a .sizes .now) (a .depths .now)) refl) (omega (arith, c .if2 .taken))
 
   further-part-requires : further-lts.Need-part-requires (further-claims t) (further-at t) further.Post further-Inv-loop further-μ-loop
@@ -130,7 +130,7 @@ module _ (t : ℕ) where
       let u = c .before .before .before .before .before .before .before in
       let i2 = u .before .before in
       let j = i2 .before .before .before in
-      gone-on (j .before .before .loop .inv) (j .before .loop-test .taken) (further-next j) (i2 .before .before .depth .ensures) (i2 .before .depth2 .ensures)
+      gone-on (j .before .before .loop .inv) (j .before .loop-test .taken) (further-next j) (i2 .before .before .number .ensures) (i2 .before .number2 .ensures)
       (omega (arith, i2 .if2 .left)) (u .part .ensures) (c .before .before .before .byte2 .ensures) (c .before .before .add .ensures) (c .before .before .add .kept .0 ∙ u .part .kept .1 .1 .1 .1 .1 .0)
 
   further-same-length-2 : further-lts.Need-same-length-2 (further-claims t) (further-at t) further.Post further-Inv-loop further-μ-loop
@@ -250,8 +250,8 @@ pub +further+looped+part-spec : {M : Type 1} → statement M
     (further-byte-requires t)
     (further-loop-holds t)
     (further-add-node t)
-    (further-depth-requires t)
-    (further-depth-requires-2 t)
+    (further-number-requires t)
+    (further-number-requires-2 t)
     (further-same-length t)
     (further-returns t)
     (further-part-requires t)

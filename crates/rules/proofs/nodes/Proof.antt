@@ -25,14 +25,14 @@ shared-slice-read-c c = search needs
 within-requires : tie.Need-within-requires Inv-loop μ-loop
 within-requires c κs = search needs
 
-put-requires : tie.Need-put-requires Inv-loop μ-loop
-put-requires c κs = search needs
+put-number-requires : tie.Need-put-number-requires Inv-loop μ-loop
+put-number-requires c κs = search needs
 
-add-put : tie.Need-add-put Inv-loop μ-loop
-add-put c = search needs
+add-put-number : tie.Need-add-put-number Inv-loop μ-loop
+add-put-number c = search needs
 
-put-requires-2 : tie.Need-put-requires-2 Inv-loop μ-loop
-put-requires-2 c κs = search needs
+put-number-requires-2 : tie.Need-put-number-requires-2 Inv-loop μ-loop
+put-number-requires-2 c κs = search needs
 
 add-n : tie.Need-add-n Inv-loop μ-loop
 add-n c = search needs
@@ -41,7 +41,7 @@ loop-less : tie.Need-loop-less Inv-loop μ-loop
 loop-less c = search needs
 
 loop-again : tie.Need-loop-again Inv-loop μ-loop
-loop-again c = rw (c .before .before .before .before .before .before .put .ensures, c .before .before .put2 .ensures) (along-node _ _ (c .before .before .before .before .before .before .before .before .before .before .before .loop-test .taken) (sym (c .before .before .before .before .before .before .before .before .before .within .ensures) ∙ c .before .before .before .before .before .before .before .before .if1 .taken) (c .before .before .before .before .before .before .before .before .before .before .before .before .loop .inv))
+loop-again c = rw (c .before .before .before .before .before .before .put-number .ensures, c .before .before .put-number2 .ensures) (along-node _ _ (c .before .before .before .before .before .before .before .before .before .before .before .loop-test .taken) (sym (c .before .before .before .before .before .before .before .before .before .within .ensures) ∙ c .before .before .before .before .before .before .before .before .if1 .taken) (c .before .before .before .before .before .before .before .before .before .before .before .before .loop .inv))
 
 opened-requires : tie.Need-opened-requires Inv-loop μ-loop
 opened-requires c κs = search needs
@@ -71,9 +71,9 @@ nodes-spec =
     add-k
     shared-slice-read-c
     within-requires
-    put-requires
-    add-put
-    put-requires-2
+    put-number-requires
+    add-put-number
+    put-number-requires-2
     add-n
     loop-less
     loop-again

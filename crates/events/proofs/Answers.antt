@@ -1,0 +1,261 @@
+-- What the calls answer for a drawing, by what each event number stands for.
+use mathlib.Core.Path.{_≡_, refl, sym, ap, ap₂, _∙_, subst}
+use mathlib.Core.Bool.{Bool, true, false, cond}
+use mathlib.Core.List.{List, [], _∷_, _++_, append-nil}
+use Prim.Native.Nat.{ℕ, zero, suc, _+_, _-_, _≤_, _<_}
+use native.Mathlib.Nat.{zero-add}
+use native.Mathlib.Omega.{arith}
+use denote.Ref.{RefT, now}
+use lib.Dec.{ltb}
+use lib.ListN.{length, getD, take, drop, length-drop, drop-of-length-le}
+use lib.Seq.{drop-cons, take-nil, length-take-le}
+use borrow.Author.Tests.{ltb-true, ltb-false, lt-ltb, le-ltb}
+use Rattle.base.specs.Fill.{fill}
+use Rattle.base.proofs.Truth.{by-cases}
+use Rattle.diagram.specs.Tree.{Name, Flow}
+use Rattle.diagram.specs.Count.{flow-events, flow-copies}
+use Rattle.diagram.specs.declared.Diagram.{Diagram}
+use Rattle.lexer.specs.Classes.{worded}
+use Rattle.lexer.specs.Words.{front, word-at}
+use Rattle.lexer.proofs.Front.{front-end, front-le}
+use Rattle.reader.specs.Answers.{read-of}
+use Rattle.reader.specs.Accepted.{Accepted}
+use Rattle.reader.specs.declared.Answer.the-variants.{Done, Refused as Unread}
+use Rattle.reader.specs.declared.Out.{Out}
+use Rattle.reader.proofs.Exact.{accepted-exactly}
+use Rattle.reader.proofs.Shown.{accepted-shown}
+use Rattle.process.specs.Process.{Event, event-of, events}
+use Rattle.process.specs.Expand.{expand}
+use Rattle.process.proofs.Events.{events-counted, event-in-order}
+use Rattle.output.specs.Decimal.{decimal}
+use Rattle.output.specs.Buffer.{Buffer, buffer, put-all}
+use Rattle.output.proofs.Buffers.{put-all-fill}
+use Rattle.labels.specs.Values.{packed}
+use Rattle.labels.specs.Stands.{Stands}
+use Rattle.labels.specs.Seeks.{spot-of}
+use Rattle.labels.specs.declared.Spot.{Spot}
+use Rattle.labels.proofs.Sought.{Labels, nothing}
+use Rattle.labels.proofs.Labelled.{labelled}
+use Rattle.events.specs.Reading.{Reading, drawing, away}
+use Rattle.events.specs.Labels.{label, label-of, Valued}
+use Rattle.events.specs.Names.{name-of, Placed, Part, Named}
+use Rattle.events.specs.Listing.{first-line, refused-line, spaced, mark, line, lines, listing, Listed}
+use Rattle.events.specs.Spots.{Word, spot-label, spaced-values, spot-line, spot-lines, spot-listing}
+use Rattle.events.specs.declared.Label.{Label}
+use Rattle.events.specs.declared.Label.the-variants.{Leaf, Reset, Refused}
+use Rattle.events.proofs.Short.{Each, Short, each-at, events-short}
+use Rattle.events.proofs.Bound.{listing-short}
+
+-- A word as a part of the text.
+word-inside : (text : List ℕ) (at : ℕ) → at ≤ length text → at + front worded (drop at text) ≤ length text
+word-inside text at h = omega (arith, front-le worded (drop at text), length-drop at text)
+
+-- A word is as many bytes as it has.
+word-cut : (text : List ℕ) (at : ℕ) → take (length (word-at text at)) (drop at text) ≡ word-at text at
+word-cut text at = rw (length-take-le (front worded (drop at text)) (drop at text) (front-le worded (drop at text)))
+
+no-word : (text : List ℕ) (at : ℕ) → length text < at → word-at text at ≡ []
+no-word text at h = rw (drop-of-length-le text {i = at} (omega arith), take-nil {A = ℕ} (front worded []))
+
+pub word-none : (text r : RefT (List ℕ)) (at e : ℕ) → e ≡ at + front worded (drop at (now text)) → length (now text) < e → r .ptr .0 ≡ text .ptr .0
+    → r .ptr .1 ≡ text .ptr .1 + 0 → now r ≡ [] → Word text at r
+word-none text r at e q h b o n =
+    let past : length (now text) < at = past-end in
+    let none : word-at (now text) at ≡ [] = no-word (now text) at past in
+    record {
+      its-word = n ∙ sym none;
+      inside = λ l. let z : ⊥ = omega arith in absurd z;
+      past = λ l. record { its-block = b; its-offset = o; its-bytes = n };
+    }
+  where
+    past-end : length (now text) < at
+    past-end = by-cases (ltb (length (now text)) at) (λ t. ltb-true (length (now text)) at t)
+        (λ t. let l = word-inside (now text) at (ltb-false (length (now text)) at t) in let z : ⊥ = omega arith in absurd z)
+
+pub word-some : (text r : RefT (List ℕ)) (at e : ℕ) → e ≡ at + front worded (drop at (now text)) → e ≤ length (now text) → r .ptr .0 ≡ text .ptr .0
+    → r .ptr .1 ≡ text .ptr .1 + at → now r ≡ take (e - at) (drop at (now text)) → Word text at r
+word-some text r at e q h b o n =
+    let k : e - at ≡ front worded (drop at (now text)) = omega arith in
+    let w : now r ≡ word-at (now text) at = n ∙ ap (λ (x : ℕ). take x (drop at (now text))) k in
+    record {
+      its-word = w;
+      inside = λ l. record { its-block = b; its-offset = o; its-bytes = w ∙ sym (word-cut (now text) at) };
+      past = λ l. let z : ⊥ = omega arith in absurd z;
+    }
+
+-- The label of what an event number stands for.
+module _ (d : Diagram) (e : ℕ) where
+  pub labelled-past : d .events ≤ e → Refused 14 0 ≡ spot-label d e
+  unfolding spot-label
+  labelled-past h = rw (le-ltb e (d .events) h)
+
+  pub labelled-reset : (s : Spot) → e < d .events → s ≡ spot-of d e → s .reset ≡ true → Reset (s .values) ≡ spot-label d e
+  unfolding spot-label
+  labelled-reset s h q b = rw (lt-ltb e (d .events) h, ← q, b)
+
+  pub labelled-leaf : (s : Spot) → e < d .events → s ≡ spot-of d e → s .reset ≡ false → Leaf (s .values) ≡ spot-label d e
+  unfolding spot-label
+  labelled-leaf s h q b = rw (lt-ltb e (d .events) h, ← q, b)
+
+-- A text that was read is a drawing.
+pub record Drawn (text : List ℕ) (o : Out) : Type 0 where
+  pub tree : Flow
+  pub its-limits : Accepted text tree
+  pub its-events : o .diagram .events ≡ flow-events tree
+  pub its-copies : o .diagram .copies ≡ flow-copies tree
+  pub its-labels : (e : ℕ) → e < flow-events tree → Labels (Stands text) (event-of (expand tree) e) (spot-of (o .diagram) e)
+
+pub drawn : (text : List ℕ) (o : Out) → o ≡ read-of text → o .answer ≡ Done → Drawn text o
+drawn text o q h =
+    let a = accepted-exactly text .0 (sym (ap (λ (x : Out). x .answer) q) ∙ h) in
+    let s = accepted-shown text (a .0) (a .1) in
+    subst (Drawn text) (sym q)
+    record {
+      tree = a .0;
+      its-limits = a .1;
+      its-events = s .events;
+      its-copies = s .copies;
+      its-labels = labelled text (a .0) (a .1);
+    }
+
+-- The values call.
+same-label : (l : Event) (s : Spot) → s .reset ≡ l .reset → s .values ≡ packed (l .values) → cond (s .reset) (Reset (s .values)) (Leaf (s .values)) ≡ label l
+same-label l s p q = rw (p, q)
+
+label-told : {ok : Name → ℕ → Type 0} (g : Diagram) (d : Flow) (e : ℕ) → g .events ≡ flow-events d
+    → (e < flow-events d → Labels ok (event-of (expand d) e) (spot-of g e))
+    → spot-label g e ≡ cond (ltb e (flow-events d)) (label (event-of (expand d) e)) (Refused 14 0)
+unfolding spot-label
+label-told g d e n f =
+    by-cases (ltb e (flow-events d))
+    (λ t.
+    let h = ltb-true e (flow-events d) t in
+    let l = f h in
+    rw (t, lt-ltb e (g .events) (omega arith)) (same-label (event-of (expand d) e) (spot-of g e) (l .mark) (l .its-values)))
+    (λ t. let h = ltb-false e (flow-events d) t in rw (t, le-ltb e (g .events) (omega arith)))
+
+pub valued-drawn : (text : List ℕ) (o : Out) (e : ℕ) (r : Label) → o ≡ read-of text → o .answer ≡ Done → r ≡ spot-label (o .diagram) e → Valued text e r
+unfolding label-of
+valued-drawn text o e r q h g =
+    let d = drawn text o q h in
+    record {
+      reading = drawing (d .tree) (d .its-limits);
+      its-label = g ∙ label-told (o .diagram) (d .tree) e (d .its-events) (d .its-labels e);
+    }
+
+pub valued-away : (text : List ℕ) (o : Out) (e number place : ℕ) → o ≡ read-of text → o .answer ≡ Unread number place → Valued text e (Refused number place)
+unfolding label-of
+valued-away text o e number place q h = record { reading = away number place (sym (ap (λ (x : Out). x .answer) q) ∙ h); its-label = refl }
+
+-- The name call. A name is not empty, so it stands inside the text.
+pub short-at : (text : List ℕ) (d : Flow) → Accepted text d → (e : ℕ) → e < flow-events d → Short (event-of (expand d) e)
+short-at text d a e h =
+    let n = events-counted d (a .keeps .sizes) in
+    rw (event-in-order d (a .keeps .sizes) e nothing h) (each-at Short (events (expand d)) e nothing (events-short text d a) (omega arith))
+
+named-inside : (text : List ℕ) (at : ℕ) (n : Name) → word-at text at ≡ n → 1 ≤ length n → at ≤ length text
+named-inside text at n q h =
+    by-cases (ltb (length text) at)
+    (λ t. let z = ap length (sym q ∙ no-word text at (ltb-true (length text) at t)) in omega arith)
+    (λ t. ltb-false (length text) at t)
+
+pub named-away : (text r : RefT (List ℕ)) (o : Out) (e number place : ℕ) → o ≡ read-of (now text) → o .answer ≡ Unread number place → Part text r 0 0 → now r ≡ []
+    → Named text e r
+unfolding name-of Placed
+named-away text r o e number place q h p n =
+    record { reading = away number place (sym (ap (λ (x : Out). x .answer) q) ∙ h); its-name = n; place = 0; its-place = refl; its-part = p }
+
+pub named-past : (text r : RefT (List ℕ)) (o : Out) (e : ℕ) → o ≡ read-of (now text) → o .answer ≡ Done → o .diagram .events ≤ e → Part text r 0 0 → now r ≡ []
+    → Named text e r
+unfolding name-of Placed
+named-past text r o e q h l p n =
+    let d = drawn (now text) o q h in
+    let k = d .its-events in
+    let none : name-of (drawing (d .tree) (d .its-limits)) e ≡ [] = rw (le-ltb e (flow-events (d .tree)) (omega arith)) in
+    record {
+      reading = drawing (d .tree) (d .its-limits);
+      its-name = n ∙ sym none;
+      place = 0;
+      its-place = (λ g. let z : ⊥ = omega arith in absurd z, λ g. refl);
+      its-part = rw none p;
+    }
+
+pub named-some : (text r : RefT (List ℕ)) (o : Out) (e : ℕ) (s : Spot) → o ≡ read-of (now text) → o .answer ≡ Done → e < o .diagram .events → s ≡ spot-of (o .diagram) e
+    → Word text (s .place) r → Named text e r
+unfolding name-of Placed
+named-some text r o e s q h l g w =
+    let d = drawn (now text) o q h in
+    let k = d .its-events in
+    let less : e < flow-events (d .tree) = omega arith in
+    let name = event-of (expand (d .tree)) e .name in
+    let stands : Stands (now text) name (s .place) = rw g (d .its-labels e less .named) in
+    let some = short-at (now text) (d .tree) (d .its-limits) e less .some in
+    let told : name-of (drawing (d .tree) (d .its-limits)) e ≡ name = rw (lt-ltb e (flow-events (d .tree)) less) in
+    record {
+      reading = drawing (d .tree) (d .its-limits);
+      its-name = w .its-word ∙ (stands .its-name ∙ sym told);
+      place = s .place;
+      its-place = (λ x. stands, λ x. let z : ⊥ = omega arith in absurd z);
+      its-part =
+          rw (told, ← (stands .its-name))
+          (w .inside (named-inside (now text) (s .place) name (stands .its-name) some));
+    }
+
+-- The listing. Values as they are packed.
+spaced-packed : (vs : List ℕ) → length vs ≤ 3 → spaced-values (packed vs) ≡ spaced vs
+unfolding spaced-values spaced
+spaced-packed [] h = refl
+spaced-packed (a ∷ []) h = refl
+spaced-packed (a ∷ b ∷ []) h = refl
+spaced-packed (a ∷ b ∷ c ∷ []) h = rw (append-nil (decimal c))
+spaced-packed (a ∷ b ∷ c ∷ x ∷ vs) h = let z : ⊥ = omega arith in absurd z
+
+line-told : (text : List ℕ) (e : ℕ) (l : Event) (s : Spot) → Labels (Stands text) l s → length (l .values) ≤ 3 → spot-line text e s ≡ line e l
+unfolding spot-line line
+line-told text e l s g h = rw (g .mark, g .its-values, g .named .its-name, spaced-packed (l .values) h)
+
+-- From event e on, of n.
+lines-told : (text : List ℕ) (g : Diagram) (ls : List Event) (e n : ℕ) → e + n ≡ length ls
+    → ((x : ℕ) → x < length ls → spot-line text x (spot-of g x) ≡ line x (getD ls x nothing))
+    → spot-lines text g e n ≡ lines e (drop e ls)
+unfolding spot-lines lines
+lines-told text g ls e zero h f = rw (drop-of-length-le ls {i = e} (omega arith))
+lines-told text g ls e (suc n) h f =
+    rw (drop-cons ls e nothing (omega arith), f e (omega arith), lines-told text g ls (suc e) n (omega arith) f)
+
+listing-told : (text : List ℕ) (o : Out) (d : Drawn text o) → spot-listing text (o .diagram) ≡ listing (drawing (d .tree) (d .its-limits))
+unfolding spot-listing listing
+listing-told text o d =
+    let t = d .tree in
+    let a = d .its-limits in
+    let n = d .its-events in
+    let count = events-counted t (a .keeps .sizes) in
+    ap₂ (λ (xs ys : List ℕ). xs ++ ys) (ap₂ first-line n (d .its-copies))
+    (lines-told text (o .diagram) (events (expand t)) 0 (o .diagram .events) (omega arith)
+    (λ x h.
+    let less : x < flow-events t = omega arith in
+    line-told text x (event-of (expand t) x) (spot-of (o .diagram) x) (d .its-labels x less) (short-at text t a x less .few)
+    ∙ ap (line x) (event-in-order t (a .keeps .sizes) x nothing less)))
+
+-- What is written, where it fits.
+listed : (text lent left : List ℕ) (w : Reading text) (bs : List ℕ) (r : ℕ) → bs ≡ listing w → length lent ≡ 32768
+    → buffer r left ≡ put-all bs (buffer 0 lent) → Listed text lent r left
+listed text lent left w bs r e m h =
+    let q = h ∙ put-all-fill bs lent (rw (e, m) (listing-short w)) in
+    record {
+      reading = w;
+      its-count = ap (λ (b : Buffer). b .at) q ∙ ap length e;
+      its-bytes = ap (λ (b : Buffer). b .bytes) q ∙ ap (fill lent) e;
+    }
+
+pub listed-drawn : (text lent left : List ℕ) (o : Out) (r : ℕ) → o ≡ read-of text → o .answer ≡ Done → length lent ≡ 32768
+    → buffer r left ≡ put-all (spot-listing text (o .diagram)) (buffer 0 lent) → Listed text lent r left
+listed-drawn text lent left o r q h m w =
+    let d = drawn text o q h in
+    listed text lent left (drawing (d .tree) (d .its-limits)) (spot-listing text (o .diagram)) r (listing-told text o d) m w
+
+pub listed-away : (text lent left : List ℕ) (o : Out) (number place r : ℕ) → o ≡ read-of text → o .answer ≡ Unread number place → length lent ≡ 32768
+    → buffer r left ≡ put-all (refused-line number place) (buffer 0 lent) → Listed text lent r left
+unfolding listing
+listed-away text lent left o number place r q h m w =
+    listed text lent left (away number place (sym (ap (λ (x : Out). x .answer) q) ∙ h)) (refused-line number place) r refl m w

@@ -1,0 +1,70 @@
+-- A listing has at most 32,768 bytes: at most 22 for the first line, and 44 for each of at most 512 events.
+use mathlib.Core.Path.{_≡_, sym, _∙_, ap}
+use mathlib.Core.List.{List, [], _∷_}
+use Prim.Native.Nat.{ℕ, suc, _+_, _*_, _≤_, _<_}
+use native.Mathlib.Omega.{arith}
+use lib.ListN.{length, length-append}
+use Rattle.base.proofs.Truth.{by-cases}
+use Rattle.diagram.specs.Count.{flow-events, flow-copies}
+use Rattle.output.proofs.Decimals.{decimal-short}
+use Rattle.reader.specs.Answers.{read-of}
+use Rattle.reader.specs.Bounds.{Bounded, result, refusal}
+use Rattle.reader.specs.declared.Answer.the-variants.{Refused}
+use Rattle.reader.specs.declared.Out.{Out}
+use Rattle.reader.proofs.Exact.{done-refused}
+use Rattle.reader.proofs.Bounds.{read-bounded}
+use Rattle.process.specs.Process.{Event, events}
+use Rattle.process.specs.Expand.{expand}
+use Rattle.process.proofs.Events.{events-counted}
+use Rattle.events.specs.Reading.{Reading, drawing, away}
+use Rattle.events.specs.Listing.{first-line, refused-line, spaced, mark, line, lines, listing}
+use Rattle.events.proofs.Short.{Each, Small, Short, events-short}
+
+-- A value below 16 has at most 2 digits, and a space before them.
+spaced-short : (vs : List ℕ) → Each Small vs → length (spaced vs) ≤ 3 * length vs
+unfolding spaced
+spaced-short [] h = omega arith
+spaced-short (v ∷ vs) h = simp length-append (omega (arith, decimal-short 1 v (omega arith), spaced-short vs (h .1)))
+
+mark-short : (l : Event) → length (mark l) ≤ 6
+mark-short l = by-cases (l .reset) (λ e. rw e (omega arith)) (λ e. rw e (omega arith))
+
+-- 3 digits, a space, 6 bytes for `reset`, 24 for the name, 9 for 3 values, the line's end.
+line-short : (e : ℕ) (l : Event) → e < 1000 → Short l → length (line e l) ≤ 44
+unfolding line
+line-short e l h s = simp length-append (omega (arith, decimal-short 2 e h, mark-short l, spaced-short (l .values) (s .small)))
+
+-- Numbers up to 999 have 3 digits, and there are fewer events.
+lines-short : (e : ℕ) (ls : List Event) → e + length ls ≤ 1000 → Each Short ls → length (lines e ls) ≤ 44 * length ls
+unfolding lines
+lines-short e [] h s = omega arith
+lines-short e (l ∷ ls) h s =
+    simp length-append (omega (arith, line-short e l (omega arith) (s .0), lines-short (suc e) ls (omega arith) (s .1)))
+
+first-short : (e c : ℕ) → e < 1000 → c < 1000 → length (first-line e c) ≤ 22
+unfolding first-line
+first-short e c h k = simp length-append (omega (arith, decimal-short 2 e h, decimal-short 2 c k))
+
+refused-short : (number place : ℕ) → number < 100 → place < 100000 → length (refused-line number place) ≤ 17
+unfolding refused-line
+refused-short n p h k = simp length-append (omega (arith, decimal-short 1 n h, decimal-short 4 p k))
+
+-- The number and the place with which a text is turned away are small.
+pub near : (text : List ℕ) (number place : ℕ) → read-of text .answer ≡ Refused number place → (2 ≤ number) × (number ≤ 11) × (place ≤ 16384)
+near text n p e = go (read-bounded text)
+  where
+    go : Bounded text (read-of text) → (2 ≤ n) × (n ≤ 11) × (p ≤ 16384)
+    go (result r) = done-refused (sym (r .done) ∙ e)
+    go (refusal r) =
+        let q : Refused (r .number) (r .place) ≡ Refused n p = sym (ap (λ (o : Out). o .answer) (r .is)) ∙ e in
+        let x : r .number ≡ n = cc in
+        let y : r .place ≡ p = cc in
+        omega (arith, r .low, r .high, r .near)
+
+pub listing-short : {text : List ℕ} (w : Reading text) → length (listing w) ≤ 32768
+unfolding listing
+listing-short {text} (drawing d a) =
+    let c = events-counted d (a .keeps .sizes) in
+    simp length-append
+    (omega (arith, first-short (flow-events d) (flow-copies d) (omega arith) (omega arith), lines-short 0 (events (expand d)) (omega arith) (events-short text d a)))
+listing-short {text} (away n p r) = let h = near text n p r in omega (arith, refused-short n p (omega arith) (omega arith))

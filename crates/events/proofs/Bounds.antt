@@ -1,0 +1,135 @@
+-- Property 1 for names, values and listings, and that a call has one answer.
+use mathlib.Core.Path.{_≡_, refl, sym, ap, _∙_}
+use mathlib.Core.Logic.{_⊎_, inl, inr, ⊎-elim}
+use mathlib.Core.Bool.{true, false, cond}
+use mathlib.Core.List.{List, [], _∷_}
+use Prim.Native.Nat.{ℕ, zero, suc, _+_, _≤_, _<_}
+use native.Mathlib.Omega.{arith}
+use denote.Ref.{RefT, now}
+use lib.Dec.{ltb}
+use lib.ListN.{length, getD, take, drop, length-drop, length-take}
+use lib.Seq.{length-take-le}
+use borrow.Author.Tests.{ltb-true, ltb-false}
+use Rattle.base.specs.Fill.{fill}
+use Rattle.base.proofs.Filled.{fill-length, fill-past}
+use Rattle.base.proofs.Truth.{by-cases}
+use Rattle.diagram.specs.Tree.{Flow}
+use Rattle.diagram.specs.Count.{flow-events}
+use Rattle.reader.specs.Accepted.{Accepted}
+use Rattle.process.specs.Process.{Event, event-of}
+use Rattle.process.specs.Expand.{expand}
+use Rattle.labels.specs.Values.{packed}
+use Rattle.events.specs.Reading.{Reading, drawing, away}
+use Rattle.events.specs.Labels.{label, label-of, Valued}
+use Rattle.events.specs.Names.{name-of, Placed, Named}
+use Rattle.events.specs.Listing.{listing, Listed}
+use Rattle.events.specs.Bounds.{Name-bounded, Within, Values-bounded, leaf, reset, refusal, List-bounded}
+use Rattle.events.specs.declared.Label.{Label}
+use Rattle.events.specs.declared.Label.the-variants.{Leaf, Reset, Refused}
+use Rattle.events.proofs.Read.{Same, same-drawing, same-away, one-reading, one-listing}
+use Rattle.events.proofs.Short.{Each, Small, Short}
+use Rattle.events.proofs.Bound.{near, listing-short}
+use Rattle.events.proofs.Answers.{short-at}
+
+-- The listing.
+pub list-bounded : (text lent : List ℕ) (r : ℕ) (left : List ℕ) → Listed text lent r left → List-bounded lent r left
+list-bounded text lent r left h =
+    let n = h .its-count in
+    let few = listing-short (h .reading) in
+    record {
+      few = omega arith;
+      length-stays = ap length (h .its-bytes) ∙ fill-length lent (listing (h .reading));
+      past = rw (n, h .its-bytes) (fill-past lent (listing (h .reading)));
+    }
+
+-- As a caller takes the bytes that were written.
+pub list-room : (text lent : List ℕ) (r : ℕ) (left : List ℕ) → Listed text lent r left → length lent ≡ 32768 → (r ≤ length left) × (r ≡ length (take r left))
+list-room text lent r left h m =
+    let b = list-bounded text lent r left h in
+    let few = b .few in
+    let stays = b .length-stays in
+    let l : r ≤ length left = omega arith in
+    (l, sym (length-take-le r left l))
+
+-- The values.
+value-small : (vs : List ℕ) (i : ℕ) → Each Small vs → getD vs i 0 < 16
+value-small [] i h = omega arith
+value-small (v ∷ vs) zero h = h .0
+value-small (v ∷ vs) (suc i) h = value-small vs i (h .1)
+
+packed-within : (l : Event) → Short l → Within (packed (l .values))
+packed-within l s = record {
+  few = s .few;
+  first-small = value-small (l .values) 0 (s .small);
+  second-small = value-small (l .values) 1 (s .small);
+  third-small = value-small (l .values) 2 (s .small);
+}
+
+label-bounded : (l : Event) (r : Label) → Short l → r ≡ label l → Values-bounded r
+label-bounded l r s q =
+    by-cases (l .reset)
+    (λ t. reset (packed (l .values)) (q ∙ rw t) (packed-within l s))
+    (λ t. leaf (packed (l .values)) (q ∙ rw t) (packed-within l s))
+
+reading-bounded : {text : List ℕ} (w : Reading text) (e : ℕ) (r : Label) → r ≡ label-of w e → Values-bounded r
+unfolding label-of
+reading-bounded {text} (drawing d a) e r q =
+    by-cases (ltb e (flow-events d))
+    (λ t. label-bounded (event-of (expand d) e) r (short-at text d a e (ltb-true e (flow-events d) t)) (q ∙ rw t))
+    (λ t. refusal 14 0 (q ∙ rw t) (inr refl) (omega arith))
+reading-bounded {text} (away number place h) e r q = let n = near text number place h in refusal number place q (inl (n .0, n .1)) (n .2)
+
+pub values-bounded : (text : List ℕ) (e : ℕ) (r : Label) → Valued text e r → Values-bounded r
+values-bounded text e r v = reading-bounded (v .reading) e r (v .its-label)
+
+-- The name.
+name-short : {text : List ℕ} (w : Reading text) (e : ℕ) → length (name-of w e) ≤ 24
+unfolding name-of
+name-short {text} (drawing d a) e =
+    by-cases (ltb e (flow-events d))
+    (λ t. rw t (short-at text d a e (ltb-true e (flow-events d) t) .name))
+    (λ t. rw t (omega arith))
+name-short {text} (away number place h) e = omega arith
+
+-- It has a byte, or stands at the text's begin.
+name-near : {text : List ℕ} (w : Reading text) (e place : ℕ) → Placed w e place → (1 ≤ length (name-of w e)) ⊎ (place ≡ 0)
+unfolding name-of Placed
+name-near {text} (drawing d a) e place p =
+    by-cases (ltb e (flow-events d))
+    (λ t. inl (rw t (short-at text d a e (ltb-true e (flow-events d) t) .some)))
+    (λ t. inr (p .1 (ltb-false e (flow-events d) t)))
+name-near {text} (away number at h) e place p = inr p
+
+pub name-bounded : (text : RefT (List ℕ)) (e : ℕ) (r : RefT (List ℕ)) → Named text e r → Name-bounded text r
+name-bounded text e r n =
+    let k = ap length (n .its-name) in
+    let m = ap length (n .its-part .its-bytes) ∙ length-take (length (name-of (n .reading) e)) (drop (n .place) (now text)) in
+    let l = length-drop (n .place) (now text) in
+    record {
+      short = rw k (name-short (n .reading) e);
+      place = n .place;
+      inside = ⊎-elim (λ h. omega arith) (λ h. omega arith) (name-near (n .reading) e (n .place) (n .its-place));
+      its-part = rw k (n .its-part);
+    }
+
+-- One answer, whatever the reading.
+same-label : {text : List ℕ} {v w : Reading text} (e : ℕ) → Same v w → label-of v e ≡ label-of w e
+unfolding label-of
+same-label e (same-drawing d a b) = refl
+same-label e (same-away n p r s) = refl
+
+same-name : {text : List ℕ} {v w : Reading text} (e : ℕ) → Same v w → name-of v e ≡ name-of w e
+unfolding name-of
+same-name e (same-drawing d a b) = refl
+same-name e (same-away n p r s) = refl
+
+pub one-label : (text : List ℕ) (e : ℕ) (r s : Label) → Valued text e r → Valued text e s → r ≡ s
+one-label text e r s v w = v .its-label ∙ (same-label e (one-reading (v .reading) (w .reading)) ∙ sym (w .its-label))
+
+pub one-name : (text : RefT (List ℕ)) (e : ℕ) (r s : RefT (List ℕ)) → Named text e r → Named text e s → now r ≡ now s
+one-name text e r s v w = v .its-name ∙ (same-name e (one-reading (v .reading) (w .reading)) ∙ sym (w .its-name))
+
+pub one-list : (text lent : List ℕ) (m n : ℕ) (left other : List ℕ) → Listed text lent m left → Listed text lent n other → (m ≡ n) × (left ≡ other)
+one-list text lent m n left other v w =
+    let q = one-listing (v .reading) (w .reading) in
+    (v .its-count ∙ (ap length q ∙ sym (w .its-count)), v .its-bytes ∙ (ap (fill lent) q ∙ sym (w .its-bytes)))

@@ -1,0 +1,6 @@
+pub mod Read
+pub mod Short
+pub mod Bound
+pub mod Written
+pub mod Answers
+pub mod Bounds

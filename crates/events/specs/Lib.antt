@@ -1,0 +1,6 @@
+pub mod Reading
+pub mod Labels
+pub mod Names
+pub mod Listing
+pub mod Spots
+pub mod Bounds

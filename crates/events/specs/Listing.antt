@@ -1,0 +1,50 @@
+-- The bytes of a listing. Document 01: "Each line ends with byte 10. First line: events and node copies. Then number, name, and values outermost first, each after
+-- a space; a reset has `reset` before the flow's name. If turned away it prints one line: `refused`, number and place, one space between."
+use mathlib.Core.Path.{_≡_}
+use mathlib.Core.Bool.{cond}
+use mathlib.Core.List.{List, [], _∷_, _++_}
+use Prim.Native.Nat.{ℕ, suc}
+use lib.ListN.{length}
+use Rattle.base.specs.Fill.{fill}
+use Rattle.diagram.specs.Count.{flow-events, flow-copies}
+use Rattle.process.specs.Process.{Event, events}
+use Rattle.process.specs.Expand.{expand}
+use Rattle.output.specs.Decimal.{decimal}
+use Rattle.events.specs.Reading.{Reading, drawing, away}
+
+-- `events E copies C`
+unfoldable pub first-line : ℕ → ℕ → List ℕ
+first-line e c =
+    (101 ∷ 118 ∷ 101 ∷ 110 ∷ 116 ∷ 115 ∷ 32 ∷ []) ++ (decimal e ++ ((32 ∷ 99 ∷ 111 ∷ 112 ∷ 105 ∷ 101 ∷ 115 ∷ 32 ∷ []) ++ (decimal c ++ (10 ∷ []))))
+
+-- `refused NUMBER PLACE`
+unfoldable pub refused-line : ℕ → ℕ → List ℕ
+refused-line number place = (114 ∷ 101 ∷ 102 ∷ 117 ∷ 115 ∷ 101 ∷ 100 ∷ 32 ∷ []) ++ (decimal number ++ ((32 ∷ []) ++ (decimal place ++ (10 ∷ []))))
+
+-- Values, "each after a space".
+unfoldable pub spaced : List ℕ → List ℕ
+spaced [] = []
+spaced (v ∷ vs) = (32 ∷ []) ++ (decimal v ++ spaced vs)
+
+-- `reset` and a space, or nothing.
+abbrev pub mark : Event → List ℕ
+mark l = cond (l .reset) (114 ∷ 101 ∷ 115 ∷ 101 ∷ 116 ∷ 32 ∷ []) []
+
+-- The line of event e.
+unfoldable pub line : ℕ → Event → List ℕ
+line e l = decimal e ++ ((32 ∷ []) ++ (mark l ++ (l .name ++ (spaced (l .values) ++ (10 ∷ [])))))
+
+-- The lines of some events, of which the first has the number e.
+unfoldable pub lines : ℕ → List Event → List ℕ
+lines e [] = []
+lines e (l ∷ ls) = line e l ++ lines (suc e) ls
+
+unfoldable pub listing : {text : List ℕ} → Reading text → List ℕ
+listing (drawing d a) = first-line (flow-events d) (flow-copies d) ++ lines 0 (events (expand d))
+listing (away number place r) = refused-line number place
+
+-- What the listing call answers, and every byte of the lent buffer: "On success, bytes past those written stay too."
+pub record Listed (text lent : List ℕ) (r : ℕ) (left : List ℕ) : Type 0 where
+  pub reading : Reading text
+  pub its-count : r ≡ length (listing reading)
+  pub its-bytes : left ≡ fill lent (listing reading)

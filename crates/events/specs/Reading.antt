@@ -1,0 +1,13 @@
+-- What a text is to the calls that start from one: a drawing, or turned away with a number and a place. Every text is one of the two, and only one:
+-- `events.proofs.Read.reading`, `events.proofs.Read.one-reading`.
+use mathlib.Core.Path.{_≡_}
+use mathlib.Core.List.{List}
+use Prim.Native.Nat.{ℕ}
+use Rattle.diagram.specs.Tree.{Flow}
+use Rattle.reader.specs.Answers.{read-of}
+use Rattle.reader.specs.Accepted.{Accepted}
+use Rattle.reader.specs.declared.Answer.the-variants.{Refused}
+
+pub data Reading (text : List ℕ) : Type 0 where
+  drawing : (d : Flow) → Accepted text d → Reading text
+  away : (number place : ℕ) → read-of text .answer ≡ Refused number place → Reading text

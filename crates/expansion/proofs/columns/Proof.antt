@@ -1,0 +1,103 @@
+-- `expansion::columns` meets its contract. The loop's invariant: each array holds the numbers of the first n nodes, and zeros after them. Its measure
+-- is what is left of the arrays. Assumes nothing.
+use mathlib.Core.Path.{_≡_, refl, sym, _∙_}
+use mathlib.Core.Logic.{inl, inr}
+use Prim.Native.Nat.{_-_, _<_}
+use native.Mathlib.Omega.{arith}
+use lib.ListN.{length, length-map}
+use borrow.Author.Needs.{needs}
+use borrow.Author.Tests.{ltb-true, ltb-false}
+use Rattle.expansion.proofs.Filled.{Filled, column-more, filled-whole}
+use Rattle.expansion.proofs.columns.Statement.{statement}
+use Rattle.expansion.proofs.columns.Tie as tie
+
+abbrev Inv-loop : tie.InvT-loop
+Inv-loop d kinds₀ sizes₀ depths₀ n₀ kinds sizes depths n = Filled d kinds sizes depths n
+
+abbrev μ-loop : tie.MeasureT-loop
+μ-loop d kinds₀ sizes₀ depths₀ n₀ kinds sizes depths n = 256 - n
+
+-- There are 256 nodes.
+nodes-long : (s : tie.Start Inv-loop μ-loop) → length (s .args .t1 .nodes) ≡ 256
+nodes-long s = sym (length-map (s .args .t1 .nodes) _) ∙ s .good .0 .1 .1 .0 .1 .0 .1
+
+loop-holds : tie.Need-loop-holds Inv-loop μ-loop
+loop-holds c = record { room = omega arith; counts = omega arith; first = refl; second = refl; third = refl }
+
+mul-x : tie.Need-mul-x Inv-loop μ-loop
+mul-x c = search needs
+
+element-copy-out-x : tie.Need-element-copy-out-x Inv-loop μ-loop
+element-copy-out-x c = search needs
+
+number-requires : tie.Need-number-requires Inv-loop μ-loop
+number-requires c κs = search needs
+
+array-write-kinds : tie.Need-array-write-kinds Inv-loop μ-loop
+array-write-kinds c = search needs
+
+size-requires : tie.Need-size-requires Inv-loop μ-loop
+size-requires c κs = search needs
+
+array-write-sizes : tie.Need-array-write-sizes Inv-loop μ-loop
+array-write-sizes c = search needs
+
+mul-depths : tie.Need-mul-depths Inv-loop μ-loop
+mul-depths c = search needs
+
+array-write-depths : tie.Need-array-write-depths Inv-loop μ-loop
+array-write-depths c = search needs
+
+add-n : tie.Need-add-n Inv-loop μ-loop
+add-n c = search needs
+
+loop-less : tie.Need-loop-less Inv-loop μ-loop
+loop-less c = search needs
+
+loop-again : tie.Need-loop-again Inv-loop μ-loop
+loop-again c =
+    let l = c .before .before .before .before .before .loop in
+    let a = l .inv in
+    let t : l .n < 256 = omega arith in
+    let s = c .before .before .before .before .before .before in
+    let ns = s .args .t1 .nodes in
+    let m = nodes-long s in
+    record {
+      room = omega arith;
+      counts = omega (arith, ltb-true (l .n) (s .args .t1 .count) (c .before .before .before .if1 .taken));
+      first = column-more ns m _ (l .n) _ t (a .first) (c .before .number .ensures);
+      second = column-more ns m _ (l .n) _ t (a .second) (c .size .ensures);
+      third = column-more ns m _ (l .n) _ t (a .third) refl;
+    }
+
+returns : tie.Need-returns Inv-loop μ-loop
+returns c =
+    let l = c .before .before .loop in
+    let s = c .before .before .before in
+    filled-whole (s .args .t1) (nodes-long s) (inl (ltb-false (l .n) (s .args .t1 .count) (c .if1 .left))) (l .inv)
+
+returns-2 : tie.Need-returns-2 Inv-loop μ-loop
+returns-2 c =
+    let s = c .before .before in
+    filled-whole (s .args .t1) (nodes-long s) (inr (c .loop-test .left)) (c .before .loop .inv)
+
+pub columns-spec : {M : Type 1} → statement M
+columns-spec =
+    tie.close
+    (tie.spec
+    Inv-loop
+    μ-loop
+    loop-holds
+    mul-x
+    element-copy-out-x
+    number-requires
+    array-write-kinds
+    size-requires
+    array-write-sizes
+    mul-depths
+    array-write-depths
+    add-n
+    loop-less
+    loop-again
+    returns
+    returns-2)

@@ -1,0 +1,95 @@
+-- What an event number of an accepted text stands for is the event of that number: its mark, its values, and its name at its place in the text.
+use mathlib.Core.Path.{_≡_, refl, sym, ap, _∙_, subst}
+use mathlib.Core.Logic.{⊎-elim}
+use mathlib.Core.Bool.{Bool, true, false, _||_, false≢true}
+use mathlib.Core.List.{List, [], _∷_, map}
+use Prim.Native.Nat.{ℕ, suc, _+_, _-_, _<_}
+use native.Mathlib.Omega.{arith}
+use lib.ListN.{length, getD, drop, replicate, length-map}
+use lib.Seq.{drop-drop, getD-drop, take-at}
+use native.Mathlib.Numerals.{add-one}
+use Rattle.base.proofs.Truth.{cases}
+use Rattle.diagram.specs.Tree.{Flow}
+use Rattle.diagram.specs.Count.{flow-copies, flow-events}
+use Rattle.diagram.specs.Stored.{blank-node}
+use Rattle.lexer.specs.Spans.{codes, places}
+use Rattle.grammar.specs.Limits.{keyed}
+use Rattle.rules.specs.Heads.{Head, flowing, leafy, copying, head, heads, name-in, opened}
+use Rattle.rules.proofs.Trees.{flow-heads}
+use Rattle.reader.specs.Nodes.{name-place, node-of, stored}
+use Rattle.reader.specs.Answers.{read-of}
+use Rattle.reader.specs.Accepted.{Accepted}
+use Rattle.reader.specs.declared.Out.{Out}
+use Rattle.reader.proofs.Told.{derived-heads}
+use Rattle.reader.proofs.Exact.{accepted-read}
+use Rattle.process.specs.Process.{event-of}
+use Rattle.process.specs.Expand.{expand}
+use Rattle.process.proofs.Events.{event-in-order}
+use Rattle.labels.specs.Stands.{Stands}
+use Rattle.labels.specs.Rows.{Row, node-row}
+use Rattle.labels.specs.Weights.{weigh}
+use Rattle.labels.specs.Seeks.{begin, seek, spot-of}
+use Rattle.labels.proofs.Weighed.{head-row}
+use Rattle.labels.proofs.Sought.{Labels, Known, nothing, flow-found}
+
+-- A leaf or flow has a name.
+titled : (f l c : Bool) → (f || l) ≡ true → (f || (l || c)) ≡ true
+titled true l c h = refl
+titled false true c h = refl
+titled false false c h = absurd (false≢true h)
+
+-- The tokens from the number k on.
+token-here : (cs rest : List ℕ) (k c : ℕ) → drop k cs ≡ c ∷ rest → getD cs k 0 ≡ c
+token-here cs rest k c h =
+    let e : k + 0 ≡ k = omega arith in
+    ap (λ (n : ℕ). getD cs n 0) (sym e) ∙ (sym (getD-drop k cs 0 0) ∙ ap (λ (l : List ℕ). getD l 0 0) h)
+
+tokens-on : (cs rest : List ℕ) (k c : ℕ) → drop k cs ≡ c ∷ rest → drop (suc k) cs ≡ rest
+tokens-on cs rest k c h = ap (λ (n : ℕ). drop n cs) (sym (add-one k)) ∙ (sym (drop-drop 1 k cs) ∙ ap (λ (l : List ℕ). drop 1 l) h)
+
+-- The name of each leaf and flow that the tokens of a text tell stands where its token does.
+module _ (text : List ℕ) where
+  head-known : (p k c : ℕ) (cs : List ℕ) → drop k (codes text) ≡ c ∷ cs → (flowing c || leafy c) ≡ true
+      → Stands text (head (name-in text (places text)) p k (c ∷ cs) .name) (head-row (places text) (head (name-in text (places text)) p k (c ∷ cs)) .place)
+  unfolding head head-row node-of name-place
+  head-known p k c cs h t =
+      let here = titled (flowing c) (leafy c) (copying c) t in
+      record {
+        keyword = k;
+        its-kind = rw (token-here (codes text) cs k c h) t;
+        its-place = rw here;
+        its-name = rw here;
+      }
+
+  heads-known : (p k : ℕ) (cs : List ℕ) → drop k (codes text) ≡ cs → Known (places text) (Stands text) (heads (name-in text (places text)) p k cs)
+  unfolding heads Known head
+  heads-known p k [] h = tt
+  heads-known p k (c ∷ cs) h =
+      ⊎-elim
+      (λ e. rw e (head-known (suc p) k c cs h, heads-known p (suc k) cs (tokens-on (codes text) cs k c h)))
+      (λ e. rw e (heads-known (opened p c) (suc k) cs (tokens-on (codes text) cs k c h)))
+      (cases (keyed c))
+
+-- The nodes that the diagram by value holds.
+stored-rows : (ps : List ℕ) (hs : List Head) → map node-row (map (node-of ps) hs) ≡ map (head-row ps) hs
+unfolding head-row
+stored-rows ps [] = refl
+stored-rows ps (h ∷ hs) = ap (λ (rs : List Row). head-row ps h ∷ rs) (stored-rows ps hs)
+
+stored-spot : (ps : List ℕ) (hs : List Head) (x y e : ℕ) → spot-of (stored ps hs x y) e ≡ seek (weigh (map (head-row ps) hs)) (begin e)
+unfolding spot-of stored
+stored-spot ps hs x y e =
+    ap (λ (rs : List Row). seek (weigh rs) (begin e))
+    (ap (map node-row) (take-at (map (node-of ps) hs) (replicate (256 - length hs) blank-node) (length hs) (length-map hs (node-of ps))) ∙ stored-rows ps hs)
+
+pub labelled : (text : List ℕ) (d : Flow) → Accepted text d → (e : ℕ) → e < flow-events d
+    → Labels (Stands text) (event-of (expand d) e) (spot-of (read-of text .diagram) e)
+labelled text d a e l =
+    let ps = places text in
+    let hs = flow-heads d false 1 0 [] in
+    let keeps = a .keeps in
+    let few = a .events in
+    let known = subst (Known ps (Stands text)) (derived-heads text d (a .derived)) (heads-known text 0 0 (codes text) refl) in
+    let found = flow-found ps (Stands text) d false 0 0 [] (omega arith) (keeps .sizes) (omega arith) known [] [] refl (keeps .parameters) 0 e l in
+    let same = ap (λ (o : Out). spot-of (o .diagram) e) (accepted-read text d a) ∙ stored-spot ps hs (flow-copies d) (flow-events d) e in
+    rw (same, event-in-order d (keeps .sizes) e nothing l) found

@@ -1,0 +1,10 @@
+pub mod Deep
+pub mod Pushed
+pub mod Weighed
+pub mod Ordered
+pub mod Turned
+pub mod Sought
+pub mod Labelled
+pub mod Rowed
+pub mod Stepped
+pub mod Spots
