@@ -1,4 +1,5 @@
-/* How much stack reading, printing and translation take, and how many rows a translation has.
+/* How much stack reading, printing, translation, the listing, names and values take, and how many rows a translation has. The listing's figure has the 32,768 bytes of the
+ * harness's own buffer in it.
  *
  *     rt staticlib harness
  *     gcc -std=gnu11 -O2 -Wall -Wextra -o target/stack bench/stack.c target/staticlib/libharness.a -lpthread && target/stack
@@ -13,14 +14,20 @@
 uint64_t adl_test_read(const uint8_t *text, size_t len);
 uint64_t adl_test_print(const uint8_t *text, size_t len, uint8_t *out, size_t out_len);
 uint64_t adl_test_translate(const uint8_t *text, size_t len, uint8_t *out, size_t out_len);
+uint64_t adl_test_list(const uint8_t *text, size_t len, uint8_t *out, size_t out_len);
+uint64_t adl_test_name(const uint8_t *text, size_t len, uint64_t event, uint8_t *out, size_t out_len);
+uint64_t adl_test_values(const uint8_t *text, size_t len, uint64_t event);
 
-static uint8_t text[16384], out[51204];
+static uint8_t text[16384], out[51204], lines[32768];
 static size_t length;
 
 static void *nothing(void *unused) { return unused; }
 static void *read_text(void *unused) { adl_test_read(text, length); return unused; }
 static void *print_text(void *unused) { adl_test_print(text, length, out, sizeof out); return unused; }
 static void *translate_text(void *unused) { adl_test_translate(text, length, out, sizeof out); return unused; }
+static void *list_text(void *unused) { adl_test_list(text, length, lines, sizeof lines); return unused; }
+static void *name_event(void *unused) { adl_test_name(text, length, 0, lines, sizeof lines); return unused; }
+static void *values_of_event(void *unused) { adl_test_values(text, length, 0); return unused; }
 
 /* A root with 255 leaves. */
 static size_t leaves(char *at) {
@@ -60,6 +67,7 @@ static void measure(const char *name, size_t (*drawing)(char *), size_t base) {
     if (counts >> 32) exit(1);
     size_t reading = used(read_text) - base, printing = used(print_text) - base, translating = used(translate_text) - base;
     printf("%-12s read %zu, print %zu, translate %zu bytes of stack; ", name, reading, printing, translating);
+    printf("list %zu, name %zu, values %zu; ", used(list_text) - base, used(name_event) - base, used(values_of_event) - base);
     unsigned rows = out[2] * 256u + out[3], node_copies = (unsigned)(counts & 65535);
     printf("%u events, %u copies, %u rows, %.2f a copy\n", (unsigned)(counts >> 16), node_copies, rows, (double)rows / node_copies);
 }

@@ -8,7 +8,7 @@ use reference::drawings::{accepted_text, Size};
 use reference::generate::{damaged, many_events, pad_between, random_bytes, random_text, Random, T, U};
 use reference::kit::number_from;
 use reference::listing::listing;
-use reference::{worked, TEXT_LIMIT};
+use reference::{read, worked, TEXT_LIMIT};
 use std::env;
 use std::ffi::OsString;
 use std::fs::{self, File};
@@ -65,6 +65,24 @@ fn random_drawings_and_bytes() {
         assert_played(&program, &random_text(seed));
         assert_played(&program, &random_bytes(random));
     }
+}
+
+/// The drawings that the repository ships: accepted, and listed as the
+/// reference does.
+#[test]
+fn drawings_shipped() {
+    let Some(program) = program() else { return };
+    let mut played = 0;
+    for entry in fs::read_dir(concat!(env!("CARGO_MANIFEST_DIR"), "/../drawings")).unwrap() {
+        let path = entry.unwrap().path();
+        if path.extension().is_some_and(|extension| extension == "adl") {
+            let text = fs::read(&path).unwrap();
+            assert!(read(&text).is_ok(), "{} is turned away", path.display());
+            assert_played(&program, &text);
+            played += 1;
+        }
+    }
+    assert!(played >= 5, "only {played} drawings");
 }
 
 // ---------------------------------------------------------------------------

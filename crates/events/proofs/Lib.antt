@@ -4,3 +4,4 @@ pub mod Bound
 pub mod Written
 pub mod Answers
 pub mod Bounds
+pub mod Worked

@@ -2,5 +2,6 @@ pub mod Reading
 pub mod Labels
 pub mod Names
 pub mod Listing
+pub mod Worked
 pub mod Spots
 pub mod Bounds

@@ -6,6 +6,7 @@ use mathlib.Core.List.{List, [], _∷_, _++_}
 use Prim.Native.Nat.{ℕ, suc}
 use lib.ListN.{length}
 use Rattle.base.specs.Fill.{fill}
+use Rattle.diagram.specs.Tree.{Flow}
 use Rattle.diagram.specs.Count.{flow-events, flow-copies}
 use Rattle.process.specs.Process.{Event, events}
 use Rattle.process.specs.Expand.{expand}
@@ -39,8 +40,12 @@ unfoldable pub lines : ℕ → List Event → List ℕ
 lines e [] = []
 lines e (l ∷ ls) = line e l ++ lines (suc e) ls
 
+-- The listing of a drawing.
+abbrev pub drawing-listing : Flow → List ℕ
+drawing-listing d = first-line (flow-events d) (flow-copies d) ++ lines 0 (events (expand d))
+
 unfoldable pub listing : {text : List ℕ} → Reading text → List ℕ
-listing (drawing d a) = first-line (flow-events d) (flow-copies d) ++ lines 0 (events (expand d))
+listing (drawing d a) = drawing-listing d
 listing (away number place r) = refused-line number place
 
 -- What the listing call answers, and every byte of the lent buffer: "On success, bytes past those written stay too."

@@ -32,7 +32,7 @@ returns-2 : tie.Need-returns-2
 returns-2 c =
     let a = c .before .before .before .before .before .before .before .args in
     let r = c .before .before .before .before .before .read in
-    named-past (a .text) _ (r .result) (a .event) (r .ensures) (c .before .before .before .enum-told .given .1) (c .before .if1 .taken) (record { its-block = refl; its-offset = omega arith; its-bytes = refl }) refl
+    named-past (a .text) _ (r .result) (a .event) (r .ensures) (c .before .before .before .enum-told .given .1) (omega (arith, c .before .if1 .taken)) (record { its-block = refl; its-offset = omega arith; its-bytes = refl }) refl
 
 find-requires : tie.Need-find-requires
 find-requires c κs = search needs
