@@ -110,6 +110,17 @@ pub fn shorten<V: Clone>(list: &[V], fails: impl Fn(&[V]) -> bool) -> Vec<V> {
     list
 }
 
+/// Stops if the two differ on this text: shows it, and a shorter one.
+pub fn assert_alike(text: &[u8], source: &str, difference: impl Fn(&[u8]) -> Option<String>) {
+    if let Some(what) = difference(text) {
+        let short = shorten(text, |shorter| difference(shorter).is_some());
+        let again = difference(&short).unwrap_or_default();
+        println!("failing text, {source}: b\"{}\"", text.escape_ascii());
+        println!("shortened: b\"{}\"", short.escape_ascii());
+        panic!("{source}: {what}\nshortened: {again}");
+    }
+}
+
 // ---------------------------------------------------------------------------
 // What was met
 // ---------------------------------------------------------------------------

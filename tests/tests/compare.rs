@@ -7,7 +7,7 @@
 #![cfg(adl_archive)]
 
 use reference::generate::{edge_texts, random_text};
-use reference::kit::{number_from, shorten, LentBuffer, LentText};
+use reference::kit::{assert_alike, number_from, LentBuffer, LentText};
 use reference::{print, proved, read};
 
 const BUFFERS: [usize; 4] = [0, 16_383, 16_384, 16_400];
@@ -38,13 +38,7 @@ fn proved_library_agrees_with_the_reference() {
 
 /// Plays one text; on a difference shows the text, a shorter one, and stops.
 fn play(text: &[u8], source: &str, counts: &mut Counts) {
-    if let Some(difference) = difference(text) {
-        let short = shorten(text, |shorter| self::difference(shorter).is_some());
-        let again = self::difference(&short).unwrap_or_default();
-        println!("failing text, {source}: b\"{}\"", text.escape_ascii());
-        println!("shortened: b\"{}\"", short.escape_ascii());
-        panic!("{source}: {difference}\nshortened: {again}");
-    }
+    assert_alike(text, source, difference);
     count(text, counts);
 }
 

@@ -16,7 +16,7 @@ use reference::drawings::{accepted_text, all_traits, traits, Size};
 use reference::generate::{
     damaged, edge_texts, every_constructor, longest_drawing, pad_between, random_bytes, random_text, root, Random,
 };
-use reference::kit::{number_from, shorten, Counts, LentBuffer, LentText};
+use reference::kit::{assert_alike, number_from, Counts, LentBuffer, LentText};
 use reference::listing::{events, listing, name_in, values_in, Event, Events, LISTING_LIMIT};
 use reference::{proved, read, worked, Refusal, Summary, TEXT_LIMIT, WORD_LIMIT};
 
@@ -115,13 +115,7 @@ fn long_lines() -> String {
 
 /// Plays one text; on a difference shows the text, a shorter one, and stops.
 fn play(text: &[u8], source: &str, counts: &mut Counts) {
-    if let Some(difference) = difference(text) {
-        let short = shorten(text, |shorter| self::difference(shorter).is_some());
-        let again = self::difference(&short).unwrap_or_default();
-        println!("failing text, {source}: b\"{}\"", text.escape_ascii());
-        println!("shortened: b\"{}\"", short.escape_ascii());
-        panic!("{source}: {difference}\nshortened: {again}");
-    }
+    assert_alike(text, source, difference);
     count(text, counts);
 }
 

@@ -1,9 +1,8 @@
 -- What the calls answer for a drawing, by what each event number stands for.
 use mathlib.Core.Path.{_≡_, refl, sym, ap, ap₂, _∙_, subst}
-use mathlib.Core.Bool.{Bool, true, false, cond}
+use mathlib.Core.Bool.{true, false, cond}
 use mathlib.Core.List.{List, [], _∷_, _++_, append-nil}
 use Prim.Native.Nat.{ℕ, zero, suc, _+_, _-_, _≤_, _<_}
-use native.Mathlib.Nat.{zero-add}
 use native.Mathlib.Omega.{arith}
 use denote.Ref.{RefT, now}
 use lib.Dec.{ltb}
@@ -17,7 +16,7 @@ use Rattle.diagram.specs.Count.{flow-events, flow-copies}
 use Rattle.diagram.specs.declared.Diagram.{Diagram}
 use Rattle.lexer.specs.Classes.{worded}
 use Rattle.lexer.specs.Words.{front, word-at}
-use Rattle.lexer.proofs.Front.{front-end, front-le}
+use Rattle.lexer.proofs.Front.{front-le}
 use Rattle.reader.specs.Answers.{read-of}
 use Rattle.reader.specs.Accepted.{Accepted}
 use Rattle.reader.specs.declared.Answer.the-variants.{Done, Refused as Unread}
@@ -39,11 +38,11 @@ use Rattle.labels.proofs.Labelled.{labelled}
 use Rattle.events.specs.Reading.{Reading, drawing, away}
 use Rattle.events.specs.Labels.{label, label-of, Valued}
 use Rattle.events.specs.Names.{name-of, Placed, Part, Named}
-use Rattle.events.specs.Listing.{first-line, refused-line, spaced, mark, line, lines, listing, Listed}
+use Rattle.events.specs.Listing.{first-line, refused-line, spaced, line, lines, listing, Listed}
 use Rattle.events.specs.Spots.{Word, spot-label, spaced-values, spot-line, spot-lines, spot-listing}
 use Rattle.events.specs.declared.Label.{Label}
 use Rattle.events.specs.declared.Label.the-variants.{Leaf, Reset, Refused}
-use Rattle.events.proofs.Short.{Each, Short, each-at, events-short}
+use Rattle.events.proofs.Short.{Short, each-at, events-short}
 use Rattle.events.proofs.Bound.{listing-short}
 
 -- A word as a part of the text.

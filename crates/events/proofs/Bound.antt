@@ -1,10 +1,10 @@
 -- A listing has at most 32,768 bytes: at most 22 for the first line, and 44 for each of at most 512 events.
 use mathlib.Core.Path.{_≡_, sym, _∙_, ap}
+use mathlib.Core.Bool.{Bool, true, false}
 use mathlib.Core.List.{List, [], _∷_}
 use Prim.Native.Nat.{ℕ, suc, _+_, _*_, _≤_, _<_}
 use native.Mathlib.Omega.{arith}
 use lib.ListN.{length, length-append}
-use Rattle.base.proofs.Truth.{by-cases}
 use Rattle.diagram.specs.Count.{flow-events, flow-copies}
 use Rattle.output.proofs.Decimals.{decimal-short}
 use Rattle.reader.specs.Answers.{read-of}
@@ -26,13 +26,14 @@ unfolding spaced
 spaced-short [] h = omega arith
 spaced-short (v ∷ vs) h = simp length-append (omega (arith, decimal-short 1 v (omega arith), spaced-short vs (h .1)))
 
-mark-short : (l : Event) → length (mark l) ≤ 6
-mark-short l = by-cases (l .reset) (λ e. rw e (omega arith)) (λ e. rw e (omega arith))
+mark-short : (reset : Bool) → length (mark reset) ≤ 6
+mark-short true = omega arith
+mark-short false = omega arith
 
 -- 3 digits, a space, 6 bytes for `reset`, 24 for the name, 9 for 3 values, the line's end.
 line-short : (e : ℕ) (l : Event) → e < 1000 → Short l → length (line e l) ≤ 44
 unfolding line
-line-short e l h s = simp length-append (omega (arith, decimal-short 2 e h, mark-short l, spaced-short (l .values) (s .small)))
+line-short e l h s = simp length-append (omega (arith, decimal-short 2 e h, mark-short (l .reset), spaced-short (l .values) (s .small)))
 
 -- Numbers up to 999 have 3 digits, and there are fewer events.
 lines-short : (e : ℕ) (ls : List Event) → e + length ls ≤ 1000 → Each Short ls → length (lines e ls) ≤ 44 * length ls

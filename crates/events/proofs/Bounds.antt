@@ -1,9 +1,8 @@
 -- Property 1 for names, values and listings, and that a call has one answer.
 use mathlib.Core.Path.{_≡_, refl, sym, ap, _∙_}
 use mathlib.Core.Logic.{_⊎_, inl, inr, ⊎-elim}
-use mathlib.Core.Bool.{true, false, cond}
 use mathlib.Core.List.{List, [], _∷_}
-use Prim.Native.Nat.{ℕ, zero, suc, _+_, _≤_, _<_}
+use Prim.Native.Nat.{ℕ, zero, suc, _≤_, _<_}
 use native.Mathlib.Omega.{arith}
 use denote.Ref.{RefT, now}
 use lib.Dec.{ltb}
@@ -13,9 +12,7 @@ use borrow.Author.Tests.{ltb-true, ltb-false}
 use Rattle.base.specs.Fill.{fill}
 use Rattle.base.proofs.Filled.{fill-length, fill-past}
 use Rattle.base.proofs.Truth.{by-cases}
-use Rattle.diagram.specs.Tree.{Flow}
 use Rattle.diagram.specs.Count.{flow-events}
-use Rattle.reader.specs.Accepted.{Accepted}
 use Rattle.process.specs.Process.{Event, event-of}
 use Rattle.process.specs.Expand.{expand}
 use Rattle.labels.specs.Values.{packed}
@@ -25,7 +22,6 @@ use Rattle.events.specs.Names.{name-of, Placed, Named}
 use Rattle.events.specs.Listing.{listing, Listed}
 use Rattle.events.specs.Bounds.{Name-bounded, Within, Values-bounded, leaf, reset, refusal, List-bounded}
 use Rattle.events.specs.declared.Label.{Label}
-use Rattle.events.specs.declared.Label.the-variants.{Leaf, Reset, Refused}
 use Rattle.events.proofs.Read.{Same, same-drawing, same-away, one-reading, one-listing}
 use Rattle.events.proofs.Short.{Each, Small, Short}
 use Rattle.events.proofs.Bound.{near, listing-short}

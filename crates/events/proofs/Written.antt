@@ -1,16 +1,15 @@
 -- Bytes that are written one after the other.
 use mathlib.Core.Path.{_≡_, refl, sym, ap, _∙_}
-use mathlib.Core.Bool.{Bool, true, false}
-use mathlib.Core.List.{List, [], _∷_, _++_}
+use mathlib.Core.List.{List, [], _++_}
 use Prim.Native.Nat.{ℕ, suc, _+_, _-_, _≤_, _<_}
 use native.Mathlib.Omega.{arith}
 use native.Mathlib.Numerals.{add-one}
 use Rattle.diagram.specs.declared.Diagram.{Diagram}
-use Rattle.output.specs.Buffer.{Buffer, buffer, put-all}
+use Rattle.output.specs.Buffer.{Buffer, put-all}
 use Rattle.output.proofs.Buffers.{put-all-append}
 use Rattle.labels.specs.declared.Spot.{Spot}
 use Rattle.labels.specs.Seeks.{spot-of}
-use Rattle.events.specs.Spots.{mark-of, spaced-value, spot-line, spot-lines}
+use Rattle.events.specs.Spots.{spot-line, spot-lines}
 
 -- These, and then those.
 pub before : (s : Buffer) (bs cs : List ℕ) {t u : Buffer} → t ≡ put-all bs s → u ≡ put-all cs t → u ≡ put-all (bs ++ cs) s

@@ -1,7 +1,7 @@
 -- The bytes of a listing. Document 01: "Each line ends with byte 10. First line: events and node copies. Then number, name, and values outermost first, each after
 -- a space; a reset has `reset` before the flow's name. If turned away it prints one line: `refused`, number and place, one space between."
 use mathlib.Core.Path.{_≡_}
-use mathlib.Core.Bool.{cond}
+use mathlib.Core.Bool.{Bool, cond}
 use mathlib.Core.List.{List, [], _∷_, _++_}
 use Prim.Native.Nat.{ℕ, suc}
 use lib.ListN.{length}
@@ -28,12 +28,12 @@ spaced [] = []
 spaced (v ∷ vs) = (32 ∷ []) ++ (decimal v ++ spaced vs)
 
 -- `reset` and a space, or nothing.
-abbrev pub mark : Event → List ℕ
-mark l = cond (l .reset) (114 ∷ 101 ∷ 115 ∷ 101 ∷ 116 ∷ 32 ∷ []) []
+abbrev pub mark : Bool → List ℕ
+mark reset = cond reset (114 ∷ 101 ∷ 115 ∷ 101 ∷ 116 ∷ 32 ∷ []) []
 
 -- The line of event e.
 unfoldable pub line : ℕ → Event → List ℕ
-line e l = decimal e ++ ((32 ∷ []) ++ (mark l ++ (l .name ++ (spaced (l .values) ++ (10 ∷ [])))))
+line e l = decimal e ++ ((32 ∷ []) ++ (mark (l .reset) ++ (l .name ++ (spaced (l .values) ++ (10 ∷ [])))))
 
 -- The lines of some events, of which the first has the number e.
 unfoldable pub lines : ℕ → List Event → List ℕ

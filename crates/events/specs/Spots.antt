@@ -15,7 +15,7 @@ use Rattle.labels.specs.Seeks.{spot-of}
 use Rattle.events.specs.declared.Label.{Label}
 use Rattle.events.specs.declared.Label.the-variants.{Leaf, Reset, Refused}
 use Rattle.events.specs.Names.{Part}
-use Rattle.events.specs.Listing.{first-line}
+use Rattle.events.specs.Listing.{first-line, mark}
 
 -- The word that starts at a place, as that very part of the text.
 pub record Word (text : RefT (List ℕ)) (at : ℕ) (r : RefT (List ℕ)) : Type 0 where
@@ -28,10 +28,6 @@ unfoldable pub spot-label : Diagram → ℕ → Label
 spot-label d e =
     cond (ltb e (d .events)) (cond (spot-of d e .reset) (Reset (spot-of d e .values)) (Leaf (spot-of d e .values))) (Refused 14 0)
 
--- `reset` and a space, or nothing.
-abbrev pub mark-of : Bool → List ℕ
-mark-of reset = cond reset (114 ∷ 101 ∷ 115 ∷ 101 ∷ 116 ∷ 32 ∷ []) []
-
 -- A value after a space, if it is there; and up to three of them.
 abbrev pub spaced-value : Bool → ℕ → List ℕ
 spaced-value there v = cond there ((32 ∷ []) ++ decimal v) []
@@ -41,7 +37,7 @@ spaced-values v = spaced-value (ltb 0 (v .count)) (v .first) ++ (spaced-value (l
 
 -- The line of event e.
 unfoldable pub spot-line : List ℕ → ℕ → Spot → List ℕ
-spot-line text e s = decimal e ++ ((32 ∷ []) ++ (mark-of (s .reset) ++ (word-at text (s .place) ++ (spaced-values (s .values) ++ (10 ∷ [])))))
+spot-line text e s = decimal e ++ ((32 ∷ []) ++ (mark (s .reset) ++ (word-at text (s .place) ++ (spaced-values (s .values) ++ (10 ∷ [])))))
 
 -- The lines of n events from event e on.
 unfoldable pub spot-lines : List ℕ → Diagram → ℕ → ℕ → List ℕ

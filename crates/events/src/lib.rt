@@ -1,14 +1,14 @@
 ghost use mathlib.Core.Path.{_≡_};
-ghost use Prim.Native.Nat.{ℕ, _≤_, _<_};
-ghost use lib.ListN.{length, take};
+ghost use Prim.Native.Nat.{ℕ, _<_};
+ghost use lib.ListN.{length};
 ghost use Rattle.diagram.specs.declared.Diagram.{Diagram};
 ghost use Rattle.labels.specs.Rows.{columns, rows};
 ghost use Rattle.labels.specs.Seeks.{seek, begin, spot-of};
 ghost use Rattle.output.specs.Buffer.{buffer, put-all};
 ghost use Rattle.events.specs.Names.{Named};
 ghost use Rattle.events.specs.Labels.{Valued};
-ghost use Rattle.events.specs.Listing.{first-line, refused-line, Listed};
-ghost use Rattle.events.specs.Spots.{Word, spot-label, mark-of, spaced-value, spaced-values, spot-line, spot-lines, spot-listing};
+ghost use Rattle.events.specs.Listing.{first-line, refused-line, mark as mark-of, Listed};
+ghost use Rattle.events.specs.Spots.{Word, spot-label, spaced-value, spaced-values, spot-line, spot-lines, spot-listing};
 use diagram::Diagram;
 use labels::Spot;
 use labels::Values;
@@ -71,6 +71,7 @@ pub fn name(text: &[u8], event: u64) -> &[u8]
     word(text, s.place)
 }
 
+// The label of an event of a drawing that is read.
 fn labelled(d: Diagram, event: u64) -> Label
     ensures { λ r. ⌜ r ≡ spot-label d event ⌝ }
 {

@@ -38,7 +38,7 @@ unfoldable pub weigh : List Row → List Row
 weigh [] = []
 weigh (r ∷ rs) = with-weight r (weight r (weigh rs)) ∷ weigh rs
 
--- The same in a column of numbers, of which those of the nodes from i on, of n, are there.
+-- The same in a column of numbers, of which those of the first i nodes, of n, are still to be worked out.
 unfoldable pub weighed : Columns → ℕ → ℕ → List ℕ → List ℕ
 weighed c n zero ws = ws
 weighed c n (suc i) ws = weighed c n i (set ws i (weight (row c ws i) (rows c ws (suc i) (n - suc i))))
