@@ -2,7 +2,9 @@
 //! constructor inside every other, small ones and ones at the limits.
 
 use crate::generate::{pad_between, Random};
+use crate::kit::Counts;
 use crate::{read, Kind, NodeInfo, Summary, TEXT_LIMIT};
+use std::ops::RangeInclusive;
 
 /// How large a drawing shall be.
 #[derive(Clone, Copy, Debug, PartialEq)]
@@ -321,9 +323,12 @@ const LARGE: [&str; 5] = [
     "drawings of depth 12",
 ];
 
-/// All that `traits` can tell.
-pub fn all_traits() -> Vec<String> {
-    LARGE.iter().map(|title| title.to_string()).chain(all_nestings()).collect()
+/// Counts of these titles, of refusals by their numbers, and of all that
+/// `traits` can tell.
+pub fn nothing_met(titles: &[&str], refusals: RangeInclusive<u8>) -> Counts {
+    let titles = titles.iter().chain(&LARGE).map(|title| title.to_string());
+    let refusals = refusals.map(|number| format!("refusal {number}"));
+    Counts::new(titles.chain(refusals).chain(all_nestings()))
 }
 
 /// At which limits a drawing is, and which constructors stand inside which.

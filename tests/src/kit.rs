@@ -14,6 +14,20 @@ pub fn number_from(variable: &str, otherwise: u64) -> u64 {
     }
 }
 
+/// Plays the seeds that ADL_CASES and ADL_SEED ask for. If they are no fewer
+/// than usual, everything that is counted must have been met.
+pub fn play_seeds(usual: u64, counts: &mut Counts, play: fn(u64, &mut Counts)) {
+    let cases = number_from("ADL_CASES", usual);
+    let first_seed = number_from("ADL_SEED", 1);
+    for seed in (first_seed..).take(cases as usize) {
+        play(seed, counts);
+    }
+    counts.show();
+    if cases >= usual {
+        counts.assert_all_met();
+    }
+}
+
 // ---------------------------------------------------------------------------
 // Lent bytes
 // ---------------------------------------------------------------------------

@@ -12,11 +12,11 @@
 //! each call.
 #![cfg(adl_archive)]
 
-use reference::drawings::{accepted_text, all_traits, traits, Size};
+use reference::drawings::{accepted_text, nothing_met, traits, Size};
 use reference::generate::{
     damaged, edge_texts, every_constructor, longest_drawing, pad_between, random_bytes, random_text, root, Random,
 };
-use reference::kit::{assert_alike, number_from, Counts, LentBuffer, LentText};
+use reference::kit::{assert_alike, play_seeds, Counts, LentBuffer, LentText};
 use reference::listing::{events, listing, name_in, values_in, Event, Events, LISTING_LIMIT};
 use reference::{proved, read, worked, Refusal, Summary, TEXT_LIMIT, WORD_LIMIT};
 
@@ -24,9 +24,7 @@ const CASES: u64 = 600;
 
 #[test]
 fn proved_listing_agrees_with_the_reference() {
-    let cases = number_from("ADL_CASES", CASES);
-    let first_seed = number_from("ADL_SEED", 1);
-    let mut counts = nothing_met();
+    let mut counts = nothing_met(&MET, 2..=11);
     for (at, text) in edge_texts().iter().enumerate() {
         play(text, &format!("edge text {at}"), &mut counts);
     }
@@ -34,13 +32,7 @@ fn proved_listing_agrees_with_the_reference() {
         assert!(read(text).is_ok(), "fixed drawing {at} is turned away");
         play(text, &format!("fixed drawing {at}"), &mut counts);
     }
-    for seed in (first_seed..).take(cases as usize) {
-        play_seed(seed, &mut counts);
-    }
-    counts.show();
-    if cases >= CASES {
-        counts.assert_all_met();
-    }
+    play_seeds(CASES, &mut counts, play_seed);
 }
 
 #[test]
@@ -235,12 +227,6 @@ const MET: [&str; 8] = [
     "values of 10 and more",
     "listings of over 16,384 bytes",
 ];
-
-fn nothing_met() -> Counts {
-    let titles = MET.iter().map(|title| title.to_string());
-    let refusals = (2..=11).map(|number| format!("refusal {number}"));
-    Counts::new(titles.chain(refusals).chain(all_traits()))
-}
 
 fn count(text: &[u8], counts: &mut Counts) {
     match (read(text), events(text)) {

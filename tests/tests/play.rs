@@ -15,12 +15,12 @@
 //! in the same way on some hundred drawings.
 #![cfg(adl_archive)]
 
-use reference::drawings::{accepted_text, all_traits, traits, Size};
+use reference::drawings::{accepted_text, nothing_met, traits, Size};
 use reference::generate::{
     damaged, edge_texts, every_constructor, longest_drawing, many_copies, many_events, nested_flows, random_text,
     root, root_with_leaves, Random, T, U,
 };
-use reference::kit::{lent, number_from, shorten, Counts, LentBuffer, LentText, MARGIN};
+use reference::kit::{lent, play_seeds, shorten, Counts, LentBuffer, LentText, MARGIN};
 use reference::meaning::{holds, runs_of, Book, Copy, Diagram, FINISHED, NOT_FINISHED, NOT_NOW, NO_EVENT, TAKEN};
 use reference::plain::{self, TABLE_LIMIT};
 use reference::{proved, read, Kind, Summary};
@@ -34,9 +34,7 @@ const RECORD: usize = 64;
 
 #[test]
 fn proved_runs_agree_with_the_book() {
-    let cases = number_from("ADL_CASES", CASES);
-    let first_seed = number_from("ADL_SEED", 1);
-    let mut counts = nothing_met();
+    let mut counts = nothing_met(&MET, 1..=11);
     for (at, text) in edge_texts().iter().enumerate() {
         translate_or_fail(text, &format!("edge text {at}"), &mut counts);
     }
@@ -44,13 +42,7 @@ fn proved_runs_agree_with_the_book() {
         let source = format!("fixed drawing {at}");
         play_drawing(text.as_bytes(), &source, &mut Random::new(at as u64), &mut counts);
     }
-    for seed in (first_seed..).take(cases as usize) {
-        play_seed(seed, &mut counts);
-    }
-    counts.show();
-    if cases >= CASES {
-        counts.assert_all_met();
-    }
+    play_seeds(CASES, &mut counts, play_seed);
 }
 
 /// The baseline of the benchmark does the job that it is timed for.
@@ -506,12 +498,6 @@ const MET: [&str; 18] = [
     "event taken again in a later round",
     "event tried after a whole run",
 ];
-
-fn nothing_met() -> Counts {
-    let titles = MET.iter().map(|title| title.to_string());
-    let refusals = (1..=11).map(|number| format!("refusal {number}"));
-    Counts::new(titles.chain(refusals).chain(all_traits()))
-}
 
 fn add_drawing(summary: &Summary, diagram: &Diagram, counts: &mut Counts) {
     traits(summary).iter().for_each(|title| counts.add(title));
