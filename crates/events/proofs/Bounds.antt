@@ -2,7 +2,7 @@
 use mathlib.Core.Path.{_≡_, refl, sym, ap, _∙_}
 use mathlib.Core.Logic.{_⊎_, inl, inr, ⊎-elim}
 use mathlib.Core.List.{List, [], _∷_}
-use Prim.Native.Nat.{ℕ, zero, suc, _≤_, _<_}
+use Prim.Native.Nat.{ℕ, zero, suc, _+_, _≤_, _<_}
 use native.Mathlib.Omega.{arith}
 use denote.Ref.{RefT, now}
 use lib.Dec.{ltb}
@@ -16,6 +16,7 @@ use Rattle.diagram.specs.Count.{flow-events}
 use Rattle.process.specs.Process.{Event, event-of}
 use Rattle.process.specs.Expand.{expand}
 use Rattle.labels.specs.Values.{packed}
+use Rattle.labels.proofs.Stood.{one-place}
 use Rattle.events.specs.Reading.{Reading, drawing, away}
 use Rattle.events.specs.Labels.{label, label-of, Valued}
 use Rattle.events.specs.Names.{name-of, Placed, Named}
@@ -122,8 +123,26 @@ same-name e (same-away n p r s) = refl
 pub one-label : (text : List ℕ) (e : ℕ) (r s : Label) → Valued text e r → Valued text e s → r ≡ s
 one-label text e r s v w = v .its-label ∙ (same-label e (one-reading (v .reading) (w .reading)) ∙ sym (w .its-label))
 
-pub one-name : (text : RefT (List ℕ)) (e : ℕ) (r s : RefT (List ℕ)) → Named text e r → Named text e s → now r ≡ now s
-one-name text e r s v w = v .its-name ∙ (same-name e (one-reading (v .reading) (w .reading)) ∙ sym (w .its-name))
+same-place : {text : List ℕ} {v w : Reading text} (e p q : ℕ) → Same v w → Placed v e p → Placed w e q → p ≡ q
+unfolding Placed
+same-place {text} e p q (same-drawing d a b) x y =
+    by-cases (ltb e (flow-events d))
+    (λ t. let l = ltb-true e (flow-events d) t in one-place text d a (event-of (expand d) e .name) p q (x .0 l) (y .0 l))
+    (λ t. let l = ltb-false e (flow-events d) t in x .1 l ∙ sym (y .1 l))
+same-place e p q (same-away n k r s) x y = x ∙ sym y
+
+-- A name's bytes, and its address.
+pub one-name : (text : RefT (List ℕ)) (e : ℕ) (r s : RefT (List ℕ)) → Named text e r → Named text e s
+    → (now r ≡ now s) × ((r .ptr .0 ≡ s .ptr .0) × (r .ptr .1 ≡ s .ptr .1))
+one-name text e r s v w =
+    let o = one-reading (v .reading) (w .reading) in
+    let here = same-place e (v .place) (w .place) o (v .its-place) (w .its-place) in (
+      v .its-name ∙ (same-name e o ∙ sym (w .its-name)),
+      (
+        v .its-part .its-block ∙ sym (w .its-part .its-block),
+        v .its-part .its-offset ∙ (ap (λ (k : ℕ). text .ptr .1 + k) here ∙ sym (w .its-part .its-offset)),
+      ),
+    )
 
 pub one-list : (text lent : List ℕ) (m n : ℕ) (left other : List ℕ) → Listed text lent m left → Listed text lent n other → (m ≡ n) × (left ≡ other)
 one-list text lent m n left other v w =

@@ -33,7 +33,7 @@ use Rattle.labels.proofs.Weighed.{head-row}
 use Rattle.labels.proofs.Sought.{Labels, Known, nothing, flow-found}
 
 -- A leaf or flow has a name.
-titled : (f l c : Bool) → (f || l) ≡ true → (f || (l || c)) ≡ true
+pub titled : (f l c : Bool) → (f || l) ≡ true → (f || (l || c)) ≡ true
 titled true l c h = refl
 titled false true c h = refl
 titled false false c h = absurd (false≢true h)

@@ -5,6 +5,7 @@ pub mod Ordered
 pub mod Turned
 pub mod Sought
 pub mod Labelled
+pub mod Stood
 pub mod Rowed
 pub mod Stepped
 pub mod Spots

@@ -93,9 +93,6 @@ decimal-first v p h = digits-first 19 v p h
 pub decimal-digits : (v i : ℕ) → i < length (decimal v) → (48 ≤ getD (decimal v) i 0) × (getD (decimal v) i 0 ≤ 57)
 decimal-digits v i h = digits-each 19 v i h
 
--- There is a digit, and a number below a power of ten has no more than its exponent.
-pub decimal-some : (v : ℕ) → 0 < length (decimal v)
-decimal-some v = digits-some 19 v
-
+-- A number below a power of ten has no more digits than its exponent.
 pub decimal-short : (n v : ℕ) → v < 10 ^ suc n → length (decimal v) ≤ suc n
 decimal-short n v h = digits-short 19 n v h
