@@ -1,6 +1,6 @@
--- Bytes that are written one after the other.
-use mathlib.Core.Path.{_≡_, refl, sym, ap, _∙_}
-use mathlib.Core.List.{List, [], _++_}
+-- Lines that are written one after the other.
+use mathlib.Core.Path.{_≡_, sym}
+use mathlib.Core.List.{List}
 use Prim.Native.Nat.{ℕ, suc, _+_, _-_, _≤_, _<_}
 use native.Mathlib.Omega.{arith}
 use native.Mathlib.Numerals.{add-one}
@@ -10,18 +10,6 @@ use Rattle.output.proofs.Buffers.{put-all-append}
 use Rattle.labels.specs.declared.Spot.{Spot}
 use Rattle.labels.specs.Seeks.{spot-of}
 use Rattle.events.specs.Spots.{spot-line, spot-lines}
-
--- These, and then those.
-pub before : (s : Buffer) (bs cs : List ℕ) {t u : Buffer} → t ≡ put-all bs s → u ≡ put-all cs t → u ≡ put-all (bs ++ cs) s
-before s bs cs p q = q ∙ (ap (put-all cs) p ∙ sym (put-all-append bs cs s))
-
--- The same bytes.
-pub same-put : (s : Buffer) (bs cs : List ℕ) {t : Buffer} → t ≡ put-all bs s → bs ≡ cs → t ≡ put-all cs s
-same-put s bs cs p e = rw (← e) p
-
-pub none-put : (s : Buffer) → s ≡ put-all [] s
-unfolding put-all
-none-put s = refl
 
 -- The lines of the events from e on, of n.
 pub lines-more : (text : List ℕ) (d : Diagram) (e n : ℕ) (x : Spot) (s t : Buffer) → e < n → t ≡ put-all (spot-line text e x) s → x ≡ spot-of d e

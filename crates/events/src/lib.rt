@@ -99,11 +99,11 @@ pub fn values(text: &[u8], event: u64) -> Label
     Label::Refused(number, place)
 }
 
-// `refused`, number and place.
-fn refused(number: u8, place: usize, out: &mut [u8]) -> usize
-    ensures { λ r. ⌜ buffer r (now (out .exit)) ≡ put-all (refused-line number place) (buffer 0 (now (out .entry))) ⌝ }
+// `refused`, number and place; as far as `out` goes.
+pub fn refused(number: u8, place: usize, out: &mut [u8], at: usize) -> usize
+    ensures { λ r. ⌜ buffer r (now (out .exit)) ≡ put-all (refused-line number place) (buffer at (now (out .entry))) ⌝ }
 {
-    let a = output::bytes(out, 0, b"refused ");
+    let a = output::bytes(out, at, b"refused ");
     let b = output::number(out, a, number as usize);
     let c = output::bytes(out, b, b" ");
     let d = output::number(out, c, place);
@@ -223,5 +223,5 @@ pub fn list(text: &[u8], out: &mut [u8; 32768]) -> usize
         let d = o.diagram;
         return drawn(text, d, out);
     };
-    refused(number, place, out)
+    refused(number, place, out, 0)
 }

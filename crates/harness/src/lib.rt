@@ -2,6 +2,9 @@
 // 2^32. The parts of a number are cut to their width, so that nothing has to be known of them here.
 
 ghost use Prim.Native.Nat.{_≤_};
+use diagram::Diagram;
+use diagram::Kind;
+use diagram::Node;
 use events::Label;
 use labels::Values;
 use printer::Printed;
@@ -97,4 +100,68 @@ pub extern "C" fn adl_test_values(text: &[u8], event: u64) -> u64 {
         Label::Reset(v) => packed(1, v),
         Label::Refused(number, place) => refusal(number, place),
     }
+}
+
+// A kind's number, and its size where it has one, times 2^24 and 2^16.
+fn kind_number(kind: Kind) -> u64 {
+    match kind {
+        Kind::Flow => 0,
+        Kind::Leaf => 16777216,
+        Kind::And => 33554432,
+        Kind::Or => 50331648,
+        Kind::Xor => 67108864,
+        Kind::All(size) => 83886080 + (size as u64) * 65536,
+        Kind::Some(size) => 100663296 + (size as u64) * 65536,
+        Kind::One(size) => 117440512 + (size as u64) * 65536,
+        Kind::Loop => 134217728,
+    }
+}
+
+// Kind and size, whether it is a solid child times 2^8, and its depth.
+fn node_number(node: Node) -> u64 {
+    let kind = node.kind;
+    let number = kind_number(kind) % 2147483648 + (node.depth as u64) % 256;
+    if node.solid {
+        return number + 256;
+    }
+    number
+}
+
+// A node of a diagram; past the last one it does not matter which.
+fn node_at(d: Diagram, index: u64) -> Node {
+    let nodes = d.nodes;
+    let i = (index % 256) as usize;
+    nodes[i]
+}
+
+// A node of a text, by its index; 255 for an index past the last node.
+#[no_mangle]
+pub extern "C" fn adl_test_node(text: &[u8], index: u64) -> u64 {
+    let o = reader::read(text);
+    let answer = o.answer;
+    let Answer::Refused(number, place) = answer else {
+        let d = o.diagram;
+        if (d.count as u64) <= index {
+            return refusal(255, 0);
+        }
+        let node = node_at(d, index);
+        return node_number(node);
+    };
+    refusal(number, place)
+}
+
+// Where its keyword stands times 2^16, and its name or par.
+#[no_mangle]
+pub extern "C" fn adl_test_place(text: &[u8], index: u64) -> u64 {
+    let o = reader::read(text);
+    let answer = o.answer;
+    let Answer::Refused(number, place) = answer else {
+        let d = o.diagram;
+        if (d.count as u64) <= index {
+            return refusal(255, 0);
+        }
+        let node = node_at(d, index);
+        return ((node.at as u64) % 65536) * 65536 + (node.name as u64) % 65536;
+    };
+    refusal(number, place)
 }

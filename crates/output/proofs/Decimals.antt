@@ -96,3 +96,12 @@ decimal-digits v i h = digits-each 19 v i h
 -- A number below a power of ten has no more digits than its exponent.
 pub decimal-short : (n v : ℕ) → v < 10 ^ suc n → length (decimal v) ≤ suc n
 decimal-short n v h = digits-short 19 n v h
+
+-- No number has more than 20 digits.
+digits-most : (n v : ℕ) → length (digits n v) ≤ suc n
+unfolding digits
+digits-most zero v = omega arith
+digits-most (suc n) v = by-digits (λ bs. length bs ≤ suc (suc n)) n v (λ l. omega arith) (λ l. simp length-append (omega (arith, digits-most n (v / 10))))
+
+pub decimal-most : (v : ℕ) → length (decimal v) ≤ 20
+decimal-most v = digits-most 19 v

@@ -4,6 +4,7 @@ use mathlib.Core.List.{List}
 use Prim.Native.Nat.{ℕ, _≤_}
 use native.Mathlib.Omega.{arith}
 use lib.ListN.{length, take}
+use lib.Seq.{length-take-le}
 use Rattle.base.proofs.Filled.{fill-length, fill-front, fill-past}
 use Rattle.diagram.specs.Tree.{Flow}
 use Rattle.reader.specs.Answers.{read-of}
@@ -23,6 +24,9 @@ use Rattle.translator.specs.declared.Translated.the-variants.{Bytes, Ref
 -- The bytes of a table that was written are those at the front.
 front-is : (d : Flow) (lent : List ℕ) (count : ℕ) (left : List ℕ) (w : Written d lent count left) → take count left ≡ w .bytes
 front-is d lent count left w = rw (w .its-count, w .its-left) (fill-front lent (w .bytes) (w .fits))
+
+bytes-refused : {n number place : ℕ} → Bytes n ≡ Refused number place → ⊥
+bytes-refused q = let z : _≡_ {A = ℕ} 0 1 = cc in omega (arith, z)
 
 -- A table of at most 512 events and 12,288 rows.
 table-few : (t : List ℕ) → Sound-table t → length t ≤ 51204
@@ -63,6 +67,17 @@ module _ (text lent : List ℕ) (r : Translated) (left : List ℕ) where
       refusal record { number = 1; place = 0; is = e; low = omega arith; high = omega arith; near = omega arith; untouched = q }
   translate-bounded (refused number place h n e q) = refusal (read-refused number place n e q (read-bounded text))
   translate-bounded (done d count h a e w) = result (written-result d count a e w)
+
+  -- As a caller takes the bytes that were written.
+  pub translate-room : Translation text lent r left → (n : ℕ) → r ≡ Bytes n → (n ≤ length left) × (n ≡ length (take n left))
+  translate-room (short h e q) n t = absurd (bytes-refused (sym t ∙ e))
+  translate-room (refused number place h u e q) n t = absurd (bytes-refused (sym t ∙ e))
+  translate-room (done d count h a e w) n t =
+      let same : Bytes n ≡ Bytes count = sym t ∙ e in
+      let x : n ≡ count = cc in
+      let stays : length left ≡ length lent = rw (w .its-left) (fill-length lent (w .bytes)) in
+      let l : n ≤ length left = omega (arith, x, w .its-count, w .fits, stays) in
+      (l, sym (length-take-le n left l))
 
   -- "Every accepted text is translated when the buffer is long enough."
   pub accepted-translated : Translation text lent r left → (d : Flow) → Accepted text d → 51204 ≤ length lent

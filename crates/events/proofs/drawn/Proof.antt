@@ -3,7 +3,7 @@ use mathlib.Core.Path.{refl}
 use Rattle.expansion.proofs.Held.{Holds}
 use Rattle.labels.proofs.Spots.{rows-held, rows-found}
 use Rattle.events.specs.Spots.{spot-listing}
-use Rattle.events.proofs.Written.{before}
+use Rattle.output.proofs.Buffers.{before}
 use borrow.Author.Needs.{needs}
 use Rattle.events.proofs.drawn.Statement.{statement}
 use Rattle.events.proofs.drawn.Tie as tie

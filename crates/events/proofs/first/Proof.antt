@@ -1,6 +1,6 @@
 -- `events::first` meets its contract: its parts stand one after the other. Assumes nothing.
 use Rattle.events.specs.Listing.{first-line}
-use Rattle.events.proofs.Written.{before}
+use Rattle.output.proofs.Buffers.{before}
 use borrow.Author.Needs.{needs}
 use Rattle.events.proofs.first.Statement.{statement}
 use Rattle.events.proofs.first.Tie as tie

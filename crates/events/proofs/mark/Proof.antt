@@ -1,5 +1,5 @@
 -- `events::mark` meets its contract. Assumes nothing.
-use Rattle.events.proofs.Written.{none-put}
+use Rattle.output.proofs.Buffers.{none-put}
 use borrow.Author.Needs.{needs}
 use Rattle.events.proofs.mark.Statement.{statement}
 use Rattle.events.proofs.mark.Tie as tie

@@ -1,6 +1,6 @@
 -- `events::refused` meets its contract: its parts stand one after the other. Assumes nothing.
 use Rattle.events.specs.Listing.{refused-line}
-use Rattle.events.proofs.Written.{before}
+use Rattle.output.proofs.Buffers.{before}
 use borrow.Author.Needs.{needs}
 use Rattle.events.proofs.refused.Statement.{statement}
 use Rattle.events.proofs.refused.Tie as tie

@@ -1,6 +1,6 @@
 -- `events::spaced` meets its contract: the values stand one after the other. Assumes nothing.
 use Rattle.events.specs.Spots.{spaced-values}
-use Rattle.events.proofs.Written.{before}
+use Rattle.output.proofs.Buffers.{before}
 use borrow.Author.Needs.{needs}
 use Rattle.events.proofs.spaced.Statement.{statement}
 use Rattle.events.proofs.spaced.Tie as tie

@@ -1,5 +1,5 @@
 -- `events::value` meets its contract. Assumes nothing.
-use Rattle.events.proofs.Written.{before, none-put}
+use Rattle.output.proofs.Buffers.{before, none-put}
 use borrow.Author.Needs.{needs}
 use Rattle.events.proofs.value.Statement.{statement}
 use Rattle.events.proofs.value.Tie as tie

@@ -1,0 +1,4 @@
+mod Alike
+mod Split
+mod Saying
+pub mod Bounds

@@ -1,0 +1,87 @@
+-- `player::seek` meets its contract. The loop's invariant: the lines before, and those that are left before the one that says it, are as many as in the whole. Its measure is how many bytes are left. Assumes nothing.
+use mathlib.Core.Path.{_≡_, sym, ap, _∙_}
+use mathlib.Core.List.{List}
+use Prim.Native.Nat.{ℕ, suc, _+_, _-_, _≤_}
+use native.Mathlib.Omega.{arith}
+use lib.ListN.{length, drop}
+use Rattle.player.specs.Lines.{lines}
+use Rattle.player.specs.Said.{before-saying, event-said}
+use Rattle.player.proofs.Saying.{seek-found, seek-on, seek-done}
+use borrow.Author.Needs.{needs}
+use Rattle.player.proofs.seek.Statement.{statement}
+use Rattle.player.proofs.seek.Tie as tie
+
+abbrev Inv-loop : tie.InvT-loop
+Inv-loop listing said at₀ e₀ at e = (e ≤ at) × (e + before-saying (lines (drop at listing)) said ≡ event-said listing said)
+
+abbrev μ-loop : tie.MeasureT-loop
+μ-loop listing said at₀ e₀ at e = length listing - at
+
+after-first-requires : tie.Need-after-first-requires Inv-loop μ-loop
+after-first-requires c κs = search needs
+
+loop-holds : tie.Need-loop-holds Inv-loop μ-loop
+loop-holds c = let q = ap (λ (ls : List (List ℕ)). before-saying ls (c .before .before .before .args .said .now)) (c .after-first .ensures) in (omega arith, omega (arith, q))
+
+find-requires : tie.Need-find-requires Inv-loop μ-loop
+find-requires c κs = search needs
+
+sub-says : tie.Need-sub-says Inv-loop μ-loop
+sub-says c = search needs
+
+part-says-start : tie.Need-part-says-start Inv-loop μ-loop
+part-says-start c = search needs
+
+part-says-end : tie.Need-part-says-end Inv-loop μ-loop
+part-says-end c = search needs
+
+says-requires : tie.Need-says-requires Inv-loop μ-loop
+says-requires c κs = search needs
+
+returns : tie.Need-returns Inv-loop μ-loop
+returns c =
+    let a = c .before .before .before .before .before .before .before .before .before .args in
+    let l = c .before .before .before .before .before .loop in
+    let f = c .before .before .before .find in
+    let z = seek-found (a .listing .now) (a .said .now) (l .at) (f .result) (c .before .says .result) (c .before .before .before .before .loop-test .taken) (f .ensures .0) (c .before .says .ensures) (c .if1 .taken) in
+    omega (arith, l .inv .1, z)
+
+add-at : tie.Need-add-at Inv-loop μ-loop
+add-at c = search needs
+
+add-e : tie.Need-add-e Inv-loop μ-loop
+add-e c = search needs
+
+loop-less : tie.Need-loop-less Inv-loop μ-loop
+loop-less c = search needs
+
+loop-again : tie.Need-loop-again Inv-loop μ-loop
+loop-again c =
+    let a = c .before .before .before .before .before .before .before .before .before .args in
+    let l = c .before .before .before .before .before .loop in
+    let f = c .before .before .before .find in
+    let z = seek-on (a .listing .now) (a .said .now) (l .at) (f .result) (c .before .says .result) (c .before .before .before .before .loop-test .taken) (f .ensures .0) (c .before .says .ensures) (c .if1 .left) in
+    (omega (arith, f .ensures .0, l .inv .0), omega (arith, l .inv .1, z))
+
+returns-2 : tie.Need-returns-2 Inv-loop μ-loop
+returns-2 c = let l = c .before .loop in let z = seek-done (c .before .before .before .before .before .args .listing .now) (c .before .before .before .before .before .args .said .now) (l .at) (c .loop-test .left) in omega (arith, l .inv .1, z)
+
+pub seek-spec : {M : Type 1} → statement M
+seek-spec =
+    tie.close
+    (tie.spec
+    Inv-loop
+    μ-loop
+    after-first-requires
+    loop-holds
+    find-requires
+    sub-says
+    part-says-start
+    part-says-end
+    says-requires
+    returns
+    add-at
+    add-e
+    loop-less
+    loop-again
+    returns-2)
