@@ -37,7 +37,7 @@
  * - Each call checks the whole table again, so a table that was damaged in the meantime is noticed as far as the damage made it unsound.
  * - Answers are 0, 255 (finished only) or the number of a refusal. Where several refusals apply, the lowest number is given. After a
  *   refusal every lent byte is what it was.
- * - Step, offer and finished work out the rows in a sheet of 12,288 values that lies on the stack; bench/table.c measures the stack used.
+ * - Step, offer and finished work out the rows in a sheet of 12,288 values that lies on the stack; ./bench measures the stack used.
  */
 #ifndef ADL_H
 #define ADL_H

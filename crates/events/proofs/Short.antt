@@ -1,4 +1,4 @@
--- The events of an accepted text are short: a name of at least 1 and at most 24 bytes, and at most 3 values, each below 16.
+-- The events of an accepted text are short: a name of at least 1 and at most 24 bytes, all of them a word's, and at most 3 values, each below 16.
 use mathlib.Core.Path.{_≡_, refl}
 use mathlib.Core.Bool.{Bool, true, false, _&&_, false≢true}
 use mathlib.Core.List.{List, [], _∷_, _++_}
@@ -24,7 +24,7 @@ abbrev pub Each : {A : Type 0} → (A → Type 0) → List A → Type 0
 Each P [] = Unit {0}
 Each P (x ∷ xs) = P x × Each P xs
 
-each-append : {A : Type 0} (P : A → Type 0) (xs ys : List A) → Each P xs → Each P ys → Each P (xs ++ ys)
+pub each-append : {A : Type 0} (P : A → Type 0) (xs ys : List A) → Each P xs → Each P ys → Each P (xs ++ ys)
 each-append P [] ys h k = k
 each-append P (x ∷ xs) ys h k = (h .0, each-append P xs ys (h .1) k)
 
@@ -40,6 +40,7 @@ Small v = v < 16
 pub record Short (l : Event) : Type 0 where
   pub some : 1 ≤ length (l .name)
   pub name : length (l .name) ≤ 24
+  pub word : (lettered (l .name) && every worded (l .name)) ≡ true
   pub few : length (l .values) ≤ 3
   pub small : Each Small (l .values)
 
@@ -98,6 +99,7 @@ event-short {around} r n w h k =
     let e = w .each in
     record {
       some = lettered-some n (and-l (lettered n) (every worded n) (and-l (lettered n && every worded n) _ h));
+      word = and-l (lettered n && every worded n) _ h;
       name = leb-true (length n) 24 (and-l (short n) _ (and-r (lettered n && every worded n) _ h));
       few = omega (arith, leb-true (length around) 3 k);
       small = w .small;

@@ -87,6 +87,9 @@ pub decimal-back : (v : ℕ) → v < 10 ^ 20 → value (decimal v) ≡ v
 decimal-back v h = digits-back 19 v h
 
 -- The first digit is 0 in 0 alone.
+pub decimal-some : (v : ℕ) → 0 < length (decimal v)
+decimal-some v = digits-some 19 v
+
 pub decimal-first : (v : ℕ) → 0 < v → v < 10 ^ 20 → (getD (decimal v) 0 0 ≡ 48 → ⊥)
 decimal-first v p h = digits-first 19 v p h
 

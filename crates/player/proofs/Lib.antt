@@ -2,3 +2,4 @@ mod Alike
 mod Split
 mod Saying
 pub mod Bounds
+pub mod Meant

@@ -34,15 +34,15 @@ index-on : (b : ℕ) (bs : List ℕ) → eqb b 10 ≡ false → indexOf 10 (b �
 unfolding indexOf indexAfter
 index-on b bs e = rw e
 
-line-here : (b : ℕ) (bs : List ℕ) → eqb b 10 ≡ true → lines (b ∷ bs) ≡ [] ∷ lines bs
+pub line-here : (b : ℕ) (bs : List ℕ) → eqb b 10 ≡ true → lines (b ∷ bs) ≡ [] ∷ lines bs
 unfolding lines
 line-here b bs e = rw e
 
-line-on : (b : ℕ) (bs : List ℕ) → eqb b 10 ≡ false → lines (b ∷ bs) ≡ onto b (lines bs)
+pub line-on : (b : ℕ) (bs : List ℕ) → eqb b 10 ≡ false → lines (b ∷ bs) ≡ onto b (lines bs)
 unfolding lines
 line-on b bs e = rw e
 
-no-lines : lines [] ≡ []
+pub no-lines : lines [] ≡ []
 unfolding lines
 no-lines = refl
 

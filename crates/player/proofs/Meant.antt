@@ -1,0 +1,212 @@
+-- What is said is what is meant: the lines of a drawing's listing give the event that has this number, or that is called so.
+use mathlib.Core.Path.{_≡_, refl, sym, ap, subst, _∙_}
+use mathlib.Core.Bool.{Bool, true, false, not, cond, _||_, false≢true}
+use mathlib.Core.List.{List, [], _∷_, _++_, append-assoc}
+use Prim.Native.Nat.{ℕ, zero, suc, _+_, _^_, _≤_, _<_}
+use native.Mathlib.Omega.{arith}
+use lib.Dec.{eqb, ltb}
+use lib.ListN.{length, getD}
+use borrow.Author.Tests.{ne-eqb, ltb-true, ltb-false}
+use Rattle.base.proofs.Truth.{by-cases, clash, is-false, and-l, and-r, not-e}
+use Rattle.bytes.specs.Bytes.{indexOf, indexAfter}
+use Rattle.diagram.specs.Tree.{Flow}
+use Rattle.diagram.specs.Names.{same}
+use Rattle.diagram.proofs.Equal.{same-decides}
+use Rattle.diagram.specs.Count.{flow-events, flow-copies}
+use Rattle.lexer.specs.Classes.{between, class-of, letter, worded}
+use Rattle.lexer.proofs.Between.{between-low}
+use Rattle.lexer.specs.Words.{lettered, every}
+use Rattle.reader.specs.Accepted.{Accepted}
+use Rattle.process.specs.Process.{Event, events}
+use Rattle.process.specs.Expand.{expand}
+use Rattle.process.proofs.Events.{events-counted}
+use Rattle.output.specs.Decimal.{decimal, value}
+use Rattle.output.proofs.Decimals.{decimal-digits, decimal-back, decimal-some}
+use Rattle.events.specs.Listing.{first-line, mark, spaced, line, lines as listing-lines, drawing-listing}
+use Rattle.events.proofs.Short.{Each, each-append, Short, events-short}
+use Rattle.player.specs.Lines.{lines, rest, event-lines}
+use Rattle.player.specs.Said.{number-part, label-part, says, before-saying, event-said}
+use Rattle.player.specs.Meant.{label, before-meant}
+use Rattle.player.proofs.Split.{line-here, line-on, no-lines}
+
+-- Bytes that are not this one.
+abbrev Without : ℕ → List ℕ → Type 0
+Without x bs = Each (λ b. eqb b x ≡ false) bs
+
+joined : (bs cs : List ℕ) → Without 10 bs → Without 10 cs → Without 10 (bs ++ cs)
+joined bs cs h k = each-append (λ b. eqb b 10 ≡ false) bs cs h k
+
+-- By a test of all of them.
+without : (x : ℕ) (bs : List ℕ) → every (λ b. not (eqb b x)) bs ≡ true → Without x bs
+without x [] h = tt
+without x (b ∷ bs) h = (not-e (eqb b x) (and-l (not (eqb b x)) _ h), without x bs (and-r (not (eqb b x)) _ h))
+
+each-of : (P : ℕ → Type 0) (bs : List ℕ) → ((i : ℕ) → i < length bs → P (getD bs i 0)) → Each P bs
+each-of P [] f = tt
+each-of P (b ∷ bs) f = (f 0 (omega arith), each-of P bs (λ i h. f (suc i) (omega arith)))
+
+-- A number's digits are not below 48, and so neither a line's end nor a space.
+decimal-without : (x v : ℕ) → x < 48 → Without x (decimal v)
+decimal-without x v h =
+    each-of (λ b. eqb b x ≡ false) (decimal v)
+    (λ i l. let d = decimal-digits v i l .0 in ne-eqb (getD (decimal v) i 0) x (λ e. omega (arith, d, e)))
+
+spaced-without : (vs : List ℕ) → Without 10 (spaced vs)
+unfolding spaced
+spaced-without [] = tt
+spaced-without (v ∷ vs) = (refl, joined (decimal v) (spaced vs) (decimal-without 10 v (omega arith)) (spaced-without vs))
+
+mark-without : (reset : Bool) → Without 10 (mark reset)
+mark-without true = without 10 (mark true) refl
+mark-without false = tt
+
+end-no-word : worded 10 ≡ true → ⊥
+unfolding class-of
+end-no-word e = false≢true e
+
+word-without : (bs : List ℕ) → every worded bs ≡ true → Without 10 bs
+word-without [] h = tt
+word-without (b ∷ bs) h = (
+  ne-eqb b 10 (λ e. end-no-word (subst (λ (x : ℕ). worded x ≡ true) e (and-l (worded b) (every worded bs) h))),
+  word-without bs (and-r (worded b) (every worded bs) h),
+)
+
+label-without : (l : Event) → Short l → Without 10 (label l)
+unfolding label
+label-without l s =
+    joined (mark (l .reset)) (l .name ++ spaced (l .values)) (mark-without (l .reset))
+    (joined (l .name) (spaced (l .values)) (word-without (l .name) (and-r (lettered (l .name)) _ (s .word))) (spaced-without (l .values)))
+
+-- A line that ends here, and the lines after it.
+line-ended : (bs on : List ℕ) → Without 10 bs → lines ((bs ++ (10 ∷ [])) ++ on) ≡ bs ∷ lines on
+line-ended [] on h = line-here 10 on refl
+line-ended (b ∷ bs) on h = line-on b _ (h .0) ∙ rw (line-ended bs on (h .1))
+
+-- An event's line without its end: the number, a space, and what the event is called.
+abbrev bare : ℕ → Event → List ℕ
+bare e l = decimal e ++ (32 ∷ label l)
+
+line-bare : (e : ℕ) (l : Event) → line e l ≡ bare e l ++ (10 ∷ [])
+unfolding line label
+line-bare e l = simp append-assoc
+
+bare-without : (e : ℕ) (l : Event) → Short l → Without 10 (bare e l)
+bare-without e l s = joined (decimal e) (32 ∷ label l) (decimal-without 10 e (omega arith)) (refl, label-without l s)
+
+-- The lines of some events, as they stand one after the other.
+abbrev bares : ℕ → List Event → List (List ℕ)
+bares e [] = []
+bares e (l ∷ ls) = bare e l ∷ bares (suc e) ls
+
+bares-listed : (e : ℕ) (ls : List Event) → Each Short ls → lines (listing-lines e ls) ≡ bares e ls
+unfolding listing-lines
+bares-listed e [] s = no-lines
+bares-listed e (l ∷ ls) s =
+    ap (λ (x : List ℕ). lines (x ++ listing-lines (suc e) ls)) (line-bare e l)
+    ∙ (line-ended (bare e l) (listing-lines (suc e) ls) (bare-without e l (s .0)) ∙ ap (λ (x : List (List ℕ)). bare e l ∷ x) (bares-listed (suc e) ls (s .1)))
+
+-- The first line, without its end.
+abbrev events-word : List ℕ
+events-word = 101 ∷ 118 ∷ 101 ∷ 110 ∷ 116 ∷ 115 ∷ 32 ∷ []
+
+abbrev copies-word : List ℕ
+copies-word = 32 ∷ 99 ∷ 111 ∷ 112 ∷ 105 ∷ 101 ∷ 115 ∷ 32 ∷ []
+
+abbrev counted : ℕ → ℕ → List ℕ
+counted e c = events-word ++ (decimal e ++ (copies-word ++ decimal c))
+
+counted-without : (e c : ℕ) → Without 10 (counted e c)
+counted-without e c =
+    joined events-word (decimal e ++ (copies-word ++ decimal c)) (without 10 events-word refl)
+    (joined (decimal e) (copies-word ++ decimal c) (decimal-without 10 e (omega arith))
+    (joined copies-word (decimal c) (without 10 copies-word refl) (decimal-without 10 c (omega arith))))
+
+first-counted : (e c : ℕ) → first-line e c ≡ counted e c ++ (10 ∷ [])
+unfolding first-line
+first-counted e c = simp append-assoc
+
+lines-listed : (d : Flow) → Each Short (events (expand d)) → event-lines (drawing-listing d) ≡ bares 0 (events (expand d))
+unfolding event-lines
+lines-listed d s =
+    ap (λ (x : List ℕ). rest (lines (x ++ listing-lines 0 (events (expand d))))) (first-counted (flow-events d) (flow-copies d))
+    ∙ (ap rest (line-ended (counted (flow-events d) (flow-copies d)) (listing-lines 0 (events (expand d))) (counted-without (flow-events d) (flow-copies d)))
+    ∙ bares-listed 0 (events (expand d)) s)
+
+-- What stands before the first space, and after it.
+parted : (bs on : List ℕ) → Without 32 bs → (number-part (bs ++ (32 ∷ on)) ≡ bs) × (label-part (bs ++ (32 ∷ on)) ≡ on)
+unfolding number-part label-part indexOf indexAfter
+parted [] on h = (refl, refl)
+parted (b ∷ bs) on h = let p = parted bs on (h .1) in (rw (h .0) (ap (λ (x : List ℕ). b ∷ x) (p .0)), rw (h .0) (p .1))
+
+bare-says : (e : ℕ) (l : Event) (said : List ℕ) → says (bare e l) said ≡ (same (decimal e) said || same (label l) said)
+unfolding says
+bare-says e l said = let p = parted (decimal e) (label l) (decimal-without 32 e (omega arith)) in rw (p .0, p .1)
+
+bares-say : (e : ℕ) (ls : List Event) (said : List ℕ) → before-saying (bares e ls) said ≡ before-meant ls e said
+unfolding before-saying before-meant
+bares-say e [] said = refl
+bares-say e (l ∷ ls) said = rw (bare-says e l said, bares-say (suc e) ls said)
+
+-- Of an accepted text, the event that is said is the one that is meant.
+pub said-is-meant : (text : List ℕ) (d : Flow) → Accepted text d → (said : List ℕ) → event-said (drawing-listing d) said ≡ before-meant (events (expand d)) 0 said
+said-is-meant text d a said =
+    ap (λ (ls : List (List ℕ)). before-saying ls said) (lines-listed d (events-short text d a)) ∙ bares-say 0 (events (expand d)) said
+
+-- No event is called by a number: a label begins with a letter, a number with a digit.
+abbrev Digit-first : List ℕ → Type 0
+Digit-first bs = getD bs 0 0 ≤ 57
+
+decimal-digit : (v : ℕ) → Digit-first (decimal v)
+decimal-digit v = decimal-digits v 0 (decimal-some v) .1
+
+no-five : (t : Bool) (x y : ℕ) → between 5 5 x ≡ false → between 5 5 y ≡ false → between 5 5 (cond t x y) ≡ false
+no-five true x y h k = h
+no-five false x y h k = k
+
+letter-no : (b : ℕ) → b ≤ 57 → letter b ≡ false
+unfolding class-of
+letter-no b h =
+    rw (between-low 65 90 b (omega arith), between-low 97 122 b (omega arith))
+    (no-five (eqb b 40) 1 _ refl
+    (no-five (eqb b 41) 2 _ refl
+    (no-five (eqb b 44) 3 _ refl
+    (no-five (eqb b 58) 4 _ refl
+    (no-five (between 48 57 b) 6 _ refl (no-five (eqb b 95) 7 _ refl (no-five (eqb b 32 || eqb b 10) 8 0 refl refl)))))))
+
+letter-above : (b : ℕ) → letter b ≡ true → 57 < b
+letter-above b h = by-cases (ltb 57 b) (λ e. ltb-true 57 b e) (λ e. absurd (clash h (letter-no b (ltb-false 57 b e))))
+
+letter-high : (n : List ℕ) (on : List ℕ) → lettered n ≡ true → 57 < getD (n ++ on) 0 0
+letter-high [] on h = absurd (false≢true h)
+letter-high (b ∷ bs) on h = letter-above b h
+
+label-high : (l : Event) → Short l → 57 < getD (label l) 0 0
+unfolding label
+label-high l s =
+    by-cases (l .reset) (λ e. rw e (omega arith)) (λ e. rw e (letter-high (l .name) (spaced (l .values)) (and-l (lettered (l .name)) _ (s .word))))
+
+not-called : (l : Event) (v : ℕ) → Short l → same (label l) (decimal v) ≡ false
+not-called l v s =
+    is-false (same (label l) (decimal v))
+    (λ t. let q = ap (λ (x : List ℕ). getD x 0 0) (same-decides (label l) (decimal v) .0 t) in omega (arith, q, label-high l s, decimal-digit v))
+
+other-number : (v w : ℕ) → v < w → w < 10 ^ 20 → same (decimal v) (decimal w) ≡ false
+other-number v w h k =
+    is-false (same (decimal v) (decimal w))
+    (λ t. let q = sym (decimal-back v (omega arith)) ∙ (ap value (same-decides (decimal v) (decimal w) .0 t) ∙ decimal-back w k) in omega (arith, q, h))
+
+number-found : (ls : List Event) (e i : ℕ) → Each Short ls → i < length ls → e + i < 10 ^ 20 → before-meant ls e (decimal (e + i)) ≡ i
+unfolding before-meant
+number-found [] e i s h k = absurd (omega arith)
+number-found (l ∷ ls) e zero s h k = let z : e + 0 ≡ e = omega arith in rw (z, same-decides (decimal e) (decimal e) .1 refl)
+number-found (l ∷ ls) e (suc i) s h k =
+    let n : e + suc i ≡ suc e + i = omega arith in
+    rw (other-number e (e + suc i) (omega arith) k, not-called l (e + suc i) (s .0), n) (ap suc (number-found ls (suc e) i (s .1) (omega arith) (omega arith)))
+
+-- An event that is said by its number is that event.
+pub said-by-number : (text : List ℕ) (d : Flow) → Accepted text d → (e : ℕ) → e < flow-events d → event-said (drawing-listing d) (decimal e) ≡ e
+said-by-number text d a e h =
+    let c = events-counted d (a .keeps .sizes) in
+    let few = a .events in
+    let z : 0 + e ≡ e = omega arith in
+    said-is-meant text d a (decimal e) ∙ rw z at (number-found (events (expand d)) 0 e (events-short text d a) (omega arith) (omega arith))
