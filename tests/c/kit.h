@@ -1,4 +1,4 @@
-/* What play.c, compare.c and bench/table.c share: building a table, and lending bytes to a call. */
+/* What play.c, compare.c and benchmarks/stack.c share: building a table, and lending bytes to a call. */
 #ifndef KIT_H
 #define KIT_H
 

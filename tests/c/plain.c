@@ -1,11 +1,11 @@
 /* See plain.h. Written from document 01 alone. */
 #include "plain.h"
+#include "plain_table.h"
 
 #include <string.h>
 
 enum { DONE = 0, FINISHED = 255, SHORT_BUFFER = 1, UNSOUND_TABLE = 12, BIT_PAST_EVENTS = 13, NO_EVENT = 14, NOT_NOW = 15 };
-enum { RECORD_BYTES = 64, OFFER_BYTES = 64, MOST_EVENTS = 512, MOST_ROWS = 12288 };
-enum { CONTROL_BIT = 0, NOT = 1, BOTH = 2, EITHER = 3 };
+enum { RECORD_BYTES = 64, OFFER_BYTES = 64 };
 
 static uint32_t events_of(const uint8_t *table) {
     return (uint32_t)table[0] << 8 | table[1];

@@ -1,5 +1,5 @@
-/* The four calls of include/adl.h in plain C, written apart from the proved library: the reference of compare.c and the baseline of
- * bench/table.c.
+/* The four calls of include/adl.h in plain C, written apart from the proved library: the reference of compare.c, and together with
+ * plain_text.h the baseline of ./bench.
  */
 #ifndef PLAIN_H
 #define PLAIN_H

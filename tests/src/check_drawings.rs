@@ -44,6 +44,17 @@ fn nodes_of_u() {
 }
 
 #[test]
+fn places_of_nodes() {
+    let places = |text: &str| -> Vec<(usize, Option<usize>)> {
+        read(text.as_bytes()).unwrap().nodes.iter().map(|node| (node.place, node.word_place)).collect()
+    };
+    let wanted = [(0, Some(5)), (10, None), (15, Some(20)), (25, Some(30)), (35, Some(40)), (50, Some(55))];
+    assert_eq!(places(U), wanted);
+    let text = " flow ( a ,1)(all( v:2)(leaf(b))(0)leaf(c)(1))";
+    assert_eq!(places(text), [(1, Some(8)), (14, Some(19)), (24, Some(29)), (35, Some(40))]);
+}
+
+#[test]
 fn every_constructor_is_read() {
     let text = every_constructor();
     let nodes = read(text.as_bytes()).unwrap().nodes;
@@ -261,6 +272,10 @@ fn limits_of_copies_and_events() {
     assert_eq!(counts(&many_copies(9)), Err((11, 0)));
 }
 
+fn without_blanks(text: &[u8]) -> Vec<u8> {
+    text.iter().copied().filter(|byte| *byte != b' ' && *byte != b'\n').collect()
+}
+
 #[test]
 fn printing_takes_the_blanks_out() {
     assert_eq!(print(T.as_bytes(), TEXT_LIMIT), Ok(T.as_bytes().to_vec()));
@@ -271,9 +286,13 @@ fn printing_takes_the_blanks_out() {
     let mut accepted = 0;
     for text in edge_texts().into_iter().chain((0..2000).map(random_text)) {
         match (read(&text), print(&text, TEXT_LIMIT)) {
-            (Ok(summary), Ok(printed)) => {
-                let blank = |byte: &&u8| **byte != b' ' && **byte != b'\n';
-                assert_eq!(printed, text.iter().filter(blank).copied().collect::<Vec<u8>>());
+            (Ok(mut summary), Ok(printed)) => {
+                assert_eq!(printed, without_blanks(&text));
+                // Each place is now less by the blanks before it.
+                for node in &mut summary.nodes {
+                    node.place = without_blanks(&text[..node.place]).len();
+                    node.word_place = node.word_place.map(|place| without_blanks(&text[..place]).len());
+                }
                 assert_eq!(read(&printed), Ok(summary));
                 accepted += 1;
             }

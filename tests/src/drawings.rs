@@ -2,9 +2,7 @@
 //! constructor inside every other, small ones and ones at the limits.
 
 use crate::generate::{pad_between, Random};
-use crate::kit::Counts;
-use crate::{read, Kind, NodeInfo, Summary, TEXT_LIMIT};
-use std::ops::RangeInclusive;
+use crate::{read, Kind, NodeInfo, TEXT_LIMIT, WORD_LIMIT};
 
 /// How large a drawing shall be.
 #[derive(Clone, Copy, Debug, PartialEq)]
@@ -94,7 +92,8 @@ fn with_blanks(text: Vec<u8>, random: &mut Random) -> Vec<u8> {
 fn drawing(size: Size, random: &mut Random) -> String {
     let room = room(size, random);
     let deep = size == Size::Deep;
-    let mut maker = Maker { random, room, deep, text: String::new(), nodes: 0, copies: 0, events: 0 };
+    let long_names = random.once_in(8);
+    let mut maker = Maker { random, room, deep, long_names, text: String::new(), nodes: 0, copies: 0, events: 0 };
     maker.open_flow(&[]);
     maker.children(2, &mut Vec::new());
     if size == Size::Full {
@@ -119,6 +118,8 @@ struct Maker<'r> {
     room: Room,
     /// One child of each flow goes down as far as it may.
     deep: bool,
+    /// All names are as long as they may be.
+    long_names: bool,
     text: String,
     nodes: usize,
     copies: usize,
@@ -139,16 +140,25 @@ impl Maker<'_> {
         self.nodes < self.room.nodes && self.copies < self.room.copies && self.events < self.room.events
     }
 
+    /// A name that no other node has.
+    fn name(&self, letter: char) -> String {
+        let name = format!("{letter}{}", self.nodes);
+        match self.long_names {
+            true => format!("{name}{}", "_".repeat(WORD_LIMIT - name.len())),
+            false => name,
+        }
+    }
+
     fn leaf(&mut self, around: &[Outer]) {
         self.count(around);
         self.events += copies_within(around);
-        self.put(&format!("leaf(l{})", self.nodes));
+        self.put(&format!("leaf({})", self.name('l')));
     }
 
     fn open_flow(&mut self, around: &[Outer]) {
         self.count(around);
         let pars: String = around.iter().map(|outer| format!(",{}", outer.par)).collect();
-        self.put(&format!("flow(f{}{pars},1)(", self.nodes));
+        self.put(&format!("flow({}{pars},1)(", self.name('f')));
     }
 
     fn flow(&mut self, depth: usize, around: &mut Vec<Outer>) {
@@ -312,38 +322,8 @@ impl Maker<'_> {
 }
 
 // ---------------------------------------------------------------------------
-// What a drawing has that others may not have
+// What a drawing has inside its constructors
 // ---------------------------------------------------------------------------
-
-const LARGE: [&str; 5] = [
-    "drawings with 512 events",
-    "drawings with 768 copies",
-    "drawings with 256 nodes",
-    "drawings with 255 leaves",
-    "drawings of depth 12",
-];
-
-/// Counts of these titles, of refusals by their numbers, and of all that
-/// `traits` can tell.
-pub fn nothing_met(titles: &[&str], refusals: RangeInclusive<u8>) -> Counts {
-    let titles = titles.iter().chain(&LARGE).map(|title| title.to_string());
-    let refusals = refusals.map(|number| format!("refusal {number}"));
-    Counts::new(titles.chain(refusals).chain(all_nestings()))
-}
-
-/// At which limits a drawing is, and which constructors stand inside which.
-pub fn traits(summary: &Summary) -> Vec<String> {
-    let leaves = summary.nodes.iter().filter(|node| node.kind == Kind::Leaf).count();
-    let holds = [
-        summary.events == 512,
-        summary.copies == 768,
-        summary.nodes.len() == 256,
-        leaves == 255,
-        summary.nodes.iter().any(|node| node.depth == 12),
-    ];
-    let large = LARGE.iter().zip(holds).filter(|(_, holds)| *holds).map(|(title, _)| title.to_string());
-    large.chain(nestings(&summary.nodes)).collect()
-}
 
 /// The constructors that others may stand in.
 const OUTER: [&str; 7] = ["and", "or", "xor", "all", "some", "one", "loop"];

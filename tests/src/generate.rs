@@ -58,15 +58,41 @@ impl Random {
 // One random text
 // ---------------------------------------------------------------------------
 
+/// How a random text is made.
+#[derive(Clone, Copy, Debug, PartialEq, Eq)]
+pub enum Sort {
+    /// Grammatical; it may break the rules beyond grammar.
+    Drawing,
+    DamagedTokens,
+    DamagedBytes,
+    TokenSoup,
+    Bytes,
+}
+
 /// The text of a seed; the same seed gives the same text.
 pub fn random_text(seed: u64) -> Vec<u8> {
     let random = &mut Random::new(seed);
+    let sort = random_sort(random);
+    text_of(sort, random)
+}
+
+pub fn random_sort(random: &mut Random) -> Sort {
     match random.below(100) {
-        0..=54 => spread(&drawing(random), random),
-        55..=69 => damage_tokens(random),
-        70..=84 => damage_bytes(random),
-        85..=93 => token_soup(random),
-        _ => random_bytes(random),
+        0..=54 => Sort::Drawing,
+        55..=69 => Sort::DamagedTokens,
+        70..=84 => Sort::DamagedBytes,
+        85..=93 => Sort::TokenSoup,
+        _ => Sort::Bytes,
+    }
+}
+
+pub fn text_of(sort: Sort, random: &mut Random) -> Vec<u8> {
+    match sort {
+        Sort::Drawing => spread(&drawing(random), random),
+        Sort::DamagedTokens => damage_tokens(random),
+        Sort::DamagedBytes => damage_bytes(random),
+        Sort::TokenSoup => token_soup(random),
+        Sort::Bytes => random_bytes(random),
     }
 }
 
@@ -106,6 +132,17 @@ fn damage_one_token(tokens: &mut Tokens, random: &mut Random) {
             tokens.extend((0..random.within(1, 8)).map(|_| soup_token(random)));
         }
     }
+}
+
+/// One token of a text without foreign bytes damaged.
+pub fn damaged_by_a_token(text: &[u8], random: &mut Random) -> Vec<u8> {
+    let mut tokens = tokens_of(text);
+    damage_one_token(&mut tokens, random);
+    spread(&tokens, random)
+}
+
+fn tokens_of(text: &[u8]) -> Tokens {
+    crate::cut(text).iter().map(|token| token.word.to_string()).collect()
 }
 
 /// Some bytes of a drawing's text changed, removed, inserted or cut off.
@@ -768,8 +805,7 @@ fn damaged_drawings() -> Vec<Vec<u8>> {
     for drawing in [T, U, &every] {
         texts.extend((0..drawing.len()).map(|end| drawing.as_bytes()[..end].to_vec()));
         texts.extend((0..drawing.len()).map(|end| format!("{} \n", &drawing[..end]).into_bytes()));
-        let tokens: Tokens =
-            crate::cut(drawing.as_bytes()).iter().map(|token| token.word.to_string()).collect();
+        let tokens = tokens_of(drawing.as_bytes());
         for at in 0..tokens.len() {
             texts.extend(each_damage(&tokens, at));
         }

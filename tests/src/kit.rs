@@ -1,10 +1,11 @@
 //! What the tests that play the proved library share: numbers from the
-//! environment, lending bytes to a call, making a failing case shorter, and
+//! environment, lending bytes to a call, making a failing list shorter, and
 //! counting what was met.
 
 use std::collections::BTreeMap;
 use std::env;
 use std::hint::black_box;
+use std::ops::Range;
 
 /// The number in an environment variable.
 pub fn number_from(variable: &str, otherwise: u64) -> u64 {
@@ -14,90 +15,78 @@ pub fn number_from(variable: &str, otherwise: u64) -> u64 {
     }
 }
 
-/// Plays the seeds that ADL_CASES and ADL_SEED ask for. If they are no fewer
-/// than usual, everything that is counted must have been met.
-pub fn play_seeds(usual: u64, counts: &mut Counts, play: fn(u64, &mut Counts)) {
-    let cases = number_from("ADL_CASES", usual);
-    let first_seed = number_from("ADL_SEED", 1);
-    for seed in (first_seed..).take(cases as usize) {
-        play(seed, counts);
-    }
-    counts.show();
-    if cases >= usual {
-        counts.assert_all_met();
-    }
-}
-
 // ---------------------------------------------------------------------------
 // Lent bytes
 // ---------------------------------------------------------------------------
 
-/// Bytes around what is lent, which nobody may look at or change.
-pub const MARGIN: usize = 64;
+/// So many bytes stand before and after what is lent, which nobody may change.
+const MARGIN: usize = 64;
 
-/// Bytes with a margin before and after them.
-pub fn lent(bytes: &[u8], around: u8) -> Vec<u8> {
-    [&[around; MARGIN], bytes, &[around; MARGIN]].concat()
-}
-
-/// Bytes that no call writes by chance, other ones for each case.
-fn pattern(length: usize, salt: usize) -> Vec<u8> {
-    (0..length).map(|at| (at * 37 + salt * 11 + 129) as u8 | 0x80).collect()
-}
-
-/// A buffer to write to: filled with a pattern, and so is its margin.
-pub struct LentBuffer {
+/// Bytes that are lent to a call, between two margins.
+pub struct Lent {
     bytes: Vec<u8>,
     before: Vec<u8>,
-    length: usize,
 }
 
-impl LentBuffer {
-    pub fn new(length: usize, salt: usize) -> LentBuffer {
-        let before = pattern(length + MARGIN, salt);
-        LentBuffer { bytes: before.clone(), before, length }
+impl Lent {
+    /// A text between letters: a reader that looks past its ends sees other
+    /// words.
+    pub fn text(text: &[u8]) -> Lent {
+        Lent::between(&[b'x'; MARGIN], text)
     }
 
-    pub fn bytes(&mut self) -> &mut [u8] {
-        &mut self.bytes[..self.length]
+    /// A table or a record.
+    pub fn bytes_of(bytes: &[u8]) -> Lent {
+        Lent::between(&[0xA5; MARGIN], bytes)
     }
 
-    /// The first byte that is not as it should be: these at the front, and
-    /// after them the pattern.
+    /// A buffer to write to, filled with bytes that no call writes by chance,
+    /// other ones for each salt.
+    pub fn buffer(length: usize, salt: usize) -> Lent {
+        let pattern = |at: usize| (at * 37 + salt * 11 + 129) as u8 | 0x80;
+        let bytes: Vec<u8> = (0..length + 2 * MARGIN).map(pattern).collect();
+        Lent { before: bytes.clone(), bytes }
+    }
+
+    fn between(margin: &[u8], bytes: &[u8]) -> Lent {
+        let bytes = [margin, bytes, margin].concat();
+        Lent { before: bytes.clone(), bytes }
+    }
+
+    fn inner(&self) -> Range<usize> {
+        MARGIN..self.bytes.len() - MARGIN
+    }
+
+    pub fn bytes(&self) -> &[u8] {
+        &self.bytes[self.inner()]
+    }
+
+    pub fn bytes_mut(&mut self) -> &mut [u8] {
+        let inner = self.inner();
+        &mut self.bytes[inner]
+    }
+
+    /// The first byte that is not as it should be: these where the lent bytes
+    /// begin, and around them all as it was.
     pub fn difference(&self, written: &[u8]) -> Option<String> {
-        let wanted = written.iter().chain(&self.before[written.len()..]);
         // The archive is outside what the compiler knows: look at the bytes anew.
-        let mut pairs = wanted.zip(black_box(&self.bytes)).enumerate();
-        let (at, (wanted, given)) = pairs.find(|(_, (wanted, given))| wanted != given)?;
-        Some(format!("byte {at} is {given}, should be {wanted}, {} were to be written", written.len()))
-    }
-}
-
-/// A text with letters right before and after it: a reader that looks past
-/// its ends sees other words. It must be unchanged after the call.
-pub struct LentText {
-    bytes: Vec<u8>,
-    original: Vec<u8>,
-}
-
-impl LentText {
-    pub fn new(text: &[u8]) -> LentText {
-        let bytes = lent(text, b'x');
-        LentText { original: bytes.clone(), bytes }
+        let given = black_box(&self.bytes);
+        let end = MARGIN + written.len();
+        let pieces = [(0, &self.before[..MARGIN]), (MARGIN, written), (end, &self.before[end..])];
+        let (start, wanted) = pieces.into_iter().find(|(start, wanted)| given[*start..][..wanted.len()] != **wanted)?;
+        let at = (0..wanted.len()).find(|&at| given[start + at] != wanted[at])?;
+        let place = (start + at) as isize - MARGIN as isize;
+        Some(format!("byte {place} is {}, should be {}", given[start + at], wanted[at]))
     }
 
-    pub fn text(&self) -> &[u8] {
-        &self.bytes[MARGIN..self.bytes.len() - MARGIN]
-    }
-
+    /// What was changed, if anything.
     pub fn change(&self) -> Option<String> {
-        // The archive is outside what the compiler knows: look at the bytes anew.
-        (black_box(&self.bytes) != &self.original).then(|| "the text itself was changed".to_string())
+        self.difference(&[]).map(|difference| format!("changed though it must not be: {difference}"))
     }
 }
 
 // ---------------------------------------------------------------------------
-// A shorter failing case
+// A shorter failing list
 // ---------------------------------------------------------------------------
 
 /// How many shorter lists are tried at most.
@@ -124,22 +113,12 @@ pub fn shorten<V: Clone>(list: &[V], fails: impl Fn(&[V]) -> bool) -> Vec<V> {
     list
 }
 
-/// Stops if the two differ on this text: shows it, and a shorter one.
-pub fn assert_alike(text: &[u8], source: &str, difference: impl Fn(&[u8]) -> Option<String>) {
-    if let Some(what) = difference(text) {
-        let short = shorten(text, |shorter| difference(shorter).is_some());
-        let again = difference(&short).unwrap_or_default();
-        println!("failing text, {source}: b\"{}\"", text.escape_ascii());
-        println!("shortened: b\"{}\"", short.escape_ascii());
-        panic!("{source}: {what}\nshortened: {again}");
-    }
-}
-
 // ---------------------------------------------------------------------------
 // What was met
 // ---------------------------------------------------------------------------
 
 /// How often each thing came up that has to come up.
+#[derive(Clone)]
 pub struct Counts(BTreeMap<String, usize>);
 
 impl Counts {
@@ -157,13 +136,19 @@ impl Counts {
         }
     }
 
-    pub fn show(&self) {
-        self.0.iter().for_each(|(title, count)| println!("{title:<50} {count:>9}"));
+    /// Adds what another list with the same titles counted.
+    pub fn join(&mut self, other: &Counts) {
+        for (title, count) in &other.0 {
+            *self.0.get_mut(title).unwrap_or_else(|| panic!("{title} is not counted")) += count;
+        }
     }
 
-    pub fn assert_all_met(&self) {
-        let unmet = self.0.iter().filter(|(_, count)| **count == 0);
-        let missing: Vec<&String> = unmet.map(|(title, _)| title).collect();
-        assert!(missing.is_empty(), "never came up: {missing:?}");
+    /// How often it came up, none if it is not counted.
+    pub fn get(&self, title: &str) -> Option<usize> {
+        self.0.get(title).copied()
+    }
+
+    pub fn unmet(&self) -> Vec<&str> {
+        self.0.iter().filter(|(_, count)| **count == 0).map(|(title, _)| title.as_str()).collect()
     }
 }

@@ -1,5 +1,5 @@
-//! A reader and printer of diagrams, their listing and their meaning, written
-//! from document 01 alone.
+//! A reader and printer of diagrams, their listing and their meaning, and a
+//! player of guard tables, written from document 01 alone.
 //!
 //! The text is cut into tokens, the tokens are made into an owned tree by
 //! recursive descent, and the rules beyond grammar are looked at on the
@@ -9,13 +9,10 @@
 //! - `cargo test --lib`: the reference on the drawings of document 01, and its
 //!   grammar and the meaning of drawings checked a second time in another way;
 //!   needs no archive.
-//! - `ADL_ARCHIVE=1 cargo test --test compare -- --nocapture`: the proved
-//!   library against the reference; ADL_CASES and ADL_SEED say how many random
-//!   texts and from which seed on.
-//! - `ADL_ARCHIVE=1 cargo test --release --test play -- --nocapture`: the
-//!   proved translation and runs against the reference's meaning of drawings.
-//! - `ADL_ARCHIVE=1 cargo test --release --test listing -- --nocapture`: the
-//!   proved listing, name call and values call against the reference.
+//! - `ADL_ARCHIVE=1 cargo test --release --test fuzz -- --nocapture`: the
+//!   proved library against the reference, on texts, runs and tables. ADL_CASES
+//!   and ADL_SEED say how many generated cases and from which seed; ADL_REPLAY
+//!   plays a failing case again, see tests/fuzz/main.rs.
 //! - `ADL_LISTING=/path/to/program cargo test --test program`: the listing
 //!   program against the reference; needs no archive.
 //! - `ADL_ARCHIVE=1 cargo run --release --bin bench`: both timed.
@@ -31,8 +28,10 @@ pub mod listing;
 pub mod meaning;
 pub mod plain;
 pub mod plain_listing;
+pub mod player;
 #[cfg(adl_archive)]
 pub mod proved;
+pub mod table;
 pub mod worked;
 
 #[cfg(test)]
@@ -43,6 +42,8 @@ mod check_grammar;
 mod check_listing;
 #[cfg(test)]
 mod check_meaning;
+#[cfg(test)]
+mod check_table;
 
 /// Number and place of a text that is turned away.
 pub type Refusal = (u8, usize);
@@ -78,6 +79,10 @@ pub struct NodeInfo {
     pub solid: bool,
     pub depth: usize,
     pub name: String,
+    /// Where its keyword stands.
+    pub place: usize,
+    /// Where the name of a leaf or flow stands, or the par of a replicator.
+    pub word_place: Option<usize>,
 }
 
 /// What is known of an accepted text; the nodes stand in text order.
@@ -252,6 +257,14 @@ impl Node {
     fn name(&self) -> Option<&Name> {
         match &self.shape {
             Shape::Leaf { name } | Shape::Flow { name, .. } => Some(name),
+            _ => None,
+        }
+    }
+
+    /// The par of a replicator.
+    fn par(&self) -> Option<&Name> {
+        match &self.shape {
+            Shape::Replicator { par, .. } => Some(par),
             _ => None,
         }
     }
@@ -611,6 +624,8 @@ fn info(node: &Node) -> NodeInfo {
         solid: node.solid,
         depth: node.depth,
         name: node.name().map_or(String::new(), |name| name.word.clone()),
+        place: node.place,
+        word_place: node.name().or(node.par()).map(|word| word.place),
     }
 }
 

@@ -1,6 +1,8 @@
-//! Translation in plain Rust, written from document 01 alone: the baseline that
-//! the proved translation is timed against. It does the same job, from the
-//! bytes of a text to the bytes of a guard table, with all checks.
+//! Printing and translation in plain Rust, written from document 01 alone: the
+//! baseline that the proved ones are timed against. They do the same job, from
+//! the bytes of a text to the bytes of a lent buffer, with all checks, after the
+//! reference's reader. Plain C of all calls is in `c`, and `calls` has all calls
+//! of the three side by side.
 //!
 //! The tree of an accepted text is gone through twice. The first time gives
 //! each node copy, here a part, rows for "it has begun" and "it is complete".
@@ -12,12 +14,32 @@
 //! before it are complete. So if a child that is no loop has begun, or is
 //! complete, nothing need be asked about the children before it.
 
-use crate::{accept, summarize, Group, Node, Refusal, Replicator, Shape, Summary};
+#[cfg(adl_archive)]
+pub mod c;
+#[cfg(adl_archive)]
+pub mod calls;
+
+use crate::{accept, is_blank, summarize, Group, Node, Refusal, Replicator, Shape, Summary, TEXT_LIMIT};
 use std::ops::Range;
 use std::slice::from_ref;
 
 /// The shortest buffer that translation takes.
 pub const TABLE_LIMIT: usize = 51_204;
+
+/// Writes a text without its blanks to a lent buffer and tells its length. An
+/// accepted text has nothing but its tokens and blanks.
+pub fn print(text: &[u8], out: &mut [u8]) -> Result<usize, Refusal> {
+    if out.len() < TEXT_LIMIT {
+        return Err((1, 0));
+    }
+    summarize(&accept(text)?)?;
+    let mut length = 0;
+    for byte in text.iter().filter(|byte| !is_blank(**byte)) {
+        out[length] = *byte;
+        length += 1;
+    }
+    Ok(length)
+}
 
 /// Writes the table of a text to a lent buffer and tells its length.
 pub fn translate(text: &[u8], out: &mut [u8]) -> Result<usize, Refusal> {

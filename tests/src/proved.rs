@@ -2,7 +2,7 @@
 //! for these tests, and those of the firmware (adl.h) that play a run.
 
 use crate::listing::Values;
-use crate::{Refusal, Summary};
+use crate::{Kind, NodeInfo, Refusal, Summary};
 
 extern "C" {
     fn adl_test_read(text: *const u8, len: usize) -> u64;
@@ -11,8 +11,18 @@ extern "C" {
     fn adl_test_list(text: *const u8, len: usize, out: *mut u8, out_len: usize) -> u64;
     fn adl_test_name(text: *const u8, len: usize, event: u64, out: *mut u8, out_len: usize) -> u64;
     fn adl_test_values(text: *const u8, len: usize, event: u64) -> u64;
+    fn adl_test_node(text: *const u8, len: usize, index: u64) -> u64;
+    fn adl_test_place(text: *const u8, len: usize, index: u64) -> u64;
     fn adl_check(table: *const u8, table_len: usize) -> u8;
     fn adl_step(table: *const u8, table_len: usize, record: *mut u8, record_len: usize, event: u64) -> u8;
+    fn adl_offer(
+        table: *const u8,
+        table_len: usize,
+        record: *const u8,
+        record_len: usize,
+        out: *mut u8,
+        out_len: usize,
+    ) -> u8;
     fn adl_finished(table: *const u8, table_len: usize, record: *const u8, record_len: usize) -> u8;
 }
 
@@ -54,6 +64,19 @@ pub fn values(text: &[u8], event: u64) -> u64 {
     unsafe { adl_test_values(text.as_ptr(), text.len(), event) }
 }
 
+/// What `node_number` packs of the node with this index in text order, or
+/// number * 2^32 + place for a refusal, NO_NODE for an index past the nodes.
+pub fn node(text: &[u8], index: u64) -> u64 {
+    // The pointer and the length are those of one slice, which is only read.
+    unsafe { adl_test_node(text.as_ptr(), text.len(), index) }
+}
+
+/// What `place_number` packs of the node with this index, else as `node`.
+pub fn place(text: &[u8], index: u64) -> u64 {
+    // The pointer and the length are those of one slice, which is only read.
+    unsafe { adl_test_place(text.as_ptr(), text.len(), index) }
+}
+
 /// 0 for a sound table, otherwise the number of the refusal.
 pub fn check(table: &[u8]) -> u8 {
     // The pointer and the length are those of one slice, which is only read.
@@ -64,6 +87,13 @@ pub fn check(table: &[u8]) -> u8 {
 pub fn step(table: &[u8], record: &mut [u8], event: u64) -> u8 {
     // Pointers and lengths are those of two slices; the second may be written.
     unsafe { adl_step(table.as_ptr(), table.len(), record.as_mut_ptr(), record.len(), event) }
+}
+
+/// 0 if the events that may come next were written, otherwise the number of
+/// the refusal.
+pub fn offer(table: &[u8], record: &[u8], out: &mut [u8]) -> u8 {
+    // Pointers and lengths are those of three slices; the last may be written.
+    unsafe { adl_offer(table.as_ptr(), table.len(), record.as_ptr(), record.len(), out.as_mut_ptr(), out.len()) }
 }
 
 /// 255 if the run is finished, 0 if not, otherwise the number of the refusal.
@@ -100,6 +130,32 @@ pub fn values_number(answer: &Result<Values, Refusal>) -> u64 {
         }
         Err(refusal) => refusal_number(*refusal),
     }
+}
+
+/// The answer of `node` and `place` to an index at or past the nodes.
+pub const NO_NODE: u64 = 255 << 32;
+
+/// The reference's node as the C function would give it:
+/// kind * 2^24 + size * 2^16 + solid * 2^8 + depth.
+pub fn node_number(node: &NodeInfo) -> u64 {
+    let (kind, size) = match node.kind {
+        Kind::Flow => (0, 0),
+        Kind::Leaf => (1, 0),
+        Kind::And => (2, 0),
+        Kind::Or => (3, 0),
+        Kind::Xor => (4, 0),
+        Kind::All(size) => (5, size as u64),
+        Kind::Some(size) => (6, size as u64),
+        Kind::One(size) => (7, size as u64),
+        Kind::Loop => (8, 0),
+    };
+    kind << 24 | size << 16 | u64::from(node.solid) << 8 | node.depth as u64
+}
+
+/// The places of a node as the C function would give them: that of its keyword
+/// * 2^16 + that of its name or par, 0 where it has none.
+pub fn place_number(node: &NodeInfo) -> u64 {
+    (node.place as u64) << 16 | node.word_place.unwrap_or(0) as u64
 }
 
 /// A refusal as the C functions for these tests give it.

@@ -1,0 +1,160 @@
+/* How much stack each call takes, for ./bench. The listing's figure has the 32,768 bytes of the harness's own buffer in it.
+ *
+ * The calls on a text are those of libharness.a, the four on a table those of libfirmware.a, which have to do with MOST_STACK.
+ */
+#include "adl.h"
+#include "kit.h"
+#include "painted.h"
+
+#include <stdint.h>
+#include <stdio.h>
+#include <stdlib.h>
+#include <string.h>
+
+uint64_t adl_test_read(const uint8_t *text, size_t len);
+uint64_t adl_test_print(const uint8_t *text, size_t len, uint8_t *out, size_t out_len);
+uint64_t adl_test_translate(const uint8_t *text, size_t len, uint8_t *out, size_t out_len);
+uint64_t adl_test_list(const uint8_t *text, size_t len, uint8_t *out, size_t out_len);
+uint64_t adl_test_name(const uint8_t *text, size_t len, uint64_t event, uint8_t *out, size_t out_len);
+uint64_t adl_test_values(const uint8_t *text, size_t len, uint64_t event);
+
+enum { MOST_STACK = 16384 };
+
+/* What the calls are given. */
+static uint8_t text[16384], lines[32768], record[ADL_RECORD_BYTES], offered[ADL_OFFER_BYTES];
+static size_t length;
+static struct table table;
+
+/* Calls. */
+
+static void read_text(void) { adl_test_read(text, length); }
+static void print_text(void) { adl_test_print(text, length, lines, sizeof lines); }
+static void list_text(void) { adl_test_list(text, length, lines, sizeof lines); }
+static void name_event(void) { adl_test_name(text, length, 0, lines, sizeof lines); }
+static void values_of_event(void) { adl_test_values(text, length, 0); }
+static void check(void) { adl_check(table.bytes, table.length); }
+static void finished(void) { adl_finished(table.bytes, table.length, record, sizeof record); }
+
+static void translate_text(void) {
+    table.length = (size_t)adl_test_translate(text, length, table.bytes, sizeof table.bytes);
+}
+
+static void offer(void) {
+    adl_offer(table.bytes, table.length, record, sizeof record, offered, sizeof offered);
+}
+
+/* Each event in turn and one past them: some are taken, resets among them, and some are not. What the deepest of these steps needs. */
+static void step(void) {
+    memset(record, 0, sizeof record);
+    for (uint64_t event = 0; event <= table_events(&table); event++) adl_step(table.bytes, table.length, record, sizeof record, event);
+}
+
+struct call {
+    const char *title;
+    void (*run)(void);
+};
+
+static const struct call text_calls[] = {{"read", read_text},    {"print", print_text}, {"translate", translate_text},
+                                         {"list", list_text},    {"name", name_event},  {"values", values_of_event}};
+static const struct call table_calls[] = {{"check", check}, {"step", step}, {"offer", offer}, {"finished", finished}};
+
+enum { TEXT_CALLS = sizeof text_calls / sizeof *text_calls, TABLE_CALLS = sizeof table_calls / sizeof *table_calls };
+
+/* Drawings. */
+
+static size_t trip(char *at) {
+    return (size_t)sprintf(at, "flow(trip,1)(leaf(take)(0)loop(leaf(fill))(0)xor(leaf(send)leaf(drop))(0)leaf(free)(1))");
+}
+
+/* The drawing called U in document 01, which has a reset. */
+static size_t rounds(char *at) {
+    return (size_t)sprintf(at, "flow(t,1)(loop(flow(r,1)(leaf(a)(0)leaf(b)(1)))(0)leaf(c)(1))");
+}
+
+/* A root with 255 leaves. */
+static size_t leaves(char *at) {
+    char *start = at;
+    at += sprintf(at, "flow(r,1)(");
+    for (int i = 0; i < 255; i++) at += sprintf(at, "leaf(l%d)(%d)", i, i == 0);
+    at += sprintf(at, ")");
+    return (size_t)(at - start);
+}
+
+/* Eleven nested flows and a leaf, the deepest drawing. */
+static size_t nested(char *at) {
+    char *start = at;
+    for (int i = 0; i < 11; i++) at += sprintf(at, "flow(f%d,1)(", i);
+    at += sprintf(at, "leaf(x)");
+    for (int i = 0; i < 11; i++) at += sprintf(at, "(1))");
+    return (size_t)(at - start);
+}
+
+/* 23 children all(v:16) over a flow of one leaf, and 8 leaves: 768 copies, the largest drawing. */
+static size_t copies(char *at) {
+    char *start = at;
+    at += sprintf(at, "flow(r,1)(");
+    for (int i = 0; i < 23; i++) at += sprintf(at, "all(v:16)(flow(f%d,v,1)(leaf(x%d)(1)))(0)", i, i);
+    for (int i = 0; i < 8; i++) at += sprintf(at, "leaf(l%d)(%d)", i, i == 0);
+    at += sprintf(at, ")");
+    return (size_t)(at - start);
+}
+
+/* The largest table: every fourth event is a reset of all before it, kinds in turn. */
+static void full_table(void) {
+    table_start(&table, ADL_MOST_EVENTS, ADL_MOST_ROWS);
+    for (uint32_t e = 0; e < ADL_MOST_EVENTS; e++) add_event(&table, e % 7, 0, e % 4 == 3 ? e : 0);
+    for (uint32_t r = 0; r < ADL_MOST_ROWS; r++) {
+        uint32_t kind = r % 4;
+        add_row(&table, kind, kind == 0 ? r % ADL_MOST_EVENTS : r - 1, kind < 2 ? 0 : r / 2);
+    }
+    if (adl_check(table.bytes, table.length) != ADL_SOUND) exit(1);
+}
+
+/* Lines. */
+
+/* The first run is not measured: in it the dynamic linker finds the functions, and its own work is not to be on the painted stack. */
+static size_t stack_of(void (*run)(void)) {
+    run();
+    return used(run);
+}
+
+static void print_calls(const struct call *calls, int count, size_t *most) {
+    for (int i = 0; i < count; i++) {
+        size_t bytes = stack_of(calls[i].run);
+        if (bytes > *most) *most = bytes;
+        printf(" %9zu", bytes);
+    }
+}
+
+static void print_drawing(const char *title, size_t (*drawing)(char *), size_t *most) {
+    size_t any = 0;
+    length = drawing((char *)text);
+    if (adl_test_read(text, length) >> 32) exit(1);
+    printf("%-20s", title);
+    print_calls(text_calls, TEXT_CALLS, &any);
+    print_calls(table_calls, TABLE_CALLS, most);
+    printf("\n");
+}
+
+static void print_head(void) {
+    printf("3. Stack: bytes that one proved call takes below its caller\n\n%-20s", "input");
+    for (int i = 0; i < TEXT_CALLS; i++) printf(" %9s", text_calls[i].title);
+    for (int i = 0; i < TABLE_CALLS; i++) printf(" %9s", table_calls[i].title);
+    printf("\n");
+}
+
+int main(void) {
+    size_t most = 0;
+    print_head();
+    print_drawing("T", trip, &most);
+    print_drawing("U", rounds, &most);
+    print_drawing("255 leaves", leaves, &most);
+    print_drawing("eleven nested flows", nested, &most);
+    print_drawing("768 copies", copies, &most);
+    full_table();
+    printf("%-20s%*s", "12,288 rows", 10 * TEXT_CALLS, "");
+    print_calls(table_calls, TABLE_CALLS, &most);
+    printf("\n\nThe last four are the C calls of libfirmware.a: %s %d. List has the 32,768 bytes of the harness's own buffer in it.\n",
+           most <= MOST_STACK ? "within" : "OVER", MOST_STACK);
+    return most > MOST_STACK;
+}

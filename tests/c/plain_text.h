@@ -1,0 +1,26 @@
+/* The calls on a text in plain C, written from document 01 alone, with memory of fixed size only: together with plain.h the baseline of
+ * ./bench. A refusal is number * 2^32 + place, as the test archive of the proved library gives it.
+ */
+#ifndef PLAIN_TEXT_H
+#define PLAIN_TEXT_H
+
+#include <stddef.h>
+#include <stdint.h>
+
+/* events * 2^16 + copies, or the refusal. */
+uint64_t plain_read(const uint8_t *text, size_t len);
+
+/* The number of bytes written, or the refusal. */
+uint64_t plain_print(const uint8_t *text, size_t len, uint8_t *out, size_t out_len);
+uint64_t plain_translate(const uint8_t *text, size_t len, uint8_t *out, size_t out_len);
+
+/* The number of bytes written; 0 where out_len is under 32,768, which takes every listing. */
+uint64_t plain_list(const uint8_t *text, size_t len, uint8_t *out, size_t out_len);
+
+/* The number of bytes written; 0 for a refusal, or where out_len is under 24. */
+uint64_t plain_name(const uint8_t *text, size_t len, uint64_t event, uint8_t *out, size_t out_len);
+
+/* reset * 2^24 + count * 2^18 + v0 * 2^12 + v1 * 2^6 + v2, a value that is not there being 0; or the refusal. */
+uint64_t plain_values(const uint8_t *text, size_t len, uint64_t event);
+
+#endif
