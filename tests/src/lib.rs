@@ -14,8 +14,10 @@
 //!   and ADL_SEED say how many generated cases and from which seed; ADL_REPLAY
 //!   plays a failing case again, see tests/fuzz/main.rs.
 //! - `ADL_LISTING=/path/to/program cargo test --test program`: the listing
-//!   program against the reference; needs no archive.
-//! - `ADL_ARCHIVE=1 cargo run --release --bin bench`: both timed.
+//!   program against the reference, with ADL_TRANSLATE and ADL_PLAY the other
+//!   two; needs no archive.
+//! - `./bench` in the directory above: the proved library, Rust and plain C
+//!   timed in one run.
 //!
 //! With ADL_ARCHIVE=1 the archives libharness.a and libfirmware.a are linked,
 //! which `rt staticlib harness` and `rt staticlib firmware` make in the
