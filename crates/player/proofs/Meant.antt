@@ -1,5 +1,6 @@
 -- What is said is what is meant: the lines of a drawing's listing give the event that has this number, or that is called so.
 use mathlib.Core.Path.{_≡_, refl, sym, ap, subst, _∙_}
+use mathlib.Core.Logic.{⊎-elim}
 use mathlib.Core.Bool.{Bool, true, false, not, cond, _||_, false≢true}
 use mathlib.Core.List.{List, [], _∷_, _++_, append-assoc}
 use Prim.Native.Nat.{ℕ, zero, suc, _+_, _^_, _≤_, _<_}
@@ -7,7 +8,7 @@ use native.Mathlib.Omega.{arith}
 use lib.Dec.{eqb, ltb}
 use lib.ListN.{length, getD}
 use borrow.Author.Tests.{ne-eqb, ltb-true, ltb-false}
-use Rattle.base.proofs.Truth.{by-cases, clash, is-false, and-l, and-r, not-e}
+use Rattle.base.proofs.Truth.{by-cases, clash, is-false, and-l, and-r, or-r, or-e, not-e}
 use Rattle.bytes.specs.Bytes.{indexOf, indexAfter}
 use Rattle.diagram.specs.Tree.{Flow}
 use Rattle.diagram.specs.Names.{same}
@@ -17,13 +18,14 @@ use Rattle.lexer.specs.Classes.{between, class-of, letter, worded}
 use Rattle.lexer.proofs.Between.{between-low}
 use Rattle.lexer.specs.Words.{lettered, every}
 use Rattle.reader.specs.Accepted.{Accepted}
-use Rattle.process.specs.Process.{Event, events}
+use Rattle.process.specs.Process.{Event, events, event-of}
 use Rattle.process.specs.Expand.{expand}
-use Rattle.process.proofs.Events.{events-counted}
+use Rattle.process.proofs.Events.{events-counted, event-in-order}
+use Rattle.labels.proofs.Sought.{nothing}
 use Rattle.output.specs.Decimal.{decimal, value}
 use Rattle.output.proofs.Decimals.{decimal-digits, decimal-back, decimal-some}
 use Rattle.events.specs.Listing.{first-line, mark, spaced, line, lines as listing-lines, drawing-listing}
-use Rattle.events.proofs.Short.{Each, each-append, Short, events-short}
+use Rattle.events.proofs.Short.{Each, each-append, each-at, Short, events-short}
 use Rattle.player.specs.Lines.{lines, rest, event-lines}
 use Rattle.player.specs.Said.{number-part, label-part, says, before-saying, event-said}
 use Rattle.player.specs.Meant.{label, before-meant}
@@ -210,3 +212,33 @@ said-by-number text d a e h =
     let few = a .events in
     let z : 0 + e ≡ e = omega arith in
     said-is-meant text d a (decimal e) ∙ rw z at (number-found (events (expand d)) 0 e (events-short text d a) (omega arith) (omega arith))
+
+-- The first event that has this number or is called so, where an event is called so: it is no later, and is called so itself.
+abbrev Called : List Event → ℕ → ℕ → Event → Type 0
+Called ls n i x = (n ≤ i) × (label (getD ls n x) ≡ label (getD ls i x))
+
+no-number : (l : Event) (v : ℕ) → Short l → same (decimal v) (label l) ≡ true → ⊥
+no-number l v s t = clash (same-decides (label l) (decimal v) .1 (sym (same-decides (decimal v) (label l) .0 t))) (not-called l v s)
+
+label-found : (ls : List Event) (e i : ℕ) (x : Event) → Each Short ls → i < length ls → Called ls (before-meant ls e (label (getD ls i x))) i x
+unfolding before-meant
+label-found [] e i x s h = absurd (omega arith)
+label-found (l ∷ ls) e zero x s h = rw (or-r (same (decimal e) (label l)) (same-decides (label l) (label l) .1 refl)) (omega arith, refl)
+label-found (l ∷ ls) e (suc i) x s h =
+    let said = label (getD ls i x) in
+    let k : i < length ls = omega arith in
+    by-cases (same (decimal e) said || same (label l) said)
+    (λ t. rw t (omega arith, ⊎-elim (λ q. absurd (no-number (getD ls i x) e (each-at Short ls i x (s .1) k) q)) (λ q. same-decides (label l) said .0 q) (or-e (same (decimal e) said) (same (label l) said) t)))
+    (λ t. let p = label-found ls (suc e) i x (s .1) k in rw t (omega (arith, p .0), p .1))
+
+-- An event that is said by what it is called: the one found is called so.
+pub said-by-label : (text : List ℕ) (d : Flow) → Accepted text d → (e : ℕ) → e < flow-events d
+    → (event-said (drawing-listing d) (label (event-of (expand d) e)) ≤ e)
+    × (label (event-of (expand d) (event-said (drawing-listing d) (label (event-of (expand d) e)))) ≡ label (event-of (expand d) e))
+said-by-label text d a e h =
+    let c = events-counted d (a .keeps .sizes) in
+    let x = event-in-order d (a .keeps .sizes) e nothing h in
+    let f = label-found (events (expand d)) 0 e nothing (events-short text d a) (omega arith) in
+    let m = said-is-meant text d a (label (getD (events (expand d)) e nothing)) in
+    let y = event-in-order d (a .keeps .sizes) (before-meant (events (expand d)) 0 (label (getD (events (expand d)) e nothing))) nothing (omega (arith, f .0, h)) in
+    rw (x, m, y) f
