@@ -8,9 +8,10 @@ use native.Mathlib.Numerals.{add-one}
 use lib.Dec.{ltb}
 use lib.ListN.{length, getD, take, drop, drop-of-length-le}
 use lib.Seq.{drop-cons}
-use borrow.Author.Tests.{ne-eqb, eq-eqb, ltb-true, ltb-false}
+use borrow.Author.Tests.{eq-eqb, ltb-true, ltb-false}
 use Rattle.diagram.specs.Tree.{Name}
 use Rattle.diagram.specs.Names.{same}
+use Rattle.diagram.proofs.Compared.{other-byte}
 use Rattle.base.proofs.Truth.{cases}
 use Rattle.lexer.specs.Classes.{class-of, worded}
 use Rattle.lexer.specs.Words.{front, word-at}
@@ -69,10 +70,7 @@ letter-some text at h e = rw (word-on text at h e)
 
 -- Words that start otherwise are not the same.
 pub first-differ : (v w : Name) → (getD v 0 0 ≡ getD w 0 0 → ⊥) → same v w ≡ false
-first-differ [] [] h = absurd (h refl)
-first-differ [] (y ∷ w) h = refl
-first-differ (x ∷ v) [] h = refl
-first-differ (x ∷ v) (y ∷ w) h = rw (ne-eqb x y h)
+first-differ v w h = sym (other-byte v w 0 h)
 
 -- A word whose first byte is 0 is none.
 pub zero-none : (text : List ℕ) (at : ℕ) → getD (word-at text at) 0 0 ≡ 0 → word-at text at ≡ []

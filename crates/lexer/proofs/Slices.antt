@@ -1,5 +1,5 @@
--- What each way through `equals` comes to: the bytes of a text from a to e against a word. Assumes nothing.
-use mathlib.Core.Path.{_≡_, refl, sym, ap, _∙_}
+-- What each way through `equals` comes to: the bytes of a text from a to e against a word; and such bytes. Assumes nothing.
+use mathlib.Core.Path.{_≡_, refl, sym, _∙_}
 use mathlib.Core.Bool.{true, false}
 use mathlib.Core.List.{List, [], _∷_}
 use Prim.Native.Nat.{ℕ, suc, _+_, _-_, _≤_, _<_}
@@ -7,14 +7,10 @@ use native.Mathlib.Nat.{add-zero}
 use native.Mathlib.Numerals.{add-one}
 use native.Mathlib.Omega.{arith}
 use lib.ListN.{length, take, drop, getD, length-drop}
-use lib.Seq.{take-suc, take-all, length-take-le, getD-take, getD-drop, drop-cons}
-use Rattle.diagram.specs.Tree.{Name}
+use lib.Seq.{take-all, length-take-le, getD-take, getD-drop, drop-cons}
 use Rattle.diagram.specs.Names.{same}
-use Rattle.base.proofs.Truth.{is-false}
 use Rattle.diagram.proofs.Equal.{same-decides}
-
-pub differ : (m n : Name) → (m ≡ n → ⊥) → false ≡ same m n
-differ m n f = sym (is-false (same m n) (λ t. f (same-decides m n .0 t)))
+use Rattle.diagram.proofs.Compared as Compared
 
 module _ (text : List ℕ) (a e : ℕ) (fits : e - a ≤ length text - a) where
   pub slice-length : length (take (e - a) (drop a text)) ≡ e - a
@@ -22,17 +18,15 @@ module _ (text : List ℕ) (a e : ℕ) (fits : e - a ≤ length text - a) where
 
   module _ (w : List ℕ) where
     pub other-length : (e - a ≡ length w → ⊥) → false ≡ same (take (e - a) (drop a text)) w
-    other-length f = differ (take (e - a) (drop a text)) w (λ q. f (sym slice-length ∙ ap length q))
+    other-length f = Compared.other-length (take (e - a) (drop a text)) w (λ q. f (sym slice-length ∙ q))
 
     pub other-byte : (i : ℕ) → e - a ≡ length w → i < length w → (getD text (a + i) 0 ≡ getD w i 0 → ⊥) → false ≡ same (take (e - a) (drop a text)) w
     other-byte i l h f =
-        differ (take (e - a) (drop a text)) w (λ q. f (sym (getD-take (e - a) (drop a text) i 0 (omega arith) ∙ getD-drop a text i 0) ∙ ap (λ (x : List ℕ). getD x i 0) q))
+        Compared.other-byte (take (e - a) (drop a text)) w i (λ q. f (sym (getD-take (e - a) (drop a text) i 0 (omega arith) ∙ getD-drop a text i 0) ∙ q))
 
     pub one-more : (i : ℕ) → e - a ≡ length w → i < length w → getD text (a + i) 0 ≡ getD w i 0 → take i (drop a text) ≡ take i w
         → take (i + 1) (drop a text) ≡ take (i + 1) w
-    one-more i l h g q =
-        let k : i < length (drop a text) = rw (length-drop a text) (omega arith) in
-        rw (add-one i, take-suc (drop a text) i 0 k, take-suc w i 0 h, getD-drop a text i 0, q, g)
+    one-more i l h g q = Compared.one-more (drop a text) w i (rw (length-drop a text) (omega arith)) h (getD-drop a text i 0 ∙ g) q
 
     pub all-same : (i : ℕ) → e - a ≡ length w → length w ≤ i → i ≤ length w → take i (drop a text) ≡ take i w → true ≡ same (take (e - a) (drop a text)) w
     all-same i l h h′ q =

@@ -1,4 +1,3 @@
-mod Alike
 mod Split
 mod Saying
 pub mod Bounds

@@ -1,5 +1,5 @@
 -- `player::chosen` meets its contract. The loop's invariant: what is written, and the lines that are left, come to the whole. Its measure is how many bytes are left. Assumes nothing.
-use mathlib.Core.Path.{_≡_, refl, sym, ap, _∙_}
+use mathlib.Core.Path.{_≡_, refl, ap, _∙_}
 use Prim.Native.Nat.{_-_, _≤_}
 use native.Mathlib.Omega.{arith}
 use lib.ListN.{length, drop}

@@ -1,9 +1,10 @@
 -- `player::equal` meets its contract. The loop's invariant: the first i bytes are the same. Its measure is how many are left. Assumes nothing.
 use mathlib.Core.Path.{_≡_}
 use Prim.Native.Nat.{_-_, _≤_}
+use native.Mathlib.Omega.{arith}
 use lib.ListN.{length, take}
 use borrow.Author.Needs.{needs}
-use Rattle.player.proofs.Alike.{other-length, other-byte, one-more, all-same}
+use Rattle.diagram.proofs.Compared.{other-length, other-byte, one-more, all-same}
 use Rattle.player.proofs.equal.Statement.{statement}
 use Rattle.player.proofs.equal.Tie as tie
 
@@ -42,13 +43,13 @@ loop-again c =
     let t = c .before .before .before in
     let l = t .before in
     let a = l .before .before .args in
-    (search needs, one-more (a .a .now) (a .b .now) (l .loop .i) (l .before .if1 .left) (t .loop-test .taken) (c .if2 .left) (l .loop .inv .1))
+    (search needs, one-more (a .a .now) (a .b .now) (l .loop .i) (omega (arith, l .before .if1 .left, t .loop-test .taken)) (t .loop-test .taken) (c .if2 .left) (l .loop .inv .1))
 
 returns-3 : tie.Need-returns-3 Inv-loop μ-loop
 returns-3 c =
     let l = c .before in
     let a = l .before .before .args in
-    all-same (a .a .now) (a .b .now) (l .loop .i) (l .before .if1 .left) (c .loop-test .left) (l .loop .inv .1)
+    all-same (a .a .now) (a .b .now) (l .loop .i) (omega (arith, l .before .if1 .left, c .loop-test .left)) (c .loop-test .left) (l .loop .inv .1)
 
 pub equal-spec : {M : Type 1} → statement M
 equal-spec =

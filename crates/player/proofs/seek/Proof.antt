@@ -1,7 +1,7 @@
 -- `player::seek` meets its contract. The loop's invariant: the lines before, and those that are left before the one that says it, are as many as in the whole. Its measure is how many bytes are left. Assumes nothing.
-use mathlib.Core.Path.{_≡_, sym, ap, _∙_}
+use mathlib.Core.Path.{_≡_, ap}
 use mathlib.Core.List.{List}
-use Prim.Native.Nat.{ℕ, suc, _+_, _-_, _≤_}
+use Prim.Native.Nat.{ℕ, _+_, _-_, _≤_}
 use native.Mathlib.Omega.{arith}
 use lib.ListN.{length, drop}
 use Rattle.player.specs.Lines.{lines}
