@@ -8,6 +8,7 @@ use reference::kit::number_from;
 use reference::meaning::{Book, Diagram};
 use reference::player::{label, played, LINE_LIMIT};
 use reference::TEXT_LIMIT;
+use std::collections::BTreeSet;
 use std::ffi::OsString;
 use std::fs;
 use std::io::{BufRead, BufReader, Write};
@@ -154,6 +155,21 @@ fn line_for(diagram: &Diagram, event: usize, random: &mut Random) -> String {
         Some(known) if random.once_in(2) => label(known),
         Some(known) if random.once_in(8) => format!("{} 0", label(known)),
         _ => event.to_string(),
+    }
+}
+
+/// The program and the reference both take the first event that is called so:
+/// neither would tell if two were. This asks the drawings themselves.
+#[test]
+fn no_two_events_are_called_the_same() {
+    for seed in (number_from("ADL_SEED", 1)..).take(10 * CASES) {
+        let random = &mut Random::new(seed);
+        let size = *random.pick(&[Size::Small(10), Size::Middle, Size::Deep, Size::Full]);
+        let text = accepted_text(size, random);
+        let diagram = Diagram::of(&text).expect("the drawing is accepted");
+        let mut called: BTreeSet<String> = diagram.events.iter().map(label).collect();
+        called.extend((0..diagram.events.len()).map(|number| number.to_string()));
+        assert_eq!(called.len(), 2 * diagram.events.len(), "b\"{}\"", text.escape_ascii());
     }
 }
 
