@@ -5,3 +5,4 @@ pub mod Listing
 pub mod Worked
 pub mod Spots
 pub mod Bounds
+pub mod Reports

@@ -9,20 +9,17 @@ use Rattle.base.specs.Fill.{fill}
 use Rattle.record.specs.Bytes.{words-of, bytes-of}
 use Rattle.record.specs.declared.Record.{Record}
 use Rattle.table.specs.Steps.{check-of, step-of, finished-of, offer-of, offer-left}
+use Rattle.table.specs.Reports.{report, finish-report}
 use Rattle.table.specs.declared.Answer.{Answer}
 use Rattle.table.specs.declared.Answer.the-variants.{Done, Refused}
 use Rattle.table.specs.declared.Finish.{Finish}
-use Rattle.table.specs.declared.Finish.the-variants.{No, Yes, Refused as Unasked}
 
 -- The number that stands for an answer, and for what is said of a finished run.
 abbrev pub number : Answer → ℕ
-number Done = 0
-number (Refused n place) = n
+number a = report a .number
 
 abbrev pub finish-number : Finish → ℕ
-finish-number No = 0
-finish-number Yes = 255
-finish-number (Unasked n place) = n
+finish-number f = finish-report f .number
 
 -- The record that 64 bytes hold.
 abbrev pub record-of : List ℕ → Record

@@ -4,3 +4,4 @@ pub mod Accepted
 pub mod Refused
 pub mod Views
 pub mod Bounds
+pub mod Reports

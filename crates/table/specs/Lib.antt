@@ -4,3 +4,4 @@ pub mod Shaped
 pub mod Values
 pub mod Steps
 pub mod Bounds
+pub mod Reports

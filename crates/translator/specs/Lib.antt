@@ -1,2 +1,3 @@
 pub mod Translates
 pub mod Bounds
+pub mod Reports
