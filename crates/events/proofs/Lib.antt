@@ -5,3 +5,4 @@ pub mod Written
 pub mod Answers
 pub mod Bounds
 pub mod Worked
+pub mod Promised

@@ -1,3 +1,4 @@
 pub mod Called
 pub mod Bounds
 pub mod Laws
+pub mod Promised

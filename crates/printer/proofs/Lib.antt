@@ -2,3 +2,4 @@ pub mod Alike
 pub mod Copied
 pub mod Answered
 pub mod Bounds
+pub mod Promised

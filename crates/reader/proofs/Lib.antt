@@ -7,3 +7,4 @@ pub mod Laws
 pub mod Rows
 pub mod Stages
 pub mod Bounds
+pub mod Promised

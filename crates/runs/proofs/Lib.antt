@@ -1,5 +1,3 @@
 pub mod Through
-pub mod InPlace
 pub mod Drawn
 pub mod Starred
-pub mod Property

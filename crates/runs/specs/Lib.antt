@@ -1,4 +1,2 @@
 pub mod InC
-pub mod InPlace
 pub mod Starred
-pub mod Property

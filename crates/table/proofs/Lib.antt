@@ -8,3 +8,4 @@ pub mod Answered
 pub mod Bounds
 pub mod Laws
 pub mod Obeyed
+pub mod Promised

@@ -1,3 +1,4 @@
 pub mod Tables
 pub mod Cases
 pub mod Bounds
+pub mod Promised
