@@ -22,5 +22,6 @@ pub mod NoSecond
 pub mod Joins
 pub mod Read
 pub mod Listings
+pub mod NoTwo
 pub mod Starred
 pub mod Short
