@@ -1,5 +1,6 @@
 pub mod Read
 pub mod Short
+pub mod Called
 pub mod Bound
 pub mod Written
 pub mod Answers

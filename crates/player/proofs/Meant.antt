@@ -1,57 +1,37 @@
 -- What is said is what is meant: the lines of a drawing's listing give the event that has this number, or that is called so.
-use mathlib.Core.Path.{_≡_, refl, sym, ap, subst, _∙_}
+use mathlib.Core.Path.{_≡_, refl, sym, ap, _∙_}
 use mathlib.Core.Logic.{⊎-elim}
-use mathlib.Core.Bool.{Bool, true, false, not, cond, _||_, false≢true}
+use mathlib.Core.Bool.{Bool, true, false, _||_}
 use mathlib.Core.List.{List, [], _∷_, _++_, append-assoc}
 use Prim.Native.Nat.{ℕ, zero, suc, _+_, _^_, _≤_, _<_}
 use native.Mathlib.Omega.{arith}
-use lib.Dec.{eqb, ltb}
+use lib.Dec.{eqb}
 use lib.ListN.{length, getD}
-use borrow.Author.Tests.{ne-eqb, ltb-true, ltb-false}
-use Rattle.base.proofs.Truth.{by-cases, clash, is-false, and-l, and-r, or-r, or-e, not-e}
+use Rattle.base.proofs.Truth.{by-cases, clash, is-false, and-l, and-r, or-r, or-e}
 use Rattle.bytes.specs.Bytes.{indexOf, indexAfter}
 use Rattle.diagram.specs.Tree.{Flow}
 use Rattle.diagram.specs.Names.{same}
 use Rattle.diagram.proofs.Equal.{same-decides}
 use Rattle.diagram.specs.Count.{flow-events, flow-copies}
-use Rattle.lexer.specs.Classes.{between, class-of, letter, worded}
-use Rattle.lexer.proofs.Between.{between-low}
-use Rattle.lexer.specs.Words.{lettered, every}
+use Rattle.lexer.specs.Words.{lettered}
 use Rattle.reader.specs.Accepted.{Accepted}
 use Rattle.process.specs.Process.{Event, events, event-of}
 use Rattle.process.specs.Expand.{expand}
 use Rattle.process.proofs.Events.{events-counted, event-in-order}
+use Rattle.process.proofs.NoTwo.{no-event-twice}
 use Rattle.labels.proofs.Sought.{nothing}
-use Rattle.output.specs.Decimal.{decimal, value}
-use Rattle.output.proofs.Decimals.{decimal-digits, decimal-back, decimal-some}
+use Rattle.output.specs.Decimal.{decimal}
 use Rattle.events.specs.Listing.{first-line, mark, spaced, line, lines as listing-lines, drawing-listing}
 use Rattle.events.proofs.Short.{Each, each-append, each-at, Short, events-short}
+use Rattle.events.proofs.Called.{Without, without, decimal-without, word-without, blanks-no-words, letter-high, digit-low, decimal-one, called-one}
+use Rattle.events.proofs.Answers.{short-at}
 use Rattle.player.specs.Lines.{lines, rest, event-lines}
 use Rattle.player.specs.Said.{number-part, label-part, says, before-saying, event-said}
 use Rattle.player.specs.Meant.{label, before-meant}
 use Rattle.player.proofs.Split.{line-here, line-on, no-lines}
 
--- Bytes that are not this one.
-abbrev Without : ℕ → List ℕ → Type 0
-Without x bs = Each (λ b. eqb b x ≡ false) bs
-
 joined : (bs cs : List ℕ) → Without 10 bs → Without 10 cs → Without 10 (bs ++ cs)
 joined bs cs h k = each-append (λ b. eqb b 10 ≡ false) bs cs h k
-
--- By a test of all of them.
-without : (x : ℕ) (bs : List ℕ) → every (λ b. not (eqb b x)) bs ≡ true → Without x bs
-without x [] h = tt
-without x (b ∷ bs) h = (not-e (eqb b x) (and-l (not (eqb b x)) _ h), without x bs (and-r (not (eqb b x)) _ h))
-
-each-of : (P : ℕ → Type 0) (bs : List ℕ) → ((i : ℕ) → i < length bs → P (getD bs i 0)) → Each P bs
-each-of P [] f = tt
-each-of P (b ∷ bs) f = (f 0 (omega arith), each-of P bs (λ i h. f (suc i) (omega arith)))
-
--- A number's digits are not below 48, and so neither a line's end nor a space.
-decimal-without : (x v : ℕ) → x < 48 → Without x (decimal v)
-decimal-without x v h =
-    each-of (λ b. eqb b x ≡ false) (decimal v)
-    (λ i l. let d = decimal-digits v i l .0 in ne-eqb (getD (decimal v) i 0) x (λ e. omega (arith, d, e)))
 
 spaced-without : (vs : List ℕ) → Without 10 (spaced vs)
 unfolding spaced
@@ -62,22 +42,11 @@ mark-without : (reset : Bool) → Without 10 (mark reset)
 mark-without true = without 10 (mark true) refl
 mark-without false = tt
 
-end-no-word : worded 10 ≡ true → ⊥
-unfolding class-of
-end-no-word e = false≢true e
-
-word-without : (bs : List ℕ) → every worded bs ≡ true → Without 10 bs
-word-without [] h = tt
-word-without (b ∷ bs) h = (
-  ne-eqb b 10 (λ e. end-no-word (subst (λ (x : ℕ). worded x ≡ true) e (and-l (worded b) (every worded bs) h))),
-  word-without bs (and-r (worded b) (every worded bs) h),
-)
-
 label-without : (l : Event) → Short l → Without 10 (label l)
 unfolding label
 label-without l s =
     joined (mark (l .reset)) (l .name ++ spaced (l .values)) (mark-without (l .reset))
-    (joined (l .name) (spaced (l .values)) (word-without (l .name) (and-r (lettered (l .name)) _ (s .word))) (spaced-without (l .values)))
+    (joined (l .name) (spaced (l .values)) (word-without 10 (l .name) (blanks-no-words .0) (and-r (lettered (l .name)) _ (s .word))) (spaced-without (l .values)))
 
 -- A line that ends here, and the lines after it.
 line-ended : (bs on : List ℕ) → Without 10 bs → lines ((bs ++ (10 ∷ [])) ++ on) ≡ bs ∷ lines on
@@ -155,33 +124,6 @@ said-is-meant text d a said =
     ap (λ (ls : List (List ℕ)). before-saying ls said) (lines-listed d (events-short text d a)) ∙ bares-say 0 (events (expand d)) said
 
 -- No event is called by a number: a label begins with a letter, a number with a digit.
-abbrev Digit-first : List ℕ → Type 0
-Digit-first bs = getD bs 0 0 ≤ 57
-
-decimal-digit : (v : ℕ) → Digit-first (decimal v)
-decimal-digit v = decimal-digits v 0 (decimal-some v) .1
-
-no-five : (t : Bool) (x y : ℕ) → between 5 5 x ≡ false → between 5 5 y ≡ false → between 5 5 (cond t x y) ≡ false
-no-five true x y h k = h
-no-five false x y h k = k
-
-letter-no : (b : ℕ) → b ≤ 57 → letter b ≡ false
-unfolding class-of
-letter-no b h =
-    rw (between-low 65 90 b (omega arith), between-low 97 122 b (omega arith))
-    (no-five (eqb b 40) 1 _ refl
-    (no-five (eqb b 41) 2 _ refl
-    (no-five (eqb b 44) 3 _ refl
-    (no-five (eqb b 58) 4 _ refl
-    (no-five (between 48 57 b) 6 _ refl (no-five (eqb b 95) 7 _ refl (no-five (eqb b 32 || eqb b 10) 8 0 refl refl)))))))
-
-letter-above : (b : ℕ) → letter b ≡ true → 57 < b
-letter-above b h = by-cases (ltb 57 b) (λ e. ltb-true 57 b e) (λ e. absurd (clash h (letter-no b (ltb-false 57 b e))))
-
-letter-high : (n : List ℕ) (on : List ℕ) → lettered n ≡ true → 57 < getD (n ++ on) 0 0
-letter-high [] on h = absurd (false≢true h)
-letter-high (b ∷ bs) on h = letter-above b h
-
 label-high : (l : Event) → Short l → 57 < getD (label l) 0 0
 unfolding label
 label-high l s =
@@ -190,12 +132,12 @@ label-high l s =
 not-called : (l : Event) (v : ℕ) → Short l → same (label l) (decimal v) ≡ false
 not-called l v s =
     is-false (same (label l) (decimal v))
-    (λ t. let q = ap (λ (x : List ℕ). getD x 0 0) (same-decides (label l) (decimal v) .0 t) in omega (arith, q, label-high l s, decimal-digit v))
+    (λ t. let q = ap (λ (x : List ℕ). getD x 0 0) (same-decides (label l) (decimal v) .0 t) in omega (arith, q, label-high l s, digit-low v))
 
 other-number : (v w : ℕ) → v < w → w < 10 ^ 20 → same (decimal v) (decimal w) ≡ false
 other-number v w h k =
     is-false (same (decimal v) (decimal w))
-    (λ t. let q = sym (decimal-back v (omega arith)) ∙ (ap value (same-decides (decimal v) (decimal w) .0 t) ∙ decimal-back w k) in omega (arith, q, h))
+    (λ t. let q = decimal-one v w (omega arith) k (same-decides (decimal v) (decimal w) .0 t) in omega (arith, q, h))
 
 number-found : (ls : List Event) (e i : ℕ) → Each Short ls → i < length ls → e + i < 10 ^ 20 → before-meant ls e (decimal (e + i)) ≡ i
 unfolding before-meant
@@ -231,14 +173,26 @@ label-found (l ∷ ls) e (suc i) x s h =
     (λ t. rw t (omega arith, ⊎-elim (λ q. absurd (no-number (getD ls i x) e (each-at Short ls i x (s .1) k) q)) (λ q. same-decides (label l) said .0 q) (or-e (same (decimal e) said) (same (label l) said) t)))
     (λ t. let p = label-found ls (suc e) i x (s .1) k in rw t (omega (arith, p .0), p .1))
 
--- An event that is said by what it is called: the one found is called so.
-pub said-by-label : (text : List ℕ) (d : Flow) → Accepted text d → (e : ℕ) → e < flow-events d
-    → (event-said (drawing-listing d) (label (event-of (expand d) e)) ≤ e)
-    × (label (event-of (expand d) (event-said (drawing-listing d) (label (event-of (expand d) e)))) ≡ label (event-of (expand d) e))
+-- No event is called by a number, and no two are called the same.
+pub no-number-called : (text : List ℕ) (d : Flow) → Accepted text d → (e v : ℕ) → e < flow-events d → label (event-of (expand d) e) ≡ decimal v → ⊥
+no-number-called text d a e v h q =
+    let l = event-of (expand d) e in
+    clash (same-decides (label l) (decimal v) .1 q) (not-called l v (short-at text d a e h))
+
+pub no-two-called : (text : List ℕ) (d : Flow) → Accepted text d → (e f : ℕ) → e < flow-events d → f < flow-events d
+    → label (event-of (expand d) e) ≡ label (event-of (expand d) f) → e ≡ f
+unfolding label
+no-two-called text d a e f h k q =
+    no-event-twice d (a .keeps .sizes) (a .keeps .names) e f h k
+    (called-one (event-of (expand d) e) (event-of (expand d) f) (short-at text d a e h) (short-at text d a f k) q)
+
+-- An event that is said by what it is called is that event.
+pub said-by-label : (text : List ℕ) (d : Flow) → Accepted text d → (e : ℕ) → e < flow-events d → event-said (drawing-listing d) (label (event-of (expand d) e)) ≡ e
 said-by-label text d a e h =
     let c = events-counted d (a .keeps .sizes) in
     let x = event-in-order d (a .keeps .sizes) e nothing h in
-    let f = label-found (events (expand d)) 0 e nothing (events-short text d a) (omega arith) in
-    let m = said-is-meant text d a (label (getD (events (expand d)) e nothing)) in
-    let y = event-in-order d (a .keeps .sizes) (before-meant (events (expand d)) 0 (label (getD (events (expand d)) e nothing))) nothing (omega (arith, f .0, h)) in
-    rw (x, m, y) f
+    let n = before-meant (events (expand d)) 0 (label (getD (events (expand d)) e nothing)) in
+    let f : Called (events (expand d)) n e nothing = label-found (events (expand d)) 0 e nothing (events-short text d a) (omega arith) in
+    let l : n < flow-events d = omega (arith, f .0, h) in
+    let y = event-in-order d (a .keeps .sizes) n nothing l in
+    rw (x, said-is-meant text d a (label (getD (events (expand d)) e nothing))) (no-two-called text d a n e l h (rw (x, y) (f .1)))

@@ -7,7 +7,8 @@ use Rattle.process.specs.Process.{Event}
 use Rattle.output.specs.Decimal.{decimal}
 use Rattle.events.specs.Listing.{mark, spaced}
 
--- What an event is called: `reset` and a space for a reset, the name, and the values, each after a space.
+-- What an event is called: `reset` and a space for a reset, the name, and the values, each after a space. `proofs/Meant.antt` shows that no two events are
+-- called the same, and none by a number.
 unfoldable pub label : Event → List ℕ
 label l = mark (l .reset) ++ (l .name ++ spaced (l .values))
 
