@@ -14,11 +14,12 @@ pub enum Kind {
     Loop,
 }
 
-// A node as it stands in the text: `at` is the place of its keyword; `name` is the place of a leaf's or flow's name or of a replicator's par,
-// and 0 for any other node.
+// A node as it stands in the text: `solid` says whether it is a solid child; `strong` whether a flow's sw is 1, and is false for a node that is no
+// flow; `at` is the place of its keyword; `name` is the place of a leaf's or flow's name or of a replicator's par, and 0 for any other node.
 pub struct Node {
     pub kind: Kind,
     pub solid: bool,
+    pub strong: bool,
     pub depth: usize,
     pub at: usize,
     pub name: usize,
@@ -39,6 +40,7 @@ pub fn empty() -> Diagram
     let node = Node {
         kind: Kind::Leaf,
         solid: false,
+        strong: false,
         depth: 0,
         at: 0,
         name: 0,

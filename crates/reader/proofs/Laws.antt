@@ -8,10 +8,11 @@ use native.Mathlib.Omega.{arith}
 use lib.Dec.{eqb}
 use lib.ListN.{length, getD, drop, List·getD-eq-default}
 use lib.Seq.{getD-drop}
+use borrow.Author.Tests.{eq-eqb, ne-eqb}
 use Rattle.diagram.specs.Tree.{Name}
 use Rattle.diagram.specs.declared.Kind.{Kind}
-use Rattle.rules.specs.Heads.{copying, solid-of, head}
-use Rattle.reader.specs.Nodes.{kind-of, size-of, name-place, node-of}
+use Rattle.rules.specs.Heads.{copying, solid-of, strong-of, head}
+use Rattle.reader.specs.Nodes.{kind-of, size-of, strong-flow, name-place, node-of}
 
 pub name-either : (c : ℕ) (ps : List ℕ) (key : ℕ) → (eqb c 7 || eqb c 8) ≡ true → name-place c ps key ≡ getD ps (key + 2) 0
 unfolding name-place
@@ -45,6 +46,17 @@ size-some cs key c r b e q t h = h ∙ sym (size-at cs key c b e q ∙ rw t)
 pub size-none : (cs : List ℕ) (key c : ℕ) (b : Bool) → c ≡ getD cs (key + 0) 0 → b ≡ copying c → b ≡ false → 0 ≡ size-of (drop key cs)
 size-none cs key c b e q t = sym (size-at cs key c b e q ∙ rw t)
 
+-- The two ways to a flow's sw.
+strong-at : (cs : List ℕ) (key c : ℕ) (b : Bool) → c ≡ getD cs (key + 0) 0 → eqb c 7 ≡ b → strong-flow (drop key cs) ≡ cond b (strong-of (drop 3 (drop key cs))) false
+unfolding strong-flow
+strong-at cs key c b e q = rw (first-token cs key c e, q)
+
+pub strong-some : (cs : List ℕ) (key c : ℕ) (r : Bool) → c ≡ getD cs (key + 0) 0 → c ≡ 7 → r ≡ strong-of (drop 3 (drop key cs)) → r ≡ strong-flow (drop key cs)
+strong-some cs key c r e t h = h ∙ sym (strong-at cs key c true e (eq-eqb c 7 t))
+
+pub strong-none : (cs : List ℕ) (key c : ℕ) → c ≡ getD cs (key + 0) 0 → (c ≡ 7 → ⊥) → false ≡ strong-flow (drop key cs)
+strong-none cs key c e t = sym (strong-at cs key c false e (ne-eqb c 7 t))
+
 -- The three ways to a node's name.
 pub name-first : (cs ps : List ℕ) (key c r : ℕ) (b : Bool) → c ≡ getD cs (key + 0) 0 → b ≡ (eqb c 7 || eqb c 8) → b ≡ true → r ≡ getD ps (key + 2) 0
     → r ≡ name-place (getD (drop key cs) 0 0) ps key
@@ -64,11 +76,11 @@ pub name-none : (cs ps : List ℕ) (key c : ℕ) (a b : Bool) → c ≡ getD cs 
 name-none cs ps key c a b e q t h u = sym (name-later cs ps key c a b e q t h ∙ rw u)
 
 -- A node by its parts.
-pub node-made : (cs ps : List ℕ) (nm : ℕ → Name) (d key c s at n : ℕ) (k : Kind) (b : Bool) → c ≡ getD cs (key + 0) 0 → s ≡ size-of (drop key cs) → k ≡ kind-of c s
-    → b ≡ solid-of (drop key cs) → at ≡ getD ps (key + 0) 0 → n ≡ name-place (getD (drop key cs) 0 0) ps key
-    → record { kind = k; solid = b; depth = d; at = at; name = n } ≡ node-of ps (head nm d key (drop key cs))
-unfolding node-of head size-of
-node-made cs ps nm d key c s at n k b e f g h i j = rw (g, f, e, h, i, j, getD-drop key cs 0 0, add-zero key)
+pub node-made : (cs ps : List ℕ) (nm : ℕ → Name) (d key c s at n : ℕ) (k : Kind) (b w : Bool) → c ≡ getD cs (key + 0) 0 → s ≡ size-of (drop key cs) → k ≡ kind-of c s
+    → b ≡ solid-of (drop key cs) → w ≡ strong-flow (drop key cs) → at ≡ getD ps (key + 0) 0 → n ≡ name-place (getD (drop key cs) 0 0) ps key
+    → record { kind = k; solid = b; strong = w; depth = d; at = at; name = n } ≡ node-of ps (head nm d key (drop key cs))
+unfolding node-of head size-of strong-flow
+node-made cs ps nm d key c s at n k b w e f g h v i j = rw (g, f, e, h, v, i, j, getD-drop key cs 0 0, add-zero key)
 
 -- A token's place, and the text's length past the last.
 pub same-inside : (ps : List ℕ) (k none : ℕ) → k < length ps → getD ps k 0 ≡ getD ps k none

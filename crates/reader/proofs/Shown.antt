@@ -6,7 +6,7 @@ use mathlib.Core.List.{List, [], _∷_, map, reverse}
 use Prim.Native.Nat.{ℕ, suc, _+_, _*_, _-_, _≤_}
 use native.Mathlib.Omega.{arith}
 use lib.Dec.{eqb}
-use lib.ListN.{length, getD, replicate, length-map}
+use lib.ListN.{length, getD, drop, replicate, length-map}
 use lib.Seq.{take-at}
 use borrow.Author.Tests.{eqb-true, eqb-false}
 use Rattle.diagram.specs.Tree.{Name, Way, all, some, one, Flow, flow, Children, none, next, Child, plain, loop, group, replicator, Member, leaf, inner, Members, end, also}
@@ -21,7 +21,7 @@ use Rattle.grammar.specs.Tokens.{child-tokens, member-tokens}
 use Rattle.grammar.specs.Limits.{keyed, count-of, nodes-in}
 use Rattle.grammar.specs.Derives.{Derives}
 use Rattle.grammar.proofs.LimitedTrees.{nodes-counted}
-use Rattle.rules.specs.Heads.{Head, flowing, leafy, copying, solid-of, head, heads, name-in, opened}
+use Rattle.rules.specs.Heads.{Head, flowing, leafy, copying, solid-of, strong-of, head, heads, name-in, opened}
 use Rattle.rules.proofs.Trees.{simple, group-code, replicator-code, flow-heads, children-heads, child-heads, member-heads, members-heads}
 use Rattle.reader.specs.Nodes.{kind-of, name-place, node-of, stored}
 use Rattle.reader.specs.Answers.{read-of}
@@ -60,7 +60,7 @@ kind-named c s =
     rw (a, b, d, e, f, g, h, i, no-keyword s c (eqb-false c 12 g) (eqb-false c 13 h) (eqb-false c 14 i))))))))))
 
 head-view : Head → View
-head-view h = shown (kind-of (h .code) (h .size)) (h .solid) (h .depth) (h .name)
+head-view h = shown (kind-of (h .code) (h .size)) (h .solid) (h .strong) (h .depth) (h .name)
 
 -- A node is told by its place as its tokens have it.
 name-shown : (text ps : List ℕ) (c s k : ℕ) (b : Bool) → titled c ≡ b → has-name (kind-of c s) ≡ b
@@ -73,7 +73,7 @@ unfolding view node-of name-place head head-view
 head-shown text ps d k cs =
     let c = getD cs 0 0 in
     let s = cond (copying c) (getD cs 4 0 - 16) 0 in
-    ap (shown (kind-of c s) (solid-of cs) d) (name-shown text ps c s k (titled c) refl (kind-named c s))
+    ap (shown (kind-of c s) (solid-of cs) (cond (flowing c) (strong-of (drop 3 cs)) false) d) (name-shown text ps c s k (titled c) refl (kind-named c s))
 
 heads-shown : (text ps : List ℕ) (p k : ℕ) (cs : List ℕ)
     → map (view text) (map (node-of ps) (heads (name-in text ps) p k cs)) ≡ map head-view (heads (name-in text ps) p k cs)
@@ -92,7 +92,7 @@ record Same (hs : List Head) (vs : List View) : Type 0 where
 before : {hs : List Head} {vs : List View} (h : Head) (v : View) → head-view h ≡ v → Same hs vs → Same (h ∷ hs) (v ∷ vs)
 before h v p q = record { law = rw (p, q .law) }
 
-group-shown : (y : Way) (b : Bool) (d k : ℕ) → head-view (simple k d (group-code y) [] b) ≡ shown (group-kind y) b d []
+group-shown : (y : Way) (b : Bool) (d k : ℕ) → head-view (simple k d (group-code y) [] b) ≡ shown (group-kind y) b false d []
 unfolding head-view kind-of
 group-shown all b d k = refl
 group-shown some b d k = refl
@@ -100,7 +100,7 @@ group-shown one b d k = refl
 
 replicator-shown : (y : Way) (b : Bool) (d k : ℕ) (par : Name) (size : ℕ)
     → head-view (record { key = k; depth = d; code = replicator-code y; name = par; size = size; pars = []; strong = false; solid = b })
-    ≡ shown (replicator-kind y size) b d par
+    ≡ shown (replicator-kind y size) b false d par
 unfolding head-view kind-of
 replicator-shown all b d k par size = refl
 replicator-shown some b d k par size = refl
@@ -111,7 +111,7 @@ mutual
 
   flow-shown : (f : Flow) (b : Bool) (d k : ℕ) {hs : List Head} {vs : List View} → Same hs vs → Same (flow-heads f b d k hs) (flow-views f b d vs)
   flow-shown (flow n ps sw c r cs) b d k h =
-      before (record { key = k; depth = d; code = 7; name = n; size = 0; pars = reverse ps; strong = sw; solid = b }) (shown FlowKind b d n) refl
+      before (record { key = k; depth = d; code = 7; name = n; size = 0; pars = reverse ps; strong = sw; solid = b }) (shown FlowKind b sw d n) refl
       (child-shown c r (suc d) (k + (7 + 2 * length ps)) (children-shown cs (suc d) (k + (7 + 2 * length ps) + (length (child-tokens c []) + 3)) h))
 
   children-shown : (cs : Children) (d k : ℕ) {hs : List Head} {vs : List View} → Same hs vs → Same (children-heads cs d k hs) (children-views cs d vs)
@@ -120,18 +120,18 @@ mutual
 
   child-shown : (c : Child) (b : Bool) (d k : ℕ) {hs : List Head} {vs : List View} → Same hs vs → Same (child-heads c b d k hs) (child-views c b d vs)
   child-shown (plain m) b d k h = member-shown m b d k h
-  child-shown (loop m) b d k h = before (simple k d 15 [] b) (shown Loop b d []) refl (member-shown m false (suc d) (k + 2) h)
+  child-shown (loop m) b d k h = before (simple k d 15 [] b) (shown Loop b false d []) refl (member-shown m false (suc d) (k + 2) h)
   child-shown (group y m e ms) b d k h =
-      before (simple k d (group-code y) [] b) (shown (group-kind y) b d []) (group-shown y b d k)
+      before (simple k d (group-code y) [] b) (shown (group-kind y) b false d []) (group-shown y b d k)
       (member-shown m false (suc d) (k + 2)
       (member-shown e false (suc d) (k + 2 + length (member-tokens m []))
       (members-shown ms (suc d) (k + 2 + length (member-tokens m []) + length (member-tokens e [])) h)))
   child-shown (replicator y par size m) b d k h =
       before (record { key = k; depth = d; code = replicator-code y; name = par; size = size; pars = []; strong = false; solid = b })
-      (shown (replicator-kind y size) b d par) (replicator-shown y b d k par size) (member-shown m false (suc d) (k + 7) h)
+      (shown (replicator-kind y size) b false d par) (replicator-shown y b d k par size) (member-shown m false (suc d) (k + 7) h)
 
   member-shown : (m : Member) (b : Bool) (d k : ℕ) {hs : List Head} {vs : List View} → Same hs vs → Same (member-heads m b d k hs) (member-views m b d vs)
-  member-shown (leaf n) b d k h = before (simple k d 8 n b) (shown Leaf b d n) refl h
+  member-shown (leaf n) b d k h = before (simple k d 8 n b) (shown Leaf b false d n) refl h
   member-shown (inner f) b d k h = flow-shown f b d k h
 
   members-shown : (ms : Members) (d k : ℕ) {hs : List Head} {vs : List View} → Same hs vs → Same (members-heads ms d k hs) (members-views ms d vs)

@@ -13,15 +13,17 @@ use Rattle.diagram.specs.declared.Node.{Node}
 use Rattle.diagram.specs.declared.Diagram.{Diagram}
 use Rattle.lexer.specs.Words.{word-at}
 
--- A node's kind, with its size where it has one; its solid mark; its depth; and the name of a leaf or flow or the par of a replicator.
+-- A node's kind, with its size where it has one; its solid mark; whether a flow's sw is 1, false for any other node; its depth; and the name of a
+-- leaf or flow or the par of a replicator.
 pub record View : Type 0 where
   pub kind : Kind
   pub solid : Bool
+  pub strong : Bool
   pub depth : ℕ
   pub name : Name
 
-abbrev pub shown : Kind → Bool → ℕ → Name → View
-shown k b d n = record { kind = k; solid = b; depth = d; name = n }
+abbrev pub shown : Kind → Bool → Bool → ℕ → Name → View
+shown k b sw d n = record { kind = k; solid = b; strong = sw; depth = d; name = n }
 
 abbrev pub has-name : Kind → Bool
 has-name FlowNode = true
@@ -35,7 +37,7 @@ has-name (One size) = true
 has-name Loop = false
 
 unfoldable pub view : List ℕ → Node → View
-view text n = shown (n .kind) (n .solid) (n .depth) (cond (has-name (n .kind)) (word-at text (n .name)) [])
+view text n = shown (n .kind) (n .solid) (n .strong) (n .depth) (cond (has-name (n .kind)) (word-at text (n .name)) [])
 
 -- The nodes that count.
 unfoldable pub views : List ℕ → Diagram → List View
@@ -54,7 +56,7 @@ replicator-kind one size = One size
 -- The nodes of a tree, of which the first is at depth d and is a solid child or not, and then those given.
 unfoldable mutual
   pub flow-views : Flow → Bool → ℕ → List View → List View
-  flow-views (flow n ps sw c r cs) b d vs = shown FlowNode b d n ∷ child-views c r (suc d) (children-views cs (suc d) vs)
+  flow-views (flow n ps sw c r cs) b d vs = shown FlowNode b sw d n ∷ child-views c r (suc d) (children-views cs (suc d) vs)
 
   pub children-views : Children → ℕ → List View → List View
   children-views none d vs = vs
@@ -62,13 +64,13 @@ unfoldable mutual
 
   pub child-views : Child → Bool → ℕ → List View → List View
   child-views (plain m) b d vs = member-views m b d vs
-  child-views (loop m) b d vs = shown Loop b d [] ∷ member-views m false (suc d) vs
+  child-views (loop m) b d vs = shown Loop b false d [] ∷ member-views m false (suc d) vs
   child-views (group y m e ms) b d vs =
-      shown (group-kind y) b d [] ∷ member-views m false (suc d) (member-views e false (suc d) (members-views ms (suc d) vs))
-  child-views (replicator y par size m) b d vs = shown (replicator-kind y size) b d par ∷ member-views m false (suc d) vs
+      shown (group-kind y) b false d [] ∷ member-views m false (suc d) (member-views e false (suc d) (members-views ms (suc d) vs))
+  child-views (replicator y par size m) b d vs = shown (replicator-kind y size) b false d par ∷ member-views m false (suc d) vs
 
   pub member-views : Member → Bool → ℕ → List View → List View
-  member-views (leaf n) b d vs = shown Leaf b d n ∷ vs
+  member-views (leaf n) b d vs = shown Leaf b false d n ∷ vs
   member-views (inner f) b d vs = flow-views f b d vs
 
   pub members-views : Members → ℕ → List View → List View

@@ -5,7 +5,7 @@ ghost use Rattle.diagram.specs.Tree.{Name};
 ghost use Rattle.rules.specs.Heads.{head, heads, by-columns, name-in};
 ghost use Rattle.grammar.specs.Machine.{outcome};
 ghost use Rattle.rules.specs.Judged.{verdict};
-ghost use Rattle.reader.specs.Nodes.{kind-of, size-of, name-place, node-of, stored};
+ghost use Rattle.reader.specs.Nodes.{kind-of, size-of, strong-flow, name-place, node-of, stored};
 ghost use Rattle.reader.specs.Answers.{away, scan-answer, parse-answer, verdict-answer, place-of, judged as judged-of, parsed, read-of};
 use diagram::Diagram;
 use diagram::Kind;
@@ -67,10 +67,10 @@ fn place(text: &[u8], starts: &[u16], k: usize) -> usize
 fn parse_answer(text: &[u8], starts: &[u16], s: Step) -> Answer
     ensures { λ r. ⌜ r ≡ parse-answer (now (text .entry)) (now (starts .entry)) s ⌝ }
 {
-    let Step::Stop(number, k) = s else {
-        return Answer::Done;
-    };
-    Answer::Refused(number, place(text, starts, k))
+    match s {
+        Step::Go(_, _) => Answer::Done,
+        Step::Stop(number, k) => Answer::Refused(number, place(text, starts, k)),
+    }
 }
 
 // The kind for a keyword's number and a size.
@@ -125,6 +125,16 @@ fn size(codes: &[u8], key: usize) -> u8
     0
 }
 
+// Whether a flow's sw is 1; false for any other node.
+fn strong(codes: &[u8], key: usize) -> bool
+    ensures { λ r. ⌜ r ≡ strong-flow (drop key (now (codes .entry))) ⌝ }
+{
+    if rules::token(codes, key, 0) == 7 {
+        return rules::strong(codes, key);
+    }
+    false
+}
+
 // The place of a node's name or par; 0 for a node that has none.
 fn name(codes: &[u8], starts: &[u16], key: usize) -> usize
     ensures { λ r. ⌜ r ≡ name-place (getD (drop key (now (codes .entry))) 0 0) (now (starts .entry)) key ⌝ }
@@ -147,11 +157,13 @@ fn node(codes: &[u8], starts: &[u16], key: usize, depth: usize) -> Node
     let s = size(codes, key);
     let kind = kind(c, s);
     let solid = rules::solid(codes, key);
+    let strong = strong(codes, key);
     let at = rules::place(starts, key, 0);
     let name = name(codes, starts, key);
     Node {
         kind,
         solid,
+        strong,
         depth,
         at,
         name,

@@ -199,7 +199,7 @@ fn pars(codes: &[u8], k: usize) -> usize
 }
 
 // Whether the flow whose keyword is the token k has sw 1.
-fn strong(codes: &[u8], k: usize) -> bool
+pub fn strong(codes: &[u8], k: usize) -> bool
     ensures { λ r. ⌜ r ≡ strong-of (drop 3 (drop k (now (codes .entry)))) ⌝ }
 {
     let m = pars(codes, k);

@@ -7,6 +7,7 @@ use Rattle.reader.proofs.node.Lts as lts
 use Rattle.reader.proofs.kind.Reads as kind-reads
 use Rattle.reader.proofs.name.Reads as name-reads
 use Rattle.reader.proofs.size.Reads as size-reads
+use Rattle.reader.proofs.strong.Reads as strong-reads
 use Rattle.rules.proofs.place.Reads as place-reads
 use Rattle.rules.proofs.solid.Reads as solid-reads
 use Rattle.rules.proofs.token.Reads as token-reads
@@ -23,6 +24,9 @@ kind-requires c κs = search needs
 solid-requires : tie.Need-solid-requires
 solid-requires c κs = search needs
 
+strong-requires : tie.Need-strong-requires
+strong-requires c κs = search needs
+
 place-requires : tie.Need-place-requires
 place-requires c κs = search needs
 
@@ -31,10 +35,11 @@ name-requires c κs = search needs
 
 returns : tie.Need-returns
 returns c =
-    let a = c .before .before .before .before .before .before .before .before .args in
+    let a = c .before .before .before .before .before .before .before .before .before .args in
     λ nm.
-    node-made (a .codes .now) (a .starts .now) nm (a .depth) (a .key) _ _ _ _ _ _ (c .before .before .before .before .before .token .ensures)
-    (c .before .before .before .before .size .ensures) (c .before .before .before .kind .ensures) (c .before .before .solid .ensures) (c .before .place .ensures)
+    node-made (a .codes .now) (a .starts .now) nm (a .depth) (a .key) _ _ _ _ _ _ _ (c .before .before .before .before .before .before .token .ensures)
+    (c .before .before .before .before .before .size .ensures) (c .before .before .before .before .kind .ensures) (c .before .before .before .solid .ensures)
+    (c .before .before .strong .ensures) (c .before .place .ensures)
     (c .name .ensures)
 
 pub node-spec : {M : Type 1} → statement M
@@ -45,6 +50,7 @@ node-spec =
     size-requires
     kind-requires
     solid-requires
+    strong-requires
     place-requires
     name-requires
     returns)

@@ -7,22 +7,22 @@ use Rattle.reader.proofs.parse_answer.Reads as reads
 use Rattle.reader.proofs.parse_answer.Lts as lts
 use Rattle.reader.proofs.place.Reads as place-reads
 
+enum-told : tie.Need-enum-told
+enum-told c = search needs
+
 enum-known-s : tie.Need-enum-known-s
 enum-known-s c = search needs
 
-enum-told : tie.Need-enum-told
-enum-told c = search needs
+place-requires : tie.Need-place-requires
+place-requires c κs = search needs
 
 returns : tie.Need-returns
 returns c =
     let a = c .before .before .before .before .args in
     ap (parse-answer (a .text .now) (a .starts .now)) (sym (c .enum-told .given .1))
 
-place-requires : tie.Need-place-requires
-place-requires c κs = search needs
-
 returns-2 : tie.Need-returns-2
 returns-2 c = rw (c .before .before .s .given .1, c .place .ensures)
 
 pub parse-answer-spec : {M : Type 1} → statement M
-parse-answer-spec = tie.close (tie.spec enum-known-s enum-told returns place-requires returns-2)
+parse-answer-spec = tie.close (tie.spec enum-told enum-known-s place-requires returns returns-2)

@@ -1,0 +1,27 @@
+use Rattle.reader.proofs.Laws.{strong-some, strong-none}
+use borrow.Author.Needs.{needs}
+use Rattle.reader.proofs.strong.Statement.{statement}
+use Rattle.reader.proofs.strong.Tie as tie
+use Rattle.reader.proofs.strong.Reads as reads
+use Rattle.reader.proofs.strong.Lts as lts
+use Rattle.rules.proofs.strong.Reads as strong-reads
+use Rattle.rules.proofs.token.Reads as token-reads
+
+token-requires : tie.Need-token-requires
+token-requires c κs = search needs
+
+strong-requires : tie.Need-strong-requires
+strong-requires c κs = search needs
+
+returns : tie.Need-returns
+returns c =
+    let a = c .before .before .before .before .args in
+    strong-some (a .codes .now) (a .key) _ _ (c .before .before .token .ensures) (c .before .if1 .taken) (c .strong .ensures)
+
+returns-2 : tie.Need-returns-2
+returns-2 c =
+    let a = c .before .before .before .args in
+    strong-none (a .codes .now) (a .key) _ (c .before .token .ensures) (c .if1 .left)
+
+pub strong-spec : {M : Type 1} → statement M
+strong-spec = tie.close (tie.spec token-requires strong-requires returns returns-2)
