@@ -7,6 +7,7 @@ use Prim.Native.Nat.{ℕ, suc}
 use lib.ListN.{take}
 use Rattle.diagram.specs.Tree.{Name, Way, all, some, one, Flow, flow, Children, none, next, Child, plain, loop, group, replicator, Member, leaf, inner, Members, end, also}
 use Rattle.diagram.specs.Count.{flow-nodes, flow-copies, flow-events}
+use Rattle.diagram.specs.Parameters.{flow-parameters}
 use Rattle.diagram.specs.declared.Kind.{Kind}
 use Rattle.diagram.specs.declared.Kind.the-variants.{Flow as FlowNode, Leaf, And, Or, Xor, All, Some, One, Loop}
 use Rattle.diagram.specs.declared.Node.{Node}
@@ -83,3 +84,9 @@ pub record Shows (text : List ℕ) (d : Flow) (g : Diagram) : Type 0 where
   pub count : g .count ≡ flow-nodes d
   pub copies : g .copies ≡ flow-copies d
   pub events : g .events ≡ flow-events d
+
+-- "its diagram is the one derived": the diagram shows this tree, and no other tree that keeps the parameter rules. The pars of a flow need no place in a
+-- node: "A flow lists exactly the pars of the replicators around it, outermost first."
+pub record Shows-only (text : List ℕ) (d : Flow) (g : Diagram) : Type 0 where
+  pub this : Shows text d g
+  pub no-other : (e : Flow) → flow-parameters e [] ≡ true → Shows text e g → e ≡ d
