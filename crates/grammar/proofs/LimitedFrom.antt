@@ -2,14 +2,17 @@
 use mathlib.Core.Path.{_≡_, refl, sym, _∙_, ap, ap₂}
 use mathlib.Core.Logic.{_↔_}
 use mathlib.Core.Bool.{Bool, true, false, _&&_, _||_, cond}
-use mathlib.Core.List.{List, [], _∷_}
-use Prim.Native.Nat.{ℕ, zero, suc, _+_, _-_, _≤_}
+use mathlib.Core.List.{List, [], _∷_, _++_, map}
+use Prim.Native.Nat.{ℕ, zero, suc, _+_, _-_, _≤_, _<_}
 use native.Mathlib.Nat.{add-zero, zero-add, sub-zero}
 use native.Mathlib.Omega.{arith}
 use lib.Dec.{eqb, leb}
-use lib.ListN.{getD, take}
+use lib.ListN.{length, getD, take, length-take}
+use lib.Seq.{getD-take, take-append-le, take-take}
 use borrow.Author.Tests.{ne-eqb, leb-true}
+use Rattle.diagram.specs.Tree.{Name}
 use Rattle.base.proofs.Truth.{is-false, and-l, and-r}
+use Rattle.lexer.specs.Words.{code}
 use Rattle.grammar.specs.Limits.{keyed, count-of, nodes-in, over-limit}
 
 -- What a token adds to the nodes, to the opened and to the closed parentheses.
@@ -21,6 +24,11 @@ opens c = cond (eqb c 1) 1 0
 
 abbrev pub closes : ℕ → ℕ
 closes c = cond (eqb c 2) 1 0
+
+-- These tokens close no parenthesis that is not open, where p are open before them.
+abbrev pub Balanced : ℕ → List ℕ → Type 0
+Balanced p [] = Unit {0}
+Balanced p (c ∷ cs) = (r : ℕ) × (r + closes c ≡ p + opens c) × Balanced r cs
 
 -- Signs of another number, keywords and numerals are no parentheses, and numerals no keywords.
 pub flat : (c p : ℕ) → 3 ≤ c → p + closes c ≡ p + opens c
@@ -117,3 +125,21 @@ module _ (n p r c : ℕ) (cs : List ℕ) (e : r + closes c ≡ p + opens c) wher
 
   pub safe-cons : Safe n p (c ∷ cs) ↔ ((big-at c n p ≡ false) × Safe (n + keys c) r cs)
   safe-cons = (λ s. (sym (big-here n p c cs) ∙ s 0, λ k. sym (big-later n p r c cs k e) ∙ s (suc k)), λ h. safe-made (h .0) (h .1))
+
+-- Only the tokens up to it count: those that follow its beginning may be others.
+take-map : (t : ℕ) (ts : List Name) → take t (map code ts) ≡ map code (take t ts)
+take-map zero ts = refl
+take-map (suc t) [] = refl
+take-map (suc t) (x ∷ ts) = ap (λ (l : List ℕ). code x ∷ l) (take-map t ts)
+
+starts-alike : (cs ds : List ℕ) (t j : ℕ) → take t cs ≡ take t ds → j < t → over-limit cs j ≡ over-limit ds j
+unfolding over-limit
+starts-alike cs ds t j e l =
+    let g : getD cs j 0 ≡ getD ds j 0 = sym (getD-take t cs j 0 l) ∙ (ap (λ (l : List ℕ). getD l j 0) e ∙ getD-take t ds j 0 l) in
+    let h : take j cs ≡ take j ds = sym (take-take j t cs (omega arith)) ∙ (ap (take j) e ∙ take-take j t ds (omega arith)) in
+    rw (g, h)
+
+pub over-limit-begun : (ts rest : List Name) (t j : ℕ) → t ≤ length ts → j < t → over-limit (map code ts) j ≡ over-limit (map code (take t ts ++ rest)) j
+over-limit-begun ts rest t j h l =
+    let e : take t (take t ts ++ rest) ≡ take t ts = take-append-le t (take t ts) rest (simp length-take (omega arith)) ∙ take-take t t ts (omega arith) in
+    starts-alike (map code ts) (map code (take t ts ++ rest)) t j (take-map t ts ∙ (ap (map code) (sym e) ∙ sym (take-map t (take t ts ++ rest)))) l

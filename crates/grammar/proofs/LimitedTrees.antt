@@ -1,4 +1,5 @@
--- A diagram has as many nodes as its tokens have keywords, and it is too big exactly if one of them is too many or too deep.
+-- A diagram has as many nodes as its tokens have keywords, and it is too big exactly if one of them is too many or too deep. Its tokens close
+-- no parenthesis that is not open.
 use mathlib.Core.Path.{_≡_, refl, sym, _∙_}
 use mathlib.Core.Logic.{_↔_, Iff·trans}
 use mathlib.Core.Bool.{Bool, true, false, _&&_, _||_}
@@ -19,7 +20,7 @@ use Rattle.grammar.specs.Tokens.{opening, closing, comma, colon, key, gr
 use Rattle.grammar.specs.Named.{all-named, flow-named, children-named, child-named, member-named, members-named}
 use Rattle.grammar.specs.Limits.{keyed, count-of, nodes-in, over-limit}
 use Rattle.grammar.specs.Derives.{Grammatical}
-use Rattle.grammar.proofs.LimitedFrom.{keys, opens, closes, flat, keyed-at-least, numeral-unkeyed, big-at, big-nil, over-limit-in, nodes-cons, Safe, safe-cons}
+use Rattle.grammar.proofs.LimitedFrom.{keys, opens, closes, flat, keyed-at-least, numeral-unkeyed, big-at, big-nil, over-limit-in, nodes-cons, Safe, safe-cons, Balanced}
 use Rattle.grammar.proofs.Codes.{to-range, Coded, coded-opening, coded-closing, coded-comma, coded-colon, coded-key, coded-digits, bit-value, coded-bit, coded-name}
 
 -- A token that is neither a keyword nor a parenthesis.
@@ -63,11 +64,13 @@ Room n p m d = (n + m ≤ max n 256) × (p + d ≤ max p 12)
 record Part (p : ℕ) (f : List Name → List Name) (m d : ℕ) : Type 0 where
   counted : (ts : List Name) → nodes-in (map code (f ts)) ≡ m + nodes-in (map code ts)
   fits : (n : ℕ) (ts : List Name) → Safe n p (map code (f ts)) ↔ (Room n p m d × Safe (n + m) p (map code ts))
+  level : (ts : List Name) → Balanced p (map code ts) → Balanced p (map code (f ts))
 
 part-none : (p : ℕ) → Part p (λ ts. ts) 0 0
 part-none p = record {
   counted = λ ts. sym (zero-add (nodes-in (map code ts)));
   fits = λ n ts. (λ s. (omega arith, rw (add-zero n) s), λ h. rw (add-zero n) at (h .1));
+  level = λ ts b. b;
 }
 
 part-seq : {p : ℕ} {f g : List Name → List Name} {m d m′ d′ : ℕ} → Part p f m d → Part p g m′ d′ → Part p (λ ts. f (g ts)) (m + m′) (max d d′)
@@ -77,6 +80,7 @@ part-seq {p} {f} {g} {m} {d} {m′} {d′} x y = record {
     λ s. let a = x .fits n (g ts) .0 s in let b = y .fits (n + m) ts .0 (a .1) in (omega arith, rw (add-assoc n m m′) at (b .1)),
     λ h. x .fits n (g ts) .1 (omega arith, y .fits (n + m) ts .1 (omega arith, rw (add-assoc n m m′) (h .1))),
   );
+  level = λ ts b. x .level (g ts) (y .level ts b);
 }
 
 -- A token that begins no node.
@@ -133,12 +137,23 @@ open-nodes cs = rw (coded-opening .number) (unkeyed-nodes 1 cs refl)
 close-nodes : (cs : List ℕ) → nodes-in (code closing ∷ cs) ≡ nodes-in cs
 close-nodes cs = rw (coded-closing .number) (unkeyed-nodes 2 cs refl)
 
+-- The parentheses open after each token.
+flat-level : (c p : ℕ) (cs : List ℕ) → 3 ≤ c → Balanced p cs → Balanced p (c ∷ cs)
+flat-level c p cs h b = (p, flat c p h, b)
+
+open-level : (p : ℕ) (cs : List ℕ) → Balanced (suc p) cs → Balanced p (code opening ∷ cs)
+open-level p cs b = (suc p, rw (coded-opening .number) (omega arith), b)
+
+close-level : (p : ℕ) (cs : List ℕ) → Balanced p cs → Balanced (suc p) (code closing ∷ cs)
+close-level p cs b = (p, rw (coded-closing .number) (omega arith), b)
+
 -- Tokens around a part.
 module _ {p : ℕ} {f : List Name → List Name} {m d : ℕ} where
   part-skip : (t : Name) → Quiet t → Part p f m d → Part p (λ ts. t ∷ f ts) m d
   part-skip t h x = record {
     counted = λ ts. quiet-nodes t h (map code (f ts)) ∙ x .counted ts;
     fits = λ n ts. Iff·trans (quiet-safe t h n p (map code (f ts))) (x .fits n ts);
+    level = λ ts b. flat-level (code t) p (map code (f ts)) (h .1) (x .level ts b);
   }
 
   part-ref : (r : Bool) → Part p f m d → Part p (λ ts. ref-tokens r (f ts)) m d
@@ -151,12 +166,16 @@ module _ {p : ℕ} {f : List Name → List Name} {m d : ℕ} where
         let a = open-safe n p (code (bit r) ∷ code closing ∷ map code (f ts)) in
         let b = quiet-safe (bit r) (quiet-bit r) n (suc p) (code closing ∷ map code (f ts)) in
         Iff·trans a (Iff·trans b (Iff·trans (close-safe n p (map code (f ts))) (x .fits n ts)));
+    level = λ ts b.
+        open-level p (code (bit r) ∷ code closing ∷ map code (f ts))
+        (flat-level (code (bit r)) (suc p) (code closing ∷ map code (f ts)) (quiet-bit r .1) (close-level p (map code (f ts)) (x .level ts b)));
   }
 
   part-turn : Part (suc p) f m d → Part (suc p) (λ ts. closing ∷ opening ∷ f ts) m d
   part-turn x = record {
     counted = λ ts. close-nodes (code opening ∷ map code (f ts)) ∙ (open-nodes (map code (f ts)) ∙ x .counted ts);
     fits = λ n ts. Iff·trans (close-safe n p (code opening ∷ map code (f ts))) (Iff·trans (open-safe n p (map code (f ts))) (x .fits n ts));
+    level = λ ts b. close-level p (code opening ∷ map code (f ts)) (open-level p (map code (f ts)) (x .level ts b));
   }
 
   part-node : (t : Name) → keyed (code t) ≡ true → Part (suc p) f m d → Part p (λ ts. t ∷ opening ∷ f (closing ∷ ts)) (1 + m) (1 + d)
@@ -176,6 +195,10 @@ module _ {p : ℕ} {f : List Name → List Name} {m d : ℕ} where
           λ s. let g = a .0 s in let h = c .0 (b .0 (g .1)) in (omega arith, rw z at (e .0 (h .1))),
           λ s. a .1 (omega arith, b .1 (c .1 (omega arith, e .1 (rw z (s .1))))),
         );
+    level = λ ts b.
+        let l = keyed-at-least (code t) k in
+        flat-level (code t) p (code opening ∷ map code (f (closing ∷ ts))) (omega arith)
+        (open-level p (map code (f (closing ∷ ts))) (x .level (closing ∷ ts) (close-level p (map code ts) b)));
   }
 
 part-pars : (ps : List Name) → all-named ps ≡ true → {p : ℕ} {f : List Name → List Name} {m d : ℕ} → Part p f m d → Part p (λ ts. pars-tokens ps (f ts)) m d
@@ -238,6 +261,9 @@ mutual
 module _ (d : Flow) (g : Grammatical d) where
   whole-part : Part 0 (flow-tokens d) (flow-nodes d) (flow-depth d)
   whole-part = flow-part d (g .names) (g .sizes) 0
+
+  pub tree-level : Balanced 0 (map code (flow-tokens d []))
+  tree-level = whole-part .level [] tt
 
   pub nodes-counted : nodes-in (map code (flow-tokens d [])) ≡ flow-nodes d
   unfolding count-of
