@@ -2,12 +2,12 @@
 use mathlib.Core.Path.{_≡_, refl, sym, _∙_, ap, subst}
 use mathlib.Core.Logic.{_⊎_, inl, inr, ⊎-elim, _↔_}
 use mathlib.Core.Bool.{Bool, true, false, true≢false}
-use mathlib.Core.List.{List, [], map}
+use mathlib.Core.List.{List, [], _++_, map}
 use Prim.Native.Nat.{ℕ, suc, _+_, _≤_, _<_}
 use native.Mathlib.Nat.{add-zero}
 use native.Mathlib.Omega.{arith}
 use lib.Dec.{ltb}
-use lib.ListN.{length, getD}
+use lib.ListN.{length, getD, take}
 use borrow.Author.Tests.{ltb-true, ltb-false}
 use Rattle.diagram.specs.Tree.{Name, Flow}
 use Rattle.diagram.specs.Count.{flow-copies, flow-events}
@@ -22,15 +22,18 @@ use Rattle.lexer.specs.declared.Scan.{Scan}
 use Rattle.lexer.specs.declared.Scan.the-variants.{Tokens, Refused as Unscanned}
 use Rattle.grammar.specs.Machine.{stop, outcome}
 use Rattle.grammar.specs.Limits.{over-limit}
-use Rattle.grammar.specs.Derives.{all-tokens}
+use Rattle.grammar.specs.Derives.{Derives, all-tokens}
 use Rattle.grammar.proofs.Lexed.{text-tokens}
 use Rattle.grammar.proofs.Grammar.{Answered, read, strayed, outgrown, answered, off-viable, off-token, off-end, off-only, big-viable, shorter, derived-once}
+use Rattle.grammar.proofs.LimitedFrom.{over-limit-begun}
 use Rattle.grammar.proofs.Limited.{big-over-limit, off-none-big, whole-none-big}
+use Rattle.rules.specs.Sites.{flow-sites, too-big}
 use Rattle.rules.specs.declared.Found.{Found}
 use Rattle.rules.specs.declared.Found.the-variants.{At, Nothing}
 use Rattle.rules.specs.declared.Verdict.{Verdict}
 use Rattle.rules.specs.declared.Verdict.the-variants.{Kept, Refused as Unkept}
 use Rattle.rules.proofs.Trees.{flow-heads}
+use Rattle.rules.proofs.LimitsPlaced.{limits-placed}
 use Rattle.rules.proofs.NamesKept.{names-kept-iff}
 use Rattle.rules.proofs.ParametersKept.{parameters-kept-iff}
 use Rattle.rules.proofs.SolidsKept.{solids-kept-iff}
@@ -77,11 +80,20 @@ scanned-as text s e = ap (scanned text (codes text) (places text)) e
 stopped : (text : List ℕ) (c k : ℕ) → Clean text → outcome (codes text) ≡ stop c k → read-of text ≡ refused c (place-of text (places text) k)
 stopped text c k h e = scanned-as text (Tokens (length (spans-of text))) (clean-scan text h) ∙ rw e
 
+-- Number 6 by the tokens and on a tree that derives the tokens before t with some rest.
+limits-alike : (ts rest : List Name) (d : Flow) (t j : ℕ) → Derives (take t ts ++ rest) d → t ≤ length ts → j < t
+    → over-limit (map code ts) j ≡ too-big 0 (flow-sites d [] 1 0 []) j
+limits-alike ts rest d t j g h l =
+    over-limit-begun ts rest t j h l ∙ (ap (λ (us : List Name). over-limit (map code us) j) (g .told) ∙ limits-placed d (g .proper) j)
+
 off-stops : (text : List ℕ) (at : ℕ) (o : Off text at) → outcome (codes text) ≡ stop 5 (o .token)
 unfolding codes
 off-stops text at o =
-    ⊎-elim (λ r. absurd (true≢false (sym (big-over-limit (map code (tokens text)) (r .0) (r .1) .1) ∙ o .small (r .0) (r .2)))) (λ r. r)
-    (off-only (tokens text) (text-tokens text) (o .token) (o .before) (o .here) (o .early) (o .inside))
+    ⊎-elim (λ r. absurd (true≢false (sym (big-over-limit (map code (tokens text)) (r .0) (r .1) .1) ∙ small (r .0) (r .2)))) (λ r. r)
+    (off-only (tokens text) (text-tokens text) (o .token) (o .tree, o .rest, o .before) (o .here) (o .early) (o .inside))
+  where
+    small : (j : ℕ) → j < o .token → over-limit (map code (tokens text)) j ≡ false
+    small j l = limits-alike (tokens text) (o .rest) (o .tree) (o .token) j (o .before) (o .inside) l ∙ o .small j l
 
 big-stops : (text : List ℕ) (at : ℕ) (b : Big text at) → outcome (codes text) ≡ stop 6 (b .token)
 unfolding codes
@@ -96,18 +108,23 @@ big-stops text at b = go (answered ts tk)
     cs : List ℕ
     cs = map code (tokens text)
 
+    alike : (j : ℕ) → j < suc (b .token) → over-limit cs j ≡ too-big 0 (flow-sites (b .tree) [] 1 0 []) j
+    alike j l = limits-alike ts (b .rest) (b .tree) (suc (b .token)) j (b .viable) (b .inside) l
+
     clash : {A : Type 0} → over-limit cs (b .token) ≡ false → A
-    clash q = absurd (true≢false (sym (b .here) ∙ q))
+    clash q = absurd (true≢false (sym (alike (b .token) (omega arith) ∙ b .here) ∙ q))
 
     strays : (k : ℕ) → outcome cs ≡ stop 5 k → (x : Bool) → ltb (b .token) k ≡ x → outcome cs ≡ stop 6 (b .token)
     strays k e true q = clash (off-none-big cs k e (b .token) (ltb-true (b .token) k q))
     strays k e false q =
         let l : k ≤ b .token = ltb-false (b .token) k q in
-        absurd (off-token ts tk k e (omega (arith, b .inside)) (shorter (suc k) (suc (b .token)) ts (omega arith) (b .viable)))
+        absurd (off-token ts tk k e (omega (arith, b .inside)) (shorter (suc k) (suc (b .token)) ts (omega arith) (b .tree, b .rest, b .viable)))
 
     meets : (k : ℕ) → outcome cs ≡ stop 6 k → (x y : Bool) → ltb (b .token) k ≡ x → ltb k (b .token) ≡ y → outcome cs ≡ stop 6 (b .token)
     meets k e true y p q = clash (big-over-limit cs k e .2 (b .token) (ltb-true (b .token) k p))
-    meets k e false true p q = absurd (true≢false (sym (big-over-limit cs k e .1) ∙ b .first k (ltb-true k (b .token) q)))
+    meets k e false true p q =
+        let l = ltb-true k (b .token) q in
+        absurd (true≢false (sym (big-over-limit cs k e .1) ∙ (alike k (omega arith) ∙ b .first k l)))
     meets k e false false p q = let z : k ≡ b .token = omega (arith, ltb-false (b .token) k p, ltb-false k (b .token) q) in e ∙ ap (stop 6) z
 
     go : Answered ts → outcome cs ≡ stop 6 (b .token)
@@ -209,17 +226,33 @@ clean-fate text h = go (answered (tokens text) (text-tokens text))
           clean = h;
           token = k;
           inside = v .0;
-          before = v .1;
+          tree = v .1 .0;
+          rest = v .1 .1;
+          before = v .1 .2;
           here = off-token (tokens text) (text-tokens text) k e;
           early = off-end (tokens text) (text-tokens text) k e;
-          small = off-none-big (map code (tokens text)) k e;
+          small = λ j l.
+              sym (limits-alike (tokens text) (v .1 .1) (v .1 .0) k j (v .1 .2) (v .0) l) ∙ off-none-big (map code (tokens text)) k e j l;
           place = refl;
         })
     go (outgrown k e) =
         let v = big-viable (tokens text) (text-tokens text) k e in
         let b = big-over-limit (map code (tokens text)) k e in
+        let alike : (j : ℕ) → j < suc k → too-big 0 (flow-sites (v .1 .0) [] 1 0 []) j ≡ over-limit (map code (tokens text)) j =
+        λ j l. sym (limits-alike (tokens text) (v .1 .1) (v .1 .0) (suc k) j (v .1 .2) (v .0) l) in
         turned 6 (place-of text (places text) k)
-        (by-limit refl record { clean = h; token = k; inside = v .0; viable = v .1; here = b .1; first = b .2; place = refl })
+        (by-limit refl
+        record {
+          clean = h;
+          token = k;
+          inside = v .0;
+          tree = v .1 .0;
+          rest = v .1 .1;
+          viable = v .1 .2;
+          here = alike k (omega arith) ∙ b .1;
+          first = λ j l. alike j (omega arith) ∙ b .2 j l;
+          place = refl;
+        })
 
 pub fate : (text : List ℕ) → Fate text
 fate text = go (scan-of text) refl

@@ -25,7 +25,7 @@ use Rattle.rules.proofs.Totals.{copies-counted, events-counted}
 
 -- Where each rule is broken first.
 abbrev pub sites : Flow → List Site
-sites d = flow-sites d [] 0 []
+sites d = flow-sites d [] 1 0 []
 
 abbrev pub twice : Flow → Found
 twice d = first-twice [] (sites d)

@@ -2,20 +2,19 @@
 use mathlib.Core.Path.{_≡_}
 use mathlib.Core.Logic.{_⊎_}
 use mathlib.Core.Bool.{true, false}
-use mathlib.Core.List.{List, []}
+use mathlib.Core.List.{List, [], _++_}
 use Prim.Native.Nat.{ℕ, suc, _+_, _≤_, _<_}
 use lib.ListN.{length, getD, take}
-use Rattle.diagram.specs.Tree.{Flow}
+use Rattle.diagram.specs.Tree.{Name, Flow}
 use Rattle.diagram.specs.Count.{flow-nodes, flow-copies, flow-events}
 use Rattle.diagram.specs.Depth.{flow-depth}
 use Rattle.diagram.specs.Names.{flow-names, differ}
 use Rattle.diagram.specs.Parameters.{flow-parameters}
 use Rattle.diagram.specs.Flows.{each-flow, solid, strong}
 use Rattle.lexer.specs.Classes.{foreign}
-use Rattle.lexer.specs.Spans.{tokens, codes, places}
-use Rattle.grammar.specs.Limits.{over-limit}
+use Rattle.lexer.specs.Spans.{tokens, places}
 use Rattle.grammar.specs.Derives.{Derives, Viable}
-use Rattle.rules.specs.Sites.{flow-sites, first-twice, first-broken}
+use Rattle.rules.specs.Sites.{flow-sites, too-big, first-twice, first-broken}
 use Rattle.rules.specs.declared.Found.the-variants.{At}
 use Rattle.reader.specs.Answers.{place-of}
 
@@ -51,26 +50,31 @@ pub record Clean (text : List ℕ) : Type 0 where
   pub usual : Usual text
   pub words : (j : ℕ) → j < length (tokens text) → length (getD (tokens text) j []) ≤ 24
 
--- 5: "no grammatical text starts with the tokens up to here, or the text ends early", at "that token, or text length". No token before it
--- is refused with 6.
+-- 5: "no grammatical text starts with the tokens up to here, or the text ends early", at "that token, or text length". A tree derives the
+-- tokens before it, with some rest, and has no node that is refused with 6 there.
 pub record Off (text : List ℕ) (at : ℕ) : Type 0 where
   pub clean : Clean text
   pub token : ℕ
   pub inside : token ≤ length (tokens text)
-  pub before : Viable (take token (tokens text))
+  pub tree : Flow
+  pub rest : List Name
+  pub before : Derives (take token (tokens text) ++ rest) tree
   pub here : token < length (tokens text) → Viable (take (suc token) (tokens text)) → ⊥
   pub early : token ≡ length (tokens text) → (d : Flow) → Derives (tokens text) d → ⊥
-  pub small : (j : ℕ) → j < token → over-limit (codes text) j ≡ false
+  pub small : (j : ℕ) → j < token → too-big 0 (flow-sites tree [] 1 0 []) j ≡ false
   pub place : at ≡ place-of text (places text) token
 
--- 6: "node 257, or a node at depth 13", at "its keyword". That token and those before it are not off grammar, and it is the first such.
+-- 6: "node 257, or a node at depth 13", at "its keyword": that of a node of a tree which derives the tokens up to here, with some rest. They
+-- are not off grammar, then, and it is the first such token.
 pub record Big (text : List ℕ) (at : ℕ) : Type 0 where
   pub clean : Clean text
   pub token : ℕ
   pub inside : token < length (tokens text)
-  pub viable : Viable (take (suc token) (tokens text))
-  pub here : over-limit (codes text) token ≡ true
-  pub first : (j : ℕ) → j < token → over-limit (codes text) j ≡ false
+  pub tree : Flow
+  pub rest : List Name
+  pub viable : Derives (take (suc token) (tokens text) ++ rest) tree
+  pub here : too-big 0 (flow-sites tree [] 1 0 []) token ≡ true
+  pub first : (j : ℕ) → j < token → too-big 0 (flow-sites tree [] 1 0 []) j ≡ false
   pub place : at ≡ place-of text (places text) token
 
 -- The text is not refused for its tokens: a diagram of at most 256 nodes and 12 depths derives it.
@@ -84,7 +88,7 @@ pub record Derived (text : List ℕ) (d : Flow) : Type 0 where
 pub record Twice (text : List ℕ) (at : ℕ) (d : Flow) : Type 0 where
   pub derived : Derived text d
   pub token : ℕ
-  pub here : first-twice [] (flow-sites d [] 0 []) ≡ At token
+  pub here : first-twice [] (flow-sites d [] 1 0 []) ≡ At token
   pub place : at ≡ getD (places text) (token + 2) 0
 
 -- 8: "a parameter rule broken", at the "keyword of the first such node".
@@ -92,7 +96,7 @@ pub record Misplaced (text : List ℕ) (at : ℕ) (d : Flow) : Type 0 where
   pub derived : Derived text d
   pub names : differ (flow-names d []) ≡ true
   pub token : ℕ
-  pub here : first-broken (λ s. s .parameters) (flow-sites d [] 0 []) ≡ At token
+  pub here : first-broken (λ s. s .parameters) (flow-sites d [] 1 0 []) ≡ At token
   pub place : at ≡ getD (places text) token 0
 
 -- 9: "solid child rule broken", at the "keyword of the first such flow".
@@ -101,7 +105,7 @@ pub record Unsolid (text : List ℕ) (at : ℕ) (d : Flow) : Type 0 where
   pub names : differ (flow-names d []) ≡ true
   pub parameters : flow-parameters d [] ≡ true
   pub token : ℕ
-  pub here : first-broken (λ s. s .solids) (flow-sites d [] 0 []) ≡ At token
+  pub here : first-broken (λ s. s .solids) (flow-sites d [] 1 0 []) ≡ At token
   pub place : at ≡ getD (places text) token 0
 
 -- 10: "sw 0", at the "keyword of the first such flow".
@@ -111,7 +115,7 @@ pub record Weak (text : List ℕ) (at : ℕ) (d : Flow) : Type 0 where
   pub parameters : flow-parameters d [] ≡ true
   pub solids : each-flow d solid ≡ true
   pub token : ℕ
-  pub here : first-broken (λ s. s .strongs) (flow-sites d [] 0 []) ≡ At token
+  pub here : first-broken (λ s. s .strongs) (flow-sites d [] 1 0 []) ≡ At token
   pub place : at ≡ getD (places text) token 0
 
 -- 11: "over 768 node copies or 512 events", at 0.

@@ -8,6 +8,7 @@ pub mod Totals
 pub mod NamesAlong
 pub mod NamesPlaced
 pub mod NamesKept
+pub mod LimitsPlaced
 pub mod SolidsStrongs
 pub mod SolidsPlaced
 pub mod SolidsKept

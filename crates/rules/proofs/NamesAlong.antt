@@ -24,17 +24,18 @@ flow-head (flow n ps sw c r cs) b d k =
 abbrev pub heads-inside : Flow → ℕ → ℕ → List Head → List Head
 heads-inside (flow n ps sw c r cs) d k hs = children-heads (next c r cs) (suc d) (k + (7 + 2 * length ps)) hs
 
-abbrev pub flow-site : Flow → List Name → ℕ → Site
-flow-site (flow n ps sw c r cs) around k =
+abbrev pub flow-site : Flow → List Name → ℕ → ℕ → Site
+flow-site (flow n ps sw c r cs) around d k =
     record {
       key = k;
+      depth = d;
       names = n ∷ [];
       parameters = surrounded around && equal same ps around;
       solids = solid (flow n ps sw c r cs);
       strongs = sw;
     }
 
-pub flow-key : (f : Flow) (b : Bool) (d k : ℕ) (around : List Name) → flow-head f b d k .key ≡ flow-site f around k .key
+pub flow-key : (f : Flow) (b : Bool) (d k : ℕ) (around : List Name) → flow-head f b d k .key ≡ flow-site f around d k .key
 flow-key (flow n ps sw c r cs) b d k around = refl
 
 -- The list is empty or its first node is at depth d at most: what stands after a subtree of depth d.
@@ -93,33 +94,33 @@ replicator-untitled one par size b d k = refl
 -- A law of the heads and the sites from a node on.
 pub record Kinds (P : List Head → List Site → Type 0) : Type 0 where
   pub empty : P [] []
-  pub at-leaf : (n : Name) (b ok : Bool) (d k : ℕ) (hs : List Head) (ss : List Site) → P hs ss → P (simple k d 8 n b ∷ hs) (site k (n ∷ []) ok ∷ ss)
-  pub at-untitled : (h : Head) (ok : Bool) (hs : List Head) (ss : List Site) → titled h ≡ false → P hs ss → P (h ∷ hs) (site (h .key) [] ok ∷ ss)
+  pub at-leaf : (n : Name) (b ok : Bool) (d k : ℕ) (hs : List Head) (ss : List Site) → P hs ss → P (simple k d 8 n b ∷ hs) (site k d (n ∷ []) ok ∷ ss)
+  pub at-untitled : (h : Head) (ok : Bool) (hs : List Head) (ss : List Site) → titled h ≡ false → P hs ss → P (h ∷ hs) (site (h .key) (h .depth) [] ok ∷ ss)
   pub at-flow :
       (f : Flow) (b : Bool) (d k : ℕ) (around : List Name) (hs : List Head) (ss : List Site) →
       shallow d hs ≡ true →
       P (heads-inside f d k hs) ss →
-      P (flow-head f b d k ∷ heads-inside f d k hs) (flow-site f around k ∷ ss)
+      P (flow-head f b d k ∷ heads-inside f d k hs) (flow-site f around d k ∷ ss)
 
 module _ (P : List Head → List Site → Type 0) (K : Kinds P) where
   mutual
     unfolding flow-heads flow-sites
 
     flow-along : (f : Flow) (b : Bool) (d k : ℕ) (around : List Name) (hs : List Head) (ss : List Site) → shallow d hs ≡ true → P hs ss
-        → P (flow-heads f b d k hs) (flow-sites f around k ss)
+        → P (flow-heads f b d k hs) (flow-sites f around d k ss)
     flow-along (flow n ps sw c r cs) b d k around hs ss e p =
         let i = shallow-in d hs e in
         K .at-flow (flow n ps sw c r cs) b d k around hs _ e
         (child-along c r (suc d) _ around _ _ (shallow-children cs (suc d) _ hs i) (children-along cs (suc d) _ around hs ss i p))
 
     children-along : (cs : Children) (d k : ℕ) (around : List Name) (hs : List Head) (ss : List Site) → shallow d hs ≡ true → P hs ss
-        → P (children-heads cs d k hs) (children-sites cs around k ss)
+        → P (children-heads cs d k hs) (children-sites cs around d k ss)
     children-along none d k around hs ss e p = p
     children-along (next c r cs) d k around hs ss e p =
         child-along c r d k around _ _ (shallow-children cs d _ hs e) (children-along cs d _ around hs ss e p)
 
     child-along : (c : Child) (b : Bool) (d k : ℕ) (around : List Name) (hs : List Head) (ss : List Site) → shallow d hs ≡ true → P hs ss
-        → P (child-heads c b d k hs) (child-sites c around k ss)
+        → P (child-heads c b d k hs) (child-sites c around d k ss)
     child-along (plain m) b d k around hs ss e p = member-along m b d k around hs ss e p
     child-along (loop m) b d k around hs ss e p =
         K .at-untitled (simple k d 15 [] b) _ _ _ refl (member-along m false (suc d) _ around hs ss (shallow-in d hs e) p)
@@ -133,15 +134,15 @@ module _ (P : List Head → List Site → Type 0) (K : Kinds P) where
         (member-along m false (suc d) _ _ hs ss (shallow-in d hs e) p)
 
     member-along : (m : Member) (b : Bool) (d k : ℕ) (around : List Name) (hs : List Head) (ss : List Site) → shallow d hs ≡ true → P hs ss
-        → P (member-heads m b d k hs) (member-sites m around k ss)
+        → P (member-heads m b d k hs) (member-sites m around d k ss)
     member-along (leaf n) b d k around hs ss e p = K .at-leaf n b _ d k hs ss p
     member-along (inner f) b d k around hs ss e p = flow-along f b d k around hs ss e p
 
     members-along : (ms : Members) (d k : ℕ) (around : List Name) (hs : List Head) (ss : List Site) → shallow d hs ≡ true → P hs ss
-        → P (members-heads ms d k hs) (members-sites ms around k ss)
+        → P (members-heads ms d k hs) (members-sites ms around d k ss)
     members-along end d k around hs ss e p = p
     members-along (also m ms) d k around hs ss e p =
         member-along m false d k around _ _ (shallow-members ms d _ hs e) (members-along ms d _ around hs ss e p)
 
-  pub along : (f : Flow) → P (flow-heads f false 1 0 []) (flow-sites f [] 0 [])
+  pub along : (f : Flow) → P (flow-heads f false 1 0 []) (flow-sites f [] 1 0 [])
   along f = flow-along f false 1 0 [] [] [] refl (K .empty)

@@ -114,5 +114,5 @@ clean-flow d =
     let s : heard (flow-heads d false 1 0 []) ≡ flow-names d [] = flow-says d false 1 0 (record { told = refl }) .told in
     rw (clean-names (flow-heads d false 1 0 []) [], s, all-new-first (flow-names d []))
 
-pub names-kept-iff : (d : Flow) → (first-twice [] (flow-sites d [] 0 []) ≡ Nothing) ↔ (differ (flow-names d []) ≡ true)
-names-kept-iff d = clean-iff (first-twice [] (flow-sites d [] 0 [])) (differ (flow-names d [])) (rw (names-placed d) at (clean-flow d))
+pub names-kept-iff : (d : Flow) → (first-twice [] (flow-sites d [] 1 0 []) ≡ Nothing) ↔ (differ (flow-names d []) ≡ true)
+names-kept-iff d = clean-iff (first-twice [] (flow-sites d [] 1 0 [])) (differ (flow-names d [])) (rw (names-placed d) at (clean-flow d))

@@ -48,7 +48,7 @@ placed-none : Placed [] []
 unfolding Placed fault first-twice
 placed-none before = refl
 
-flow-own : (f : Flow) (b : Bool) (d k : ℕ) (around : List Name) → own (flow-head f b d k) ≡ flow-site f around k .names
+flow-own : (f : Flow) (b : Bool) (d k : ℕ) (around : List Name) → own (flow-head f b d k) ≡ flow-site f around d k .names
 flow-own (flow n ps sw c r cs) b d k around = refl
 
 placed-kinds : Kinds Placed
@@ -59,6 +59,6 @@ placed-kinds = record {
   at-flow = λ f b d k around hs ss e. placed-node _ _ _ ss (flow-key f b d k around) (flow-own f b d k around);
 }
 
-pub names-placed : (d : Flow) → fault names-kept [] (flow-heads d false 1 0 []) ≡ first-twice [] (flow-sites d [] 0 [])
+pub names-placed : (d : Flow) → fault names-kept [] (flow-heads d false 1 0 []) ≡ first-twice [] (flow-sites d [] 1 0 [])
 unfolding Placed
 names-placed d = along Placed placed-kinds d []

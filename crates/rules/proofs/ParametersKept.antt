@@ -3,7 +3,7 @@ use mathlib.Core.Path.{_≡_, refl, sym, _∙_, ap}
 use mathlib.Core.Logic.{_↔_}
 use mathlib.Core.Bool.{Bool, true, false, false≢true, _&&_, and-true, and-assoc, cond}
 use mathlib.Core.List.{List, [], _∷_, _++_}
-use Prim.Native.Nat.{ℕ}
+use Prim.Native.Nat.{ℕ, suc}
 use Rattle.diagram.specs.Tree.{Name, Flow, flow, Children, none, next, Child, plain, loop, group, replicator, Member, leaf, inner, Members, end, also}
 use Rattle.diagram.specs.Parameters.{flow-parameters, children-parameters, child-parameters, member-parameters, members-parameters}
 use Rattle.rules.specs.Sites.{Site, flow-sites, children-sites, child-sites, member-sites, members-sites, first-broken}
@@ -54,32 +54,32 @@ whole s = s .parameters
 mutual
   unfolding flow-sites flow-parameters
 
-  flow-passes : (f : Flow) (A : List Name) (k : ℕ) → Passes whole (flow-sites f A k) (flow-parameters f A)
-  flow-passes (flow n ps sw c r cs) A k =
-      passes-then whole (passes-one whole _) (passes-then whole (child-passes c A _) (children-passes cs A _))
+  flow-passes : (f : Flow) (A : List Name) (d k : ℕ) → Passes whole (flow-sites f A d k) (flow-parameters f A)
+  flow-passes (flow n ps sw c r cs) A d k =
+      passes-then whole (passes-one whole _) (passes-then whole (child-passes c A (suc d) _) (children-passes cs A (suc d) _))
 
-  children-passes : (cs : Children) (A : List Name) (k : ℕ) → Passes whole (children-sites cs A k) (children-parameters cs A)
-  children-passes none A k = passes-none whole
-  children-passes (next c r cs) A k = passes-then whole (child-passes c A k) (children-passes cs A _)
+  children-passes : (cs : Children) (A : List Name) (d k : ℕ) → Passes whole (children-sites cs A d k) (children-parameters cs A)
+  children-passes none A d k = passes-none whole
+  children-passes (next c r cs) A d k = passes-then whole (child-passes c A d k) (children-passes cs A d _)
 
-  child-passes : (c : Child) (A : List Name) (k : ℕ) → Passes whole (child-sites c A k) (child-parameters c A)
-  child-passes (plain m) A k = member-passes m A k
-  child-passes (loop m) A k = passes-then whole (passes-one whole _) (member-passes m A _)
-  child-passes (group y a b ms) A k =
+  child-passes : (c : Child) (A : List Name) (d k : ℕ) → Passes whole (child-sites c A d k) (child-parameters c A)
+  child-passes (plain m) A d k = member-passes m A d k
+  child-passes (loop m) A d k = passes-then whole (passes-one whole _) (member-passes m A (suc d) _)
+  child-passes (group y a b ms) A d k =
       passes-then whole (passes-one whole _)
-      (passes-then whole (member-passes a A _) (passes-then whole (member-passes b A _) (members-passes ms A _)))
-  child-passes (replicator y par size m) A k = passes-then whole (passes-one whole _) (member-passes m (A ++ (par ∷ [])) _)
+      (passes-then whole (member-passes a A (suc d) _) (passes-then whole (member-passes b A (suc d) _) (members-passes ms A (suc d) _)))
+  child-passes (replicator y par size m) A d k = passes-then whole (passes-one whole _) (member-passes m (A ++ (par ∷ [])) (suc d) _)
 
-  member-passes : (m : Member) (A : List Name) (k : ℕ) → Passes whole (member-sites m A k) (member-parameters m A)
-  member-passes (leaf n) A k = passes-one whole _
-  member-passes (inner f) A k = flow-passes f A k
+  member-passes : (m : Member) (A : List Name) (d k : ℕ) → Passes whole (member-sites m A d k) (member-parameters m A)
+  member-passes (leaf n) A d k = passes-one whole _
+  member-passes (inner f) A d k = flow-passes f A d k
 
-  members-passes : (ms : Members) (A : List Name) (k : ℕ) → Passes whole (members-sites ms A k) (members-parameters ms A)
-  members-passes end A k = passes-none whole
-  members-passes (also m ms) A k = passes-then whole (member-passes m A k) (members-passes ms A _)
+  members-passes : (ms : Members) (A : List Name) (d k : ℕ) → Passes whole (members-sites ms A d k) (members-parameters ms A)
+  members-passes end A d k = passes-none whole
+  members-passes (also m ms) A d k = passes-then whole (member-passes m A d k) (members-passes ms A d _)
 
-pub parameters-kept-iff : (d : Flow) → (first-broken (λ s. s .parameters) (flow-sites d [] 0 []) ≡ Nothing) ↔ (flow-parameters d [] ≡ true)
+pub parameters-kept-iff : (d : Flow) → (first-broken (λ s. s .parameters) (flow-sites d [] 1 0 []) ≡ Nothing) ↔ (flow-parameters d [] ≡ true)
 parameters-kept-iff d =
-    let i = none-broken whole (flow-sites d [] 0 []) in
-    let e = flow-passes d [] 0 .law [] ∙ and-true (flow-parameters d []) in
+    let i = none-broken whole (flow-sites d [] 1 0 []) in
+    let e = flow-passes d [] 1 0 .law [] ∙ and-true (flow-parameters d []) in
     (λ h. sym e ∙ i .0 h, λ h. i .1 (e ∙ h))

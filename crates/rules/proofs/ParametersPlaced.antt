@@ -85,31 +85,31 @@ W = record {
 -- A node with its site, for each kind of node.
 module _ (h : Head) (after : List Head) where
   own-simple : (ns : List Name) → copying (h .code) ≡ false → flowing (h .code) ≡ false
-      → Own W h (λ A rest. site (h .key) ns (surrounded A) ∷ rest) after
+      → Own W h (λ A rest. site (h .key) (h .depth) ns (surrounded A) ∷ rest) after
   own-simple ns p q before A e rest r = step parameters-kept whole before h after _ rest refl (kept-simple before h A e p q) r
 
   own-copies : copying (h .code) ≡ true → flowing (h .code) ≡ false
-      → Own W h (λ A rest. site (h .key) [] (surrounded A && new (h .name) A) ∷ rest) after
+      → Own W h (λ A rest. site (h .key) (h .depth) [] (surrounded A && new (h .name) A) ∷ rest) after
   own-copies p q before A e rest r = step parameters-kept whole before h after _ rest refl (kept-copies before h A e p q) r
 
   own-flow : (ns ps : List Name) (o w : Bool) → copying (h .code) ≡ false → flowing (h .code) ≡ true → h .pars ≡ reverse ps
-      → Own W h (λ A rest. record { key = h .key; names = ns; parameters = surrounded A && equal same ps A; solids = o; strongs = w } ∷ rest) after
+      → Own W h (λ A rest. record { key = h .key; depth = h .depth; names = ns; parameters = surrounded A && equal same ps A; solids = o; strongs = w } ∷ rest) after
   own-flow ns ps o w p q z before A e rest r = step parameters-kept whole before h after _ rest refl (kept-flow before h A e ps p q z) r
 
 mutual
   unfolding flow-heads flow-sites
 
-  flow-placed : (f : Flow) (b : Bool) (d k : ℕ) → Walked W d (flow-heads f b d k) (λ A. flow-sites f A k)
+  flow-placed : (f : Flow) (b : Bool) (d k : ℕ) → Walked W d (flow-heads f b d k) (λ A. flow-sites f A d k)
   flow-placed (flow n ps sw c r cs) b d k =
       let h : Head = record { key = k; depth = d; code = 7; name = n; size = 0; pars = reverse ps; strong = sw; solid = b } in
       walked-under W h _ _ _ (λ more. own-flow h _ (n ∷ []) ps (solid (flow n ps sw c r cs)) sw refl refl refl)
       (walked-then W (suc d) _ _ _ _ (child-placed c r (suc d) _) (children-placed cs (suc d) _)) refl
 
-  children-placed : (cs : Children) (d k : ℕ) → Walked W d (children-heads cs d k) (λ A. children-sites cs A k)
+  children-placed : (cs : Children) (d k : ℕ) → Walked W d (children-heads cs d k) (λ A. children-sites cs A d k)
   children-placed none d k = walked-none W d
   children-placed (next c r cs) d k = walked-then W d _ _ _ _ (child-placed c r d k) (children-placed cs d _)
 
-  child-placed : (c : Child) (b : Bool) (d k : ℕ) → Walked W d (child-heads c b d k) (λ A. child-sites c A k)
+  child-placed : (c : Child) (b : Bool) (d k : ℕ) → Walked W d (child-heads c b d k) (λ A. child-sites c A d k)
   child-placed (plain m) b d k = member-placed m b d k
   child-placed (loop m) b d k =
       let h = simple k d 15 [] b in
@@ -124,14 +124,14 @@ mutual
       walked-copies W h _ _ _ (λ more. own-copies h _ (replicator-copies y) (replicator-flows y)) (member-placed m false (suc d) _)
       (replicator-copies y) (λ A. A ++ (par ∷ [])) (λ A. sym (reverse-append A (par ∷ [])))
 
-  member-placed : (m : Member) (b : Bool) (d k : ℕ) → Walked W d (member-heads m b d k) (λ A. member-sites m A k)
+  member-placed : (m : Member) (b : Bool) (d k : ℕ) → Walked W d (member-heads m b d k) (λ A. member-sites m A d k)
   member-placed (leaf n) b d k = let h = simple k d 8 n b in walked-alone W h _ (λ more. own-simple h more (n ∷ []) refl refl)
   member-placed (inner f) b d k = flow-placed f b d k
 
-  members-placed : (ms : Members) (d k : ℕ) → Walked W d (members-heads ms d k) (λ A. members-sites ms A k)
+  members-placed : (ms : Members) (d k : ℕ) → Walked W d (members-heads ms d k) (λ A. members-sites ms A d k)
   members-placed end d k = walked-none W d
   members-placed (also m ms) d k = walked-then W d _ _ _ _ (member-placed m false d k) (members-placed ms d _)
 
-pub parameters-placed : (d : Flow) → fault parameters-kept [] (flow-heads d false 1 0 []) ≡ first-broken (λ s. s .parameters) (flow-sites d [] 0 [])
+pub parameters-placed : (d : Flow) → fault parameters-kept [] (flow-heads d false 1 0 []) ≡ first-broken (λ s. s .parameters) (flow-sites d [] 1 0 [])
 unfolding fault first-broken
 parameters-placed d = flow-placed d false 1 0 [] [] refl [] [] (λ now s. refl)

@@ -139,11 +139,11 @@ solid-heads : (f : Flow) (b : Bool) (d k : ℕ) (hs : List Head) → shallow d h
     → one-of (solids (flow-head f b d k .depth) (heads-inside f d k hs)) ≡ flows.solid f
 solid-heads (flow n ps sw c r cs) b d k hs e = rw (children-solids (next c r cs) d _ hs e) (one-codes (next c r cs))
 
-solid-site : (f : Flow) (around : List Name) (k : ℕ) → flow-site f around k .solids ≡ flows.solid f
-solid-site (flow n ps sw c r cs) around k = refl
+solid-site : (f : Flow) (around : List Name) (d k : ℕ) → flow-site f around d k .solids ≡ flows.solid f
+solid-site (flow n ps sw c r cs) around d k = refl
 
 pub solid-rule : Rule (λ h after. one-of (solids (h .depth) after)) (λ s. s .solids) flows.solid
-solid-rule = record { by-heads = solid-heads; by-site = solid-site; others = λ k ns b. refl }
+solid-rule = record { by-heads = solid-heads; by-site = solid-site; others = λ k d ns b. refl }
 
-pub solids-placed : (d : Flow) → fault solids-kept [] (flow-heads d false 1 0 []) ≡ first-broken (λ s. s .solids) (flow-sites d [] 0 [])
+pub solids-placed : (d : Flow) → fault solids-kept [] (flow-heads d false 1 0 []) ≡ first-broken (λ s. s .solids) (flow-sites d [] 1 0 [])
 solids-placed = placed _ _ flows.solid solid-rule

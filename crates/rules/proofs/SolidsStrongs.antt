@@ -4,7 +4,7 @@ use mathlib.Core.Path.{_≡_, refl, sym, _∙_}
 use mathlib.Core.Logic.{_↔_}
 use mathlib.Core.Bool.{Bool, true, false, cond, and-true}
 use mathlib.Core.List.{List, [], _∷_}
-use Prim.Native.Nat.{ℕ}
+use Prim.Native.Nat.{ℕ, suc}
 use Rattle.diagram.specs.Tree.{Name, Flow, flow, Children, none, next, Child, plain, loop, group, replicator, Member, leaf, inner, Members, end, also}
 use Rattle.diagram.specs.Flows.{each-flow, children-flows, child-flows, member-flows, members-flows}
 use Rattle.base.proofs.Truth.{clash, is-false, or-l}
@@ -24,8 +24,8 @@ flow-kept test before h after = cond (flowing (h .code)) (test h after) true
 -- The rule by a flow's first node, by its site and by the flow itself.
 pub record Rule (test : Head → List Head → Bool) (ask : Site → Bool) (ok : Flow → Bool) : Type 0 where
   pub by-heads : (f : Flow) (b : Bool) (d k : ℕ) (hs : List Head) → shallow d hs ≡ true → test (flow-head f b d k) (heads-inside f d k hs) ≡ ok f
-  pub by-site : (f : Flow) (around : List Name) (k : ℕ) → ask (flow-site f around k) ≡ ok f
-  pub others : (k : ℕ) (ns : List Name) (b : Bool) → ask (site k ns b) ≡ true
+  pub by-site : (f : Flow) (around : List Name) (d k : ℕ) → ask (flow-site f around d k) ≡ ok f
+  pub others : (k d : ℕ) (ns : List Name) (b : Bool) → ask (site k d ns b) ≡ true
 
 untitled-flowing : (h : Head) → titled h ≡ false → flowing (h .code) ≡ false
 untitled-flowing h e = is-false (flowing (h .code)) (λ t. clash (or-l (leafy (h .code)) t) e)
@@ -53,46 +53,46 @@ module _ (test : Head → List Head → Bool) (ask : Site → Bool) where
     placed-kinds : Kinds Placed
     placed-kinds = record {
       empty = placed-none;
-      at-leaf = λ n b fits d k hs ss. placed-node (simple k d 8 n b) _ hs ss refl (sym (R .others k (n ∷ []) fits));
-      at-untitled = λ h fits hs ss t. placed-node h _ hs ss refl (rw (untitled-flowing h t) (sym (R .others (h .key) [] fits)));
+      at-leaf = λ n b fits d k hs ss. placed-node (simple k d 8 n b) _ hs ss refl (sym (R .others k d (n ∷ []) fits));
+      at-untitled = λ h fits hs ss t. placed-node h _ hs ss refl (rw (untitled-flowing h t) (sym (R .others (h .key) (h .depth) [] fits)));
       at-flow = λ f b d k around hs ss e.
-          placed-node _ _ _ ss (flow-key f b d k around) (rw (flow-flowing f b d k) (R .by-heads f b d k hs e ∙ sym (R .by-site f around k)));
+          placed-node _ _ _ ss (flow-key f b d k around) (rw (flow-flowing f b d k) (R .by-heads f b d k hs e ∙ sym (R .by-site f around d k)));
     }
 
-    pub placed : (d : Flow) → fault (flow-kept test) [] (flow-heads d false 1 0 []) ≡ first-broken ask (flow-sites d [] 0 [])
+    pub placed : (d : Flow) → fault (flow-kept test) [] (flow-heads d false 1 0 []) ≡ first-broken ask (flow-sites d [] 1 0 [])
     unfolding Placed
     placed d = along Placed placed-kinds d []
 
     mutual
       unfolding flow-sites each-flow
 
-      flow-passes : (f : Flow) (around : List Name) (k : ℕ) → Passes ask (flow-sites f around k) (each-flow f ok)
-      flow-passes (flow n ps sw c r cs) around k =
-          passes-then ask (passes-as _ _ (R .by-site (flow n ps sw c r cs) around k))
-          (passes-then ask (child-passes c around _) (children-passes cs around _))
+      flow-passes : (f : Flow) (around : List Name) (d k : ℕ) → Passes ask (flow-sites f around d k) (each-flow f ok)
+      flow-passes (flow n ps sw c r cs) around d k =
+          passes-then ask (passes-as _ _ (R .by-site (flow n ps sw c r cs) around d k))
+          (passes-then ask (child-passes c around (suc d) _) (children-passes cs around (suc d) _))
 
-      children-passes : (cs : Children) (around : List Name) (k : ℕ) → Passes ask (children-sites cs around k) (children-flows cs ok)
-      children-passes none around k = passes-none ask
-      children-passes (next c r cs) around k = passes-then ask (child-passes c around k) (children-passes cs around _)
+      children-passes : (cs : Children) (around : List Name) (d k : ℕ) → Passes ask (children-sites cs around d k) (children-flows cs ok)
+      children-passes none around d k = passes-none ask
+      children-passes (next c r cs) around d k = passes-then ask (child-passes c around d k) (children-passes cs around d _)
 
-      child-passes : (c : Child) (around : List Name) (k : ℕ) → Passes ask (child-sites c around k) (child-flows c ok)
-      child-passes (plain m) around k = member-passes m around k
-      child-passes (loop m) around k = passes-then ask (passes-as _ true (R .others k [] _)) (member-passes m around _)
-      child-passes (group y a b ms) around k =
-          passes-then ask (passes-as _ true (R .others k [] _))
-          (passes-then ask (member-passes a around _) (passes-then ask (member-passes b around _) (members-passes ms around _)))
-      child-passes (replicator y par size m) around k = passes-then ask (passes-as _ true (R .others k [] _)) (member-passes m _ _)
+      child-passes : (c : Child) (around : List Name) (d k : ℕ) → Passes ask (child-sites c around d k) (child-flows c ok)
+      child-passes (plain m) around d k = member-passes m around d k
+      child-passes (loop m) around d k = passes-then ask (passes-as _ true (R .others k d [] _)) (member-passes m around (suc d) _)
+      child-passes (group y a b ms) around d k =
+          passes-then ask (passes-as _ true (R .others k d [] _))
+          (passes-then ask (member-passes a around (suc d) _) (passes-then ask (member-passes b around (suc d) _) (members-passes ms around (suc d) _)))
+      child-passes (replicator y par size m) around d k = passes-then ask (passes-as _ true (R .others k d [] _)) (member-passes m _ (suc d) _)
 
-      member-passes : (m : Member) (around : List Name) (k : ℕ) → Passes ask (member-sites m around k) (member-flows m ok)
-      member-passes (leaf n) around k = passes-as _ true (R .others k (n ∷ []) _)
-      member-passes (inner f) around k = flow-passes f around k
+      member-passes : (m : Member) (around : List Name) (d k : ℕ) → Passes ask (member-sites m around d k) (member-flows m ok)
+      member-passes (leaf n) around d k = passes-as _ true (R .others k d (n ∷ []) _)
+      member-passes (inner f) around d k = flow-passes f around d k
 
-      members-passes : (ms : Members) (around : List Name) (k : ℕ) → Passes ask (members-sites ms around k) (members-flows ms ok)
-      members-passes end around k = passes-none ask
-      members-passes (also m ms) around k = passes-then ask (member-passes m around k) (members-passes ms around _)
+      members-passes : (ms : Members) (around : List Name) (d k : ℕ) → Passes ask (members-sites ms around d k) (members-flows ms ok)
+      members-passes end around d k = passes-none ask
+      members-passes (also m ms) around d k = passes-then ask (member-passes m around d k) (members-passes ms around d _)
 
-    pub kept-iff : (d : Flow) → (first-broken ask (flow-sites d [] 0 []) ≡ Nothing) ↔ (each-flow d ok ≡ true)
+    pub kept-iff : (d : Flow) → (first-broken ask (flow-sites d [] 1 0 []) ≡ Nothing) ↔ (each-flow d ok ≡ true)
     kept-iff d =
-        let i = none-broken ask (flow-sites d [] 0 []) in
-        let e = flow-passes d [] 0 .law [] ∙ and-true (each-flow d ok) in
+        let i = none-broken ask (flow-sites d [] 1 0 []) in
+        let e = flow-passes d [] 1 0 .law [] ∙ and-true (each-flow d ok) in
         (λ h. sym e ∙ i .0 h, λ h. i .1 (e ∙ h))

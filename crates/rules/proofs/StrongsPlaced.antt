@@ -14,11 +14,11 @@ use Rattle.rules.proofs.SolidsStrongs.{Rule, placed}
 strong-head : (f : Flow) (b : Bool) (d k : ℕ) → flow-head f b d k .strong ≡ strong f
 strong-head (flow n ps sw c r cs) b d k = refl
 
-strong-site : (f : Flow) (around : List Name) (k : ℕ) → flow-site f around k .strongs ≡ strong f
-strong-site (flow n ps sw c r cs) around k = refl
+strong-site : (f : Flow) (around : List Name) (d k : ℕ) → flow-site f around d k .strongs ≡ strong f
+strong-site (flow n ps sw c r cs) around d k = refl
 
 pub strong-rule : Rule (λ h after. h .strong) (λ s. s .strongs) strong
-strong-rule = record { by-heads = λ f b d k hs e. strong-head f b d k; by-site = strong-site; others = λ k ns b. refl }
+strong-rule = record { by-heads = λ f b d k hs e. strong-head f b d k; by-site = strong-site; others = λ k d ns b. refl }
 
-pub strongs-placed : (d : Flow) → fault strongs-kept [] (flow-heads d false 1 0 []) ≡ first-broken (λ s. s .strongs) (flow-sites d [] 0 [])
+pub strongs-placed : (d : Flow) → fault strongs-kept [] (flow-heads d false 1 0 []) ≡ first-broken (λ s. s .strongs) (flow-sites d [] 1 0 [])
 strongs-placed = placed _ _ strong strong-rule
