@@ -1,35 +1,36 @@
 -- The verdict by what each rule in turn comes to. Assumes nothing.
 use mathlib.Core.Path.{_≡_}
 use mathlib.Core.List.{List, []}
-use Prim.Native.Nat.{ℕ, _+_, _≤_, _<_}
-use lib.ListN.{getD}
+use Prim.Native.Nat.{ℕ, _≤_, _<_}
 use borrow.Author.Tests.{lt-ltb, le-ltb}
 use Rattle.rules.specs.Heads.{Head}
 use Rattle.rules.specs.Kept.{names-kept, parameters-kept, solids-kept, strongs-kept, fault}
 use Rattle.rules.specs.Counted.{any-node, eventful, total, capped}
-use Rattle.rules.specs.Judged.{verdict}
+use Rattle.rules.specs.Judged.{refuse, verdict}
+use Rattle.rules.specs.declared.Found.{Found}
 use Rattle.rules.specs.declared.Found.the-variants.{At, Nothing}
 use Rattle.rules.specs.declared.Verdict.the-variants.{Kept, Refused}
 
-module _ (places : List ℕ) (hs : List Head) (k : ℕ) where
-  pub refused-7 : fault names-kept [] hs ≡ At k → verdict places hs ≡ Refused 7 (getD places (k + 2) 0)
+-- The first fault is passed on as the refusal.
+module _ (places : List ℕ) (hs : List Head) (f : Found) (k : ℕ) (at : f ≡ At k) where
+  pub refused-7 : f ≡ fault names-kept [] hs → refuse 7 2 places f (Kept 0 0) ≡ verdict places hs
   unfolding verdict
-  refused-7 e = rw e
+  refused-7 e = rw (← e, at)
 
   module _ (names : fault names-kept [] hs ≡ Nothing) where
-    pub refused-8 : fault parameters-kept [] hs ≡ At k → verdict places hs ≡ Refused 8 (getD places (k + 0) 0)
+    pub refused-8 : f ≡ fault parameters-kept [] hs → refuse 8 0 places f (Kept 0 0) ≡ verdict places hs
     unfolding verdict
-    refused-8 e = rw (names, e)
+    refused-8 e = rw (names, ← e, at)
 
     module _ (parameters : fault parameters-kept [] hs ≡ Nothing) where
-      pub refused-9 : fault solids-kept [] hs ≡ At k → verdict places hs ≡ Refused 9 (getD places (k + 0) 0)
+      pub refused-9 : f ≡ fault solids-kept [] hs → refuse 9 0 places f (Kept 0 0) ≡ verdict places hs
       unfolding verdict
-      refused-9 e = rw (names, parameters, e)
+      refused-9 e = rw (names, parameters, ← e, at)
 
       module _ (solids : fault solids-kept [] hs ≡ Nothing) where
-        pub refused-10 : fault strongs-kept [] hs ≡ At k → verdict places hs ≡ Refused 10 (getD places (k + 0) 0)
+        pub refused-10 : f ≡ fault strongs-kept [] hs → refuse 10 0 places f (Kept 0 0) ≡ verdict places hs
         unfolding verdict
-        refused-10 e = rw (names, parameters, solids, e)
+        refused-10 e = rw (names, parameters, solids, ← e, at)
 
 -- Where no node breaks a rule the counts decide.
 module _ (places : List ℕ) (hs : List Head) (names : fault names-kept [] hs ≡ Nothing) (parameters : fault parameters-kept [] hs ≡ Nothing)

@@ -11,7 +11,8 @@ ghost use Rattle.lexer.specs.Words.{word-at};
 ghost use Rattle.rules.specs.Heads.{reach as reach-of, extent, solid-of, par-count, strong-of, opened as opened-of, keys as keys-of, depths as depths-of, by-columns, name-in};
 ghost use Rattle.rules.specs.Kept.{may-be-solid, one-of, fault};
 ghost use Rattle.rules.specs.Counted.{total as total-of, capped};
-ghost use Rattle.rules.specs.Judged.{verdict};
+ghost use Rattle.rules.specs.Judged.{refuse as refuse-of, verdict};
+ghost use Rattle.rules.specs.declared.Verdict.the-variants.{Kept};
 ghost use Rattle.rules.specs.Marks.{mark-of, marked, differing};
 ghost use Rattle.rules.specs.Columns.{earlier, from, around-at, nearest-at, next-solid as next-solid-of, rule-of, kept-at, unheard-at, fresh-at, listed-at, solids-at, counting, counted-at, copies-at};
 
@@ -598,6 +599,16 @@ fn total(codes: &[u8], keys: &[usize], depths: &[usize], events: bool) -> usize
     n
 }
 
+// The refusal with the number of a rule, for a node that breaks it: at the place of the token that stands `on` tokens after its keyword.
+fn refuse(starts: &[u16], number: u8, on: usize, found: Found) -> Verdict
+    ensures { λ r. ⌜ r ≡ refuse-of number on (now (starts .entry)) found (Kept 0 0) ⌝ }
+{
+    match found {
+        Found::At(k) => Verdict::Refused(number, place(starts, k, on)),
+        Found::Nothing => Verdict::Kept(0, 0),
+    }
+}
+
 // The node copies and events of a drawing that the grammar accepts, or the first of the refusals 7 to 11.
 pub fn judge(text: &[u8], codes: &[u8], starts: &[u16], keys: &[usize], depths: &[usize]) -> Verdict
     ensures { λ r. ⌜ r ≡ verdict (now (starts .entry)) (by-columns (name-in (now (text .entry)) (now (starts .entry))) (now (codes .entry)) (now (keys .entry)) (now (depths .entry))) ⌝ }
@@ -605,21 +616,21 @@ pub fn judge(text: &[u8], codes: &[u8], starts: &[u16], keys: &[usize], depths: 
     let mut marks = [0u32; 256];
     mark_names(text, starts, keys, &mut marks);
     let names = first_fault(text, codes, starts, keys, depths, &marks, 7);
-    if let Found::At(k) = names {
-        return Verdict::Refused(7, place(starts, k, 2));
-    }
+    let Found::Nothing = names else {
+        return refuse(starts, 7, 2, names);
+    };
     let params = first_fault(text, codes, starts, keys, depths, &marks, 8);
-    if let Found::At(k) = params {
-        return Verdict::Refused(8, place(starts, k, 0));
-    }
+    let Found::Nothing = params else {
+        return refuse(starts, 8, 0, params);
+    };
     let solids = first_fault(text, codes, starts, keys, depths, &marks, 9);
-    if let Found::At(k) = solids {
-        return Verdict::Refused(9, place(starts, k, 0));
-    }
+    let Found::Nothing = solids else {
+        return refuse(starts, 9, 0, solids);
+    };
     let weak = first_fault(text, codes, starts, keys, depths, &marks, 10);
-    if let Found::At(k) = weak {
-        return Verdict::Refused(10, place(starts, k, 0));
-    }
+    let Found::Nothing = weak else {
+        return refuse(starts, 10, 0, weak);
+    };
     let copies = total(codes, keys, depths, false);
     let events = total(codes, keys, depths, true);
     if 768 < copies {

@@ -1,6 +1,5 @@
-use mathlib.Core.Path.{sym, ap, _∙_}
+use mathlib.Core.Path.{sym, _∙_}
 use borrow.Author.Needs.{needs}
-use Rattle.rules.specs.declared.Verdict.the-variants.{Refused}
 use Rattle.rules.specs.Heads.{name-in, by-columns}
 use Rattle.rules.proofs.LawsJudged.{refused-7, refused-8, refused-9, refused-10, copies-over, events-over, all-kept}
 use Rattle.rules.proofs.judge.Statement.{statement}
@@ -18,22 +17,22 @@ slice-aggregate-first-fault c = search needs
 first-fault-requires : tie.Need-first-fault-requires
 first-fault-requires c κs = search needs
 
-enum-known-names : tie.Need-enum-known-names
-enum-known-names c = search needs
+enum-told : tie.Need-enum-told
+enum-told c = search needs
 
-place-requires : tie.Need-place-requires
-place-requires c κs = search needs
+enum-told-2 : tie.Need-enum-told-2
+enum-told-2 c = search needs
+
+refuse-requires : tie.Need-refuse-requires
+refuse-requires c κs = search needs
 
 returns : tie.Need-returns
 returns c =
-    let s = c .before .before .before .before .before .before .before .before .before .before .before .before .before .before .args in
-    let places = s .starts .now in
-    let nm = name-in (s .text .now) places in
-    let hs = by-columns nm (s .codes .now) (s .keys .now) (s .depths .now) in
-    ap (Refused 7) (c .place .ensures) ∙ sym (refused-7 places hs _ (sym (c .before .before .before .before .first-fault .ensures) ∙ c .before .before .names .given .1))
-
-enum-told : tie.Need-enum-told
-enum-told c = search needs
+    let s = c .before .before .before .before .before .before .before .before .before .before .before .before .before .args in
+    let hs = by-columns (name-in (s .text .now) (s .starts .now)) (s .codes .now) (s .keys .now) (s .depths .now) in
+    c .refuse .ensures
+    ∙ refused-7 (s .starts .now) hs _ _ (c .before .enum-told2 .given .1)
+    (c .before .before .before .first-fault .ensures)
 
 slice-aggregate-first-fault-2 : tie.Need-slice-aggregate-first-fault-2
 slice-aggregate-first-fault-2 c = search needs
@@ -41,22 +40,24 @@ slice-aggregate-first-fault-2 c = search needs
 first-fault-requires-2 : tie.Need-first-fault-requires-2
 first-fault-requires-2 c κs = search needs
 
-enum-known-params : tie.Need-enum-known-params
-enum-known-params c = search needs
+enum-told-3 : tie.Need-enum-told-3
+enum-told-3 c = search needs
 
-place-requires-2 : tie.Need-place-requires-2
-place-requires-2 c κs = search needs
+enum-told-4 : tie.Need-enum-told-4
+enum-told-4 c = search needs
+
+refuse-requires-2 : tie.Need-refuse-requires-2
+refuse-requires-2 c κs = search needs
 
 returns-2 : tie.Need-returns-2
 returns-2 c =
-    let s = c .before .before .before .before .before .before .before .before .before .before .before .before .before .before .before .before .before .before .args in
-    let places = s .starts .now in
-    let nm = name-in (s .text .now) places in
-    let hs = by-columns nm (s .codes .now) (s .keys .now) (s .depths .now) in
-    ap (Refused 8) (c .place2 .ensures) ∙ sym (refused-8 places hs _ (sym (c .before .before .before .before .before .before .before .before .first-fault .ensures) ∙ c .before .before .before .before .before .before .enum-told .given .1) (sym (c .before .before .before .before .first-fault2 .ensures) ∙ c .before .before .params .given .1))
-
-enum-told-2 : tie.Need-enum-told-2
-enum-told-2 c = search needs
+    let one = c .before .before .before .before .before in
+    let s = one .before .before .before .before .before .before .before .before .before .before .before .before .args in
+    let hs = by-columns (name-in (s .text .now) (s .starts .now)) (s .codes .now) (s .keys .now) (s .depths .now) in
+    c .refuse2 .ensures
+    ∙ refused-8 (s .starts .now) hs _ _ (c .before .enum-told4 .given .1)
+    (sym (one .before .before .first-fault .ensures) ∙ one .enum-told .given .1)
+    (c .before .before .before .first-fault2 .ensures)
 
 slice-aggregate-first-fault-3 : tie.Need-slice-aggregate-first-fault-3
 slice-aggregate-first-fault-3 c = search needs
@@ -64,22 +65,26 @@ slice-aggregate-first-fault-3 c = search needs
 first-fault-requires-3 : tie.Need-first-fault-requires-3
 first-fault-requires-3 c κs = search needs
 
-enum-known-solids : tie.Need-enum-known-solids
-enum-known-solids c = search needs
+enum-told-5 : tie.Need-enum-told-5
+enum-told-5 c = search needs
 
-place-requires-3 : tie.Need-place-requires-3
-place-requires-3 c κs = search needs
+enum-told-6 : tie.Need-enum-told-6
+enum-told-6 c = search needs
+
+refuse-requires-3 : tie.Need-refuse-requires-3
+refuse-requires-3 c κs = search needs
 
 returns-3 : tie.Need-returns-3
 returns-3 c =
-    let s = c .before .before .before .before .before .before .before .before .before .before .before .before .before .before .before .before .before .before .before .before .before .before .args in
-    let places = s .starts .now in
-    let nm = name-in (s .text .now) places in
-    let hs = by-columns nm (s .codes .now) (s .keys .now) (s .depths .now) in
-    ap (Refused 9) (c .place3 .ensures) ∙ sym (refused-9 places hs _ (sym (c .before .before .before .before .before .before .before .before .before .before .before .before .first-fault .ensures) ∙ c .before .before .before .before .before .before .before .before .before .before .enum-told .given .1) (sym (c .before .before .before .before .before .before .before .before .first-fault2 .ensures) ∙ c .before .before .before .before .before .before .enum-told2 .given .1) (sym (c .before .before .before .before .first-fault3 .ensures) ∙ c .before .before .solids .given .1))
-
-enum-told-3 : tie.Need-enum-told-3
-enum-told-3 c = search needs
+    let two = c .before .before .before .before .before in
+    let one = two .before .before .before .before in
+    let s = one .before .before .before .before .before .before .before .before .before .before .before .before .args in
+    let hs = by-columns (name-in (s .text .now) (s .starts .now)) (s .codes .now) (s .keys .now) (s .depths .now) in
+    c .refuse3 .ensures
+    ∙ refused-9 (s .starts .now) hs _ _ (c .before .enum-told6 .given .1)
+    (sym (one .before .before .first-fault .ensures) ∙ one .enum-told .given .1)
+    (sym (two .before .before .first-fault2 .ensures) ∙ two .enum-told3 .given .1)
+    (c .before .before .before .first-fault3 .ensures)
 
 slice-aggregate-first-fault-4 : tie.Need-slice-aggregate-first-fault-4
 slice-aggregate-first-fault-4 c = search needs
@@ -87,22 +92,28 @@ slice-aggregate-first-fault-4 c = search needs
 first-fault-requires-4 : tie.Need-first-fault-requires-4
 first-fault-requires-4 c κs = search needs
 
-enum-known-weak : tie.Need-enum-known-weak
-enum-known-weak c = search needs
+enum-told-7 : tie.Need-enum-told-7
+enum-told-7 c = search needs
 
-place-requires-4 : tie.Need-place-requires-4
-place-requires-4 c κs = search needs
+enum-told-8 : tie.Need-enum-told-8
+enum-told-8 c = search needs
+
+refuse-requires-4 : tie.Need-refuse-requires-4
+refuse-requires-4 c κs = search needs
 
 returns-4 : tie.Need-returns-4
 returns-4 c =
-    let s = c .before .before .before .before .before .before .before .before .before .before .before .before .before .before .before .before .before .before .before .before .before .before .before .before .before .before .args in
-    let places = s .starts .now in
-    let nm = name-in (s .text .now) places in
-    let hs = by-columns nm (s .codes .now) (s .keys .now) (s .depths .now) in
-    ap (Refused 10) (c .place4 .ensures) ∙ sym (refused-10 places hs _ (sym (c .before .before .before .before .before .before .before .before .before .before .before .before .before .before .before .before .first-fault .ensures) ∙ c .before .before .before .before .before .before .before .before .before .before .before .before .before .before .enum-told .given .1) (sym (c .before .before .before .before .before .before .before .before .before .before .before .before .first-fault2 .ensures) ∙ c .before .before .before .before .before .before .before .before .before .before .enum-told2 .given .1) (sym (c .before .before .before .before .before .before .before .before .first-fault3 .ensures) ∙ c .before .before .before .before .before .before .enum-told3 .given .1) (sym (c .before .before .before .before .first-fault4 .ensures) ∙ c .before .before .weak .given .1))
-
-enum-told-4 : tie.Need-enum-told-4
-enum-told-4 c = search needs
+    let three = c .before .before .before .before .before in
+    let two = three .before .before .before .before in
+    let one = two .before .before .before .before in
+    let s = one .before .before .before .before .before .before .before .before .before .before .before .before .args in
+    let hs = by-columns (name-in (s .text .now) (s .starts .now)) (s .codes .now) (s .keys .now) (s .depths .now) in
+    c .refuse4 .ensures
+    ∙ refused-10 (s .starts .now) hs _ _ (c .before .enum-told8 .given .1)
+    (sym (one .before .before .first-fault .ensures) ∙ one .enum-told .given .1)
+    (sym (two .before .before .first-fault2 .ensures) ∙ two .enum-told3 .given .1)
+    (sym (three .before .before .first-fault3 .ensures) ∙ three .enum-told5 .given .1)
+    (c .before .before .before .first-fault4 .ensures)
 
 total-requires : tie.Need-total-requires
 total-requires c κs = search needs
@@ -112,27 +123,57 @@ total-requires-2 c κs = search needs
 
 returns-5 : tie.Need-returns-5
 returns-5 c =
-    let s = c .before .before .before .before .before .before .before .before .before .before .before .before .before .before .before .before .before .before .before .before .before .before .before .before .before .before .before .args in
-    let places = s .starts .now in
-    let nm = name-in (s .text .now) places in
+    let four = c .before .before .before in
+    let three = four .before .before .before .before in
+    let two = three .before .before .before .before in
+    let one = two .before .before .before .before in
+    let s = one .before .before .before .before .before .before .before .before .before .before .before .before .args in
+    let nm = name-in (s .text .now) (s .starts .now) in
     let hs = by-columns nm (s .codes .now) (s .keys .now) (s .depths .now) in
-    sym (copies-over places hs (sym (c .before .before .before .before .before .before .before .before .before .before .before .before .before .before .before .before .before .first-fault .ensures) ∙ c .before .before .before .before .before .before .before .before .before .before .before .before .before .before .before .enum-told .given .1) (sym (c .before .before .before .before .before .before .before .before .before .before .before .before .before .first-fault2 .ensures) ∙ c .before .before .before .before .before .before .before .before .before .before .before .enum-told2 .given .1) (sym (c .before .before .before .before .before .before .before .before .before .first-fault3 .ensures) ∙ c .before .before .before .before .before .before .before .enum-told3 .given .1) (sym (c .before .before .before .before .before .first-fault4 .ensures) ∙ c .before .before .before .enum-told4 .given .1) (c .before .before .total .result) (c .before .total2 .result) (c .before .before .total .ensures nm) (c .before .total2 .ensures nm) (c .if1 .taken))
+    let x = c .before .before .total in
+    let y = c .before .total2 in
+    sym (copies-over (s .starts .now) hs
+    (sym (one .before .before .first-fault .ensures) ∙ one .enum-told .given .1)
+    (sym (two .before .before .first-fault2 .ensures) ∙ two .enum-told3 .given .1)
+    (sym (three .before .before .first-fault3 .ensures) ∙ three .enum-told5 .given .1)
+    (sym (four .before .before .first-fault4 .ensures) ∙ four .enum-told7 .given .1)
+    (x .result) (y .result) (x .ensures nm) (y .ensures nm) (c .if1 .taken))
 
 returns-6 : tie.Need-returns-6
 returns-6 c =
-    let s = c .before .before .before .before .before .before .before .before .before .before .before .before .before .before .before .before .before .before .before .before .before .before .before .before .before .before .before .before .args in
-    let places = s .starts .now in
-    let nm = name-in (s .text .now) places in
+    let four = c .before .before .before .before in
+    let three = four .before .before .before .before in
+    let two = three .before .before .before .before in
+    let one = two .before .before .before .before in
+    let s = one .before .before .before .before .before .before .before .before .before .before .before .before .args in
+    let nm = name-in (s .text .now) (s .starts .now) in
     let hs = by-columns nm (s .codes .now) (s .keys .now) (s .depths .now) in
-    sym (events-over places hs (sym (c .before .before .before .before .before .before .before .before .before .before .before .before .before .before .before .before .before .before .first-fault .ensures) ∙ c .before .before .before .before .before .before .before .before .before .before .before .before .before .before .before .before .enum-told .given .1) (sym (c .before .before .before .before .before .before .before .before .before .before .before .before .before .before .first-fault2 .ensures) ∙ c .before .before .before .before .before .before .before .before .before .before .before .before .enum-told2 .given .1) (sym (c .before .before .before .before .before .before .before .before .before .before .first-fault3 .ensures) ∙ c .before .before .before .before .before .before .before .before .enum-told3 .given .1) (sym (c .before .before .before .before .before .before .first-fault4 .ensures) ∙ c .before .before .before .before .enum-told4 .given .1) (c .before .before .before .total .result) (c .before .before .total2 .result) (c .before .before .before .total .ensures nm) (c .before .before .total2 .ensures nm) (c .before .if1 .left) (c .if2 .taken))
+    let x = c .before .before .before .total in
+    let y = c .before .before .total2 in
+    sym (events-over (s .starts .now) hs
+    (sym (one .before .before .first-fault .ensures) ∙ one .enum-told .given .1)
+    (sym (two .before .before .first-fault2 .ensures) ∙ two .enum-told3 .given .1)
+    (sym (three .before .before .first-fault3 .ensures) ∙ three .enum-told5 .given .1)
+    (sym (four .before .before .first-fault4 .ensures) ∙ four .enum-told7 .given .1)
+    (x .result) (y .result) (x .ensures nm) (y .ensures nm) (c .before .if1 .left) (c .if2 .taken))
 
 returns-7 : tie.Need-returns-7
 returns-7 c =
-    let s = c .before .before .before .before .before .before .before .before .before .before .before .before .before .before .before .before .before .before .before .before .before .before .before .before .before .before .before .before .args in
-    let places = s .starts .now in
-    let nm = name-in (s .text .now) places in
+    let four = c .before .before .before .before in
+    let three = four .before .before .before .before in
+    let two = three .before .before .before .before in
+    let one = two .before .before .before .before in
+    let s = one .before .before .before .before .before .before .before .before .before .before .before .before .args in
+    let nm = name-in (s .text .now) (s .starts .now) in
     let hs = by-columns nm (s .codes .now) (s .keys .now) (s .depths .now) in
-    sym (all-kept places hs (sym (c .before .before .before .before .before .before .before .before .before .before .before .before .before .before .before .before .before .before .first-fault .ensures) ∙ c .before .before .before .before .before .before .before .before .before .before .before .before .before .before .before .before .enum-told .given .1) (sym (c .before .before .before .before .before .before .before .before .before .before .before .before .before .before .first-fault2 .ensures) ∙ c .before .before .before .before .before .before .before .before .before .before .before .before .enum-told2 .given .1) (sym (c .before .before .before .before .before .before .before .before .before .before .first-fault3 .ensures) ∙ c .before .before .before .before .before .before .before .before .enum-told3 .given .1) (sym (c .before .before .before .before .before .before .first-fault4 .ensures) ∙ c .before .before .before .before .enum-told4 .given .1) (c .before .before .before .total .result) (c .before .before .total2 .result) (c .before .before .before .total .ensures nm) (c .before .before .total2 .ensures nm) (c .before .if1 .left) (c .if2 .left))
+    let x = c .before .before .before .total in
+    let y = c .before .before .total2 in
+    sym (all-kept (s .starts .now) hs
+    (sym (one .before .before .first-fault .ensures) ∙ one .enum-told .given .1)
+    (sym (two .before .before .first-fault2 .ensures) ∙ two .enum-told3 .given .1)
+    (sym (three .before .before .first-fault3 .ensures) ∙ three .enum-told5 .given .1)
+    (sym (four .before .before .first-fault4 .ensures) ∙ four .enum-told7 .given .1)
+    (x .result) (y .result) (x .ensures nm) (y .ensures nm) (c .before .if1 .left) (c .if2 .left))
 
 pub judge-spec : {M : Type 1} → statement M
 judge-spec =
@@ -142,28 +183,28 @@ judge-spec =
     mark-names-requires
     slice-aggregate-first-fault
     first-fault-requires
-    enum-known-names
-    place-requires
-    returns
     enum-told
+    enum-told-2
+    refuse-requires
+    returns
     slice-aggregate-first-fault-2
     first-fault-requires-2
-    enum-known-params
-    place-requires-2
+    enum-told-3
+    enum-told-4
+    refuse-requires-2
     returns-2
-    enum-told-2
     slice-aggregate-first-fault-3
     first-fault-requires-3
-    enum-known-solids
-    place-requires-3
+    enum-told-5
+    enum-told-6
+    refuse-requires-3
     returns-3
-    enum-told-3
     slice-aggregate-first-fault-4
     first-fault-requires-4
-    enum-known-weak
-    place-requires-4
+    enum-told-7
+    enum-told-8
+    refuse-requires-4
     returns-4
-    enum-told-4
     total-requires
     total-requires-2
     returns-5
