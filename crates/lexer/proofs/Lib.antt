@@ -9,3 +9,4 @@ pub mod Spans
 pub mod Filled
 pub mod Alike
 mod Answer
+pub mod Worked

@@ -2,3 +2,4 @@ pub mod Classes
 pub mod Words
 pub mod Spans
 pub mod Scanned
+pub mod Worked
