@@ -13,7 +13,7 @@ use Rattle.diagram.specs.Tree.{Name}
 use Rattle.diagram.specs.Names.{same}
 use Rattle.base.proofs.Truth.{clash, cases, and-l, and-r, and-i, not-e}
 use Rattle.diagram.proofs.Equal.{same-decides}
-use Rattle.lexer.specs.Classes.{between, class-of, worded, blank}
+use Rattle.lexer.specs.Classes.{between, spacing, class-of, worded, blank}
 use Rattle.lexer.specs.Words.{keywords, place-in, keyword, short, every, lettered, named, numeral, word-code, code}
 use Rattle.grammar.specs.Tokens.{opening, closing, comma, colon, key, bit, digits}
 use Rattle.grammar.specs.Derives.{token}
@@ -81,7 +81,7 @@ classes b =
     ∷ (between 65 90 b || between 97 122 b, 5)
     ∷ (between 48 57 b, 6)
     ∷ (eqb b 95, 7)
-    ∷ (eqb b 32 || eqb b 10, 8)
+    ∷ (spacing b, 8)
     ∷ []
 
 class-chain : (b : ℕ) → class-of b ≡ chain (classes b) 0

@@ -7,7 +7,7 @@ use native.Mathlib.Omega.{arith}
 use lib.Dec.{eqb, leb}
 use borrow.Author.Tests.{le-leb, leb-true}
 use Rattle.base.proofs.Truth.{and-l, and-r, and-i, is-false}
-use Rattle.lexer.specs.Classes.{between, class-of, within, foreign}
+use Rattle.lexer.specs.Classes.{between, spacing, class-of, within, foreign}
 use Rattle.lexer.specs.Words.{front}
 use Rattle.lexer.specs.Scanned.{first-foreign}
 use Rattle.lexer.proofs.Front.{front-same}
@@ -42,7 +42,7 @@ class-small b =
     (either-small (between 65 90 b || between 97 122 b) 5 _ (omega arith)
     (either-small (between 48 57 b) 6 _ (omega arith)
     (either-small (eqb b 95) 7 _ (omega arith)
-    (either-small (eqb b 32 || eqb b 10) 8 0 (omega arith) (omega arith))))))))
+    (either-small (spacing b) 8 0 (omega arith) (omega arith))))))))
 
 -- Not foreign is one of the other classes.
 known-at : (c : ℕ) → c ≤ 8 → between 1 8 c ≡ not (between 0 0 c)

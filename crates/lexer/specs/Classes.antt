@@ -7,6 +7,10 @@ use lib.Dec.{eqb, leb}
 abbrev pub between : ℕ → ℕ → ℕ → Bool
 between a b x = leb a x && leb x b
 
+-- "blank (32 or 10)"
+abbrev pub spacing : ℕ → Bool
+spacing b = eqb b 32 || eqb b 10
+
 -- The classes by number: 0 foreign, 1 to 4 the signs ( ) , : in this order, 5 letter, 6 digit, 7 underscore, 8 blank.
 unfoldable pub class-of : ℕ → ℕ
 class-of b =
@@ -17,7 +21,7 @@ class-of b =
     (cond (between 65 90 b || between 97 122 b) 5
     (cond (between 48 57 b) 6
     (cond (eqb b 95) 7
-    (cond (eqb b 32 || eqb b 10) 8 0)))))))
+    (cond (spacing b) 8 0)))))))
 
 -- The byte's class is one of those from a to b.
 abbrev pub within : ℕ → ℕ → ℕ → Bool

@@ -23,3 +23,4 @@ mod LawsRules
 mod LawsCounted
 mod LawsJudged
 mod LawsMarks
+pub mod Worked

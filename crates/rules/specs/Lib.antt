@@ -5,3 +5,4 @@ pub mod Judged
 pub mod Columns
 pub mod Sites
 pub mod Marks
+pub mod Worked

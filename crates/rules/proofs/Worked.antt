@@ -1,0 +1,6 @@
+-- The counts that are worked through, computed over the table.
+use mathlib.Core.Path.{refl}
+use Rattle.rules.specs.Worked.{counts, Counted}
+
+pub counted-alike : Counted counts
+counted-alike = refl
