@@ -14,3 +14,4 @@ pub mod Grammar
 pub mod Printing
 pub mod Once
 pub mod Few
+pub mod Worked

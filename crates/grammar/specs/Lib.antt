@@ -4,3 +4,4 @@ pub mod Machine
 pub mod Limits
 pub mod Derives
 pub mod Printed
+pub mod Worked

@@ -2,5 +2,5 @@
 use mathlib.Core.Path.{refl}
 use Rattle.rules.specs.Worked.{counts, Counted}
 
-pub counted-alike : Counted counts
-counted-alike = refl
+pub counted : Counted counts
+counted = refl
