@@ -9,3 +9,4 @@ pub mod Rows
 pub mod Stages
 pub mod Bounds
 pub mod Promised
+pub mod Worked

@@ -5,3 +5,4 @@ pub mod Refused
 pub mod Views
 pub mod Bounds
 pub mod Reports
+pub mod Worked

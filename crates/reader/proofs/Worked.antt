@@ -1,0 +1,17 @@
+-- The short texts that are worked through, computed over the table.
+use mathlib.Core.Path.{refl}
+use Rattle.lexer.specs.Classes.{class-of}
+use Rattle.lexer.specs.Words.{front, keywords, keyword, numeral, word-code, code}
+use Rattle.lexer.specs.Spans.{width, spans, spans-of, tokens, codes, places}
+use Rattle.lexer.specs.Scanned.{first-long, scan-of}
+use Rattle.grammar.specs.Machine.{parts, begin, expand, run, outcome}
+use Rattle.rules.specs.Heads.{reach, extent, solid-of, par-count, strong-of, head, heads}
+use Rattle.rules.specs.Kept.{fault}
+use Rattle.rules.specs.Counted.{times, total}
+use Rattle.rules.specs.Judged.{verdict}
+use Rattle.reader.specs.Answers.{read-of}
+use Rattle.reader.specs.Worked.{texts, Worked}
+
+pub worked : Worked texts
+unfolding class-of front keywords keyword numeral word-code code width spans spans-of tokens codes places first-long scan-of parts begin expand run outcome reach extent solid-of par-count strong-of head heads fault times total verdict read-of
+worked = refl
