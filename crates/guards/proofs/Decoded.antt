@@ -6,7 +6,7 @@ use native.Mathlib.Omega.{arith}
 use Rattle.process.specs.Bits.{Bits}
 use Rattle.table.specs.Fields.{guard-of, first-of, count-of, kind-of, left-of, right-of}
 use Rattle.guards.specs.Words.{bit-row, not-row, both-row, either-row, event-record}
-use Rattle.guards.proofs.Plan.{says}
+use Rattle.guards.proofs.Says.{says}
 
 pub record Fields (w kind left right : ℕ) : Type 0 where
   pub its-kind : kind-of w ≡ kind

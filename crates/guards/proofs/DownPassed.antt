@@ -11,7 +11,7 @@ use Rattle.process.proofs.Numbered.{size, Numbered}
 use Rattle.guards.specs.Words.{both-row, event-record, put-word, put-rows}
 use Rattle.guards.specs.Pieces.{Piece}
 use Rattle.guards.specs.Passes.{Down, down-words, down-with, down-step, downs}
-use Rattle.guards.proofs.Plan.{Plan, joined, up, Guards, guards, join-guards, later-may, earlier-may, down}
+use Rattle.guards.specs.Plan.{Plan, joined, up, Guards, guards, join-guards, later-may, earlier-may, down}
 use Rattle.guards.proofs.Putting.{put-rows-append, word-below-rows, rows-below-rows, set-before, set-after, set-stored}
 use Rattle.guards.proofs.Lengths.{length-two, length-three, xs-length, ys-length}
 use Rattle.guards.proofs.Within.{records-length}

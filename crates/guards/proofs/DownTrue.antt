@@ -18,8 +18,9 @@ use Rattle.process.proofs.Numbered.{Numbered, size, interval}
 use Rattle.table.specs.Fields.{guard-of}
 use Rattle.guards.specs.Words.{both-row, event-record}
 use Rattle.guards.specs.Pieces.{rounds-piece, join-piece}
+use Rattle.guards.specs.Plan.{Plan, Guards, joined, up, later-may, earlier-may, joint-words, down}
 use Rattle.guards.specs.declared.Mark.{Mark}
-use Rattle.guards.proofs.Plan.{Plan, Guards, joined, up, later-may, earlier-may, joint-words, down, says, Obeys, Marks, Below}
+use Rattle.guards.proofs.Says.{says, Obeys, Marks, Below}
 use Rattle.guards.proofs.Decoded.{both-says, record-fields}
 use Rattle.guards.proofs.Within.{obeys-split, below-more, join-length, up-below, records-length}
 use Rattle.guards.proofs.Mays.{Mays-below, mays-below}

@@ -18,8 +18,8 @@ use Rattle.process.specs.Postfix.{joint-code}
 use Rattle.guards.specs.Words.{both-row}
 use Rattle.guards.specs.Pieces.{settling, rounds-piece}
 use Rattle.guards.specs.Passes.{down-words}
+use Rattle.guards.specs.Plan.{Plan, joined, joint-words, later-may, earlier-may, up, down, middle, rows-of}
 use Rattle.guards.specs.declared.Mark.{Mark}
-use Rattle.guards.proofs.Plan.{Plan, joined, joint-words, later-may, earlier-may, up, down, middle, rows-of}
 
 -- ---- how many rows a process has
 -- 1 where no row says yet of the part that it is complete or not begun: an `or` over it writes that row.

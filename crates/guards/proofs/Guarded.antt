@@ -1,12 +1,13 @@
 -- The table that the plan of a process makes says what the process says.
-use mathlib.Core.Path.{_≡_, refl, sym, ap, _∙_}
+use mathlib.Core.Path.{_≡_, refl, sym, ap, subst, _∙_}
 use mathlib.Core.Bool.{Bool, true, false, _&&_, _||_, or-not-self}
 use mathlib.Core.List.{List, [], _∷_, _++_}
 use Prim.Native.Nat.{ℕ, suc, _+_, _-_, _≤_, _<_, _^_}
 use native.Mathlib.Nat.{zero-add}
 use native.Mathlib.Omega.{arith}
-use lib.ListN.{length, getD, take, length-append}
+use lib.ListN.{length, getD, take, replicate, length-append, length-replicate}
 use Rattle.base.specs.Fill.{fill}
+use Rattle.base.proofs.Filled.{fill-front}
 use Rattle.process.specs.Process.{Process}
 use Rattle.process.specs.Bits.{Bits, clears}
 use Rattle.process.specs.Guards.{complete, enabled}
@@ -16,7 +17,8 @@ use Rattle.table.specs.Fields.{rows, guard-of}
 use Rattle.book.specs.Tells.{Tells}
 use Rattle.guards.specs.Words.{both-row}
 use Rattle.guards.specs.Lays.{constants}
-use Rattle.guards.proofs.Plan.{up, down, Obeys, Lower, middle, rows-of, records-of, written}
+use Rattle.guards.specs.Plan.{up, down, middle, rows-of, records-of, planned}
+use Rattle.guards.proofs.Says.{Obeys, Lower}
 use Rattle.guards.proofs.Decoded.{not-says, both-says, either-says}
 use Rattle.guards.proofs.Within.{obeys-split, lower-join, up-below, records-length}
 use Rattle.guards.proofs.RowsLower.{bit-first, not-first, both-first, either-first, no-rows, up-lower, down-lower}
@@ -24,7 +26,8 @@ use Rattle.guards.proofs.RecordsKept.{Kept as Kept-record, records-kept
 use Rattle.guards.proofs.UpTrue.{up-true}
 use Rattle.guards.proofs.DownTrue.{down-true}
 use Rattle.guards.proofs.Fields.{Small}
-use Rattle.guards.proofs.Tabled.{Kept, size-of, told, head, table-length, table-left}
+use Rattle.guards.proofs.Packed.{bytes, planned-bytes, planned-length}
+use Rattle.guards.proofs.Tabled.{Kept, size-of, told, head}
 
 all-small : (rs : List ℕ) → ((i : ℕ) → i < length rs → getD rs i 0 < 2 ^ 32) → Small rs
 all-small [] f = tt
@@ -33,6 +36,13 @@ all-small (r ∷ rs) f = (f 0 (omega arith), all-small rs (λ i h. f (suc i) (om
 and-same : (b : Bool) → (b && b) ≡ b
 and-same true = refl
 and-same false = refl
+
+-- Some buffer that is long enough.
+abbrev blank : List ℕ
+blank = replicate 51204 0
+
+long : 51204 ≤ length blank
+long = omega (arith, length-replicate {A = ℕ} 51204 0)
 
 module _ (p : Process) (n : ℕ) (numbered : Numbered p 0) (its-size : size p ≡ n) (few : n ≤ 512) (rows-few : length (rows-of p) ≤ 12288) where
   -- The four parts of the rows.
@@ -117,22 +127,18 @@ module _ (p : Process) (n : ℕ) (numbered : Numbered p 0) (its-size : size p �
         let z : length (rows-of p) - 1 ≡ middle p + length (down p 3 (middle p) 2 .words) = omega (arith, total) in
         ap v z ∙ (r ∙ (both-says s v (up p 3 .mark .done) (up p 3 .mark .done) (omega (arith, b, up-few)) (omega (arith, b, up-few)) ∙ (rw (m .its-done) (and-same (complete p s)))))
 
-  module _ (lent : List ℕ) (long : 51204 ≤ length lent) where
-    -- The bytes of the table.
-    abbrev pub table : List ℕ
-    table = take (size-of n (rows-of p)) (written p n lent)
+  -- The table, over any bytes that are lent, is what the plan says.
+  front : (lent : List ℕ) → 51204 ≤ length lent → take (size-of n (rows-of p)) (bytes n (rows-of p) (records-of p) lent) ≡ planned p
+  front lent enough =
+      let l = planned-length p n its-size in
+      ap (take (size-of n (rows-of p))) (planned-bytes p n lent its-size)
+      ∙ (ap (λ (m : ℕ). take m (fill lent (planned p))) (sym l) ∙ fill-front lent (planned p) (omega (arith, l, few, rows-few, enough)))
 
-    -- They are a table that says what the process says, with so many rows, over the front of the lent bytes.
-    pub plan-tells : Tells p n table
-    plan-tells =
-        told n (rows-of p) (records-of p) lent kept long p guarded over
-        (λ e i h. rw (zero-add e) at (record-kept e h .its-bits i))
+  -- So the plan's bytes are a table that says what the process says, with so many rows.
+  pub plan-tells : Tells p n (planned p)
+  plan-tells =
+      subst (Tells p n) (front blank long)
+      (told n (rows-of p) (records-of p) blank kept long p guarded over (λ e i h. rw (zero-add e) at (record-kept e h .its-bits i)))
 
-    pub plan-rows : rows table ≡ length (rows-of p)
-    plan-rows = head n (rows-of p) (records-of p) lent kept long .1
-
-    pub plan-length : length table ≡ size-of n (rows-of p)
-    plan-length = table-length n (rows-of p) (records-of p) lent kept long
-
-    pub plan-left : written p n lent ≡ fill lent table
-    plan-left = table-left n (rows-of p) (records-of p) lent kept long
+  pub plan-rows : rows (planned p) ≡ length (rows-of p)
+  plan-rows = sym (ap rows (front blank long)) ∙ head n (rows-of p) (records-of p) blank kept long .1

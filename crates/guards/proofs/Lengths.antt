@@ -7,7 +7,7 @@ use lib.ListN.{length, length-append}
 use Rattle.process.specs.Process.{Process, event, join, again, rounds}
 use Rattle.process.specs.Postfix.{postfix, joint-code}
 use Rattle.guards.specs.Pieces.{Piece, event-piece, again-piece, rounds-piece}
-use Rattle.guards.proofs.Plan.{Plan, leaf-plan, over-plan, join-plan, joined, up}
+use Rattle.guards.specs.Plan.{Plan, leaf-plan, over-plan, join-plan, joined, up}
 
 -- A list, another, and one number more.
 pub length-three : (a b : List ℕ) (x : ℕ) → length (a ++ (b ++ (x ∷ []))) ≡ length a + length b + 1

@@ -1,4 +1,4 @@
-pub mod Plan
+pub mod Says
 pub mod Decoded
 pub mod Within
 pub mod Few
@@ -8,12 +8,12 @@ pub mod RecordsKept
 pub mod UpTrue
 pub mod DownTrue
 pub mod Putting
+pub mod Packed
 pub mod Lengths
 pub mod UpPassed
 pub mod DownPassed
 pub mod Passed
 pub mod Fields
-pub mod Rest
 pub mod Tabled
 pub mod Guarded
 pub mod Rowed

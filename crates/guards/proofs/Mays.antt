@@ -4,7 +4,7 @@ use native.Mathlib.Omega.{arith}
 use lib.ListN.{length}
 use Rattle.process.specs.Process.{Joint, seq, and, or, xor}
 use Rattle.guards.specs.Pieces.{Piece}
-use Rattle.guards.proofs.Plan.{later-may, earlier-may, joint-words}
+use Rattle.guards.specs.Plan.{later-may, earlier-may, joint-words}
 
 -- One law for the row of either part.
 pub record Mays-below (j : Joint) (k m end : ℕ) : Type 0 where

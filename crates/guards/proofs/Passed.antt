@@ -1,4 +1,4 @@
--- The table that the two passes lay out for a process is the one that its plan says.
+-- The table that the two passes lay out for a process is the one that its plan says, whatever was lent.
 use mathlib.Core.Path.{_≡_, refl, sym, ap, _∙_}
 use mathlib.Core.Bool.{true}
 use mathlib.Core.List.{List, [], _∷_, _++_}
@@ -7,6 +7,7 @@ use native.Mathlib.Omega.{arith}
 use lib.ListN.{length, length-set, getD, set, replicate, length-replicate}
 use lib.Seq.{sets}
 use borrow.Author.Tests.{le-leb}
+use Rattle.base.specs.Fill.{fill}
 use Rattle.base.proofs.Truth.{and-i}
 use Rattle.process.specs.Process.{Process}
 use Rattle.process.specs.Postfix.{postfix}
@@ -15,9 +16,10 @@ use Rattle.process.proofs.Numbered.{size, Numbered}
 use Rattle.guards.specs.Words.{both-row, put-word, put-rows}
 use Rattle.guards.specs.Passes.{Up, Down}
 use Rattle.guards.specs.Lays.{constants, base-of, up-start, down-start, first-pass, second-pass, finish, room, laid-size, laid-out}
+use Rattle.guards.specs.Plan.{up, down, middle, rows-of, records-of, planned}
 use Rattle.guards.specs.declared.Mark.{Mark}
-use Rattle.guards.proofs.Plan.{up, down, middle, rows-of, records-of, written}
 use Rattle.guards.proofs.Putting.{put-rows-append, rows-below-rows, set-stored}
+use Rattle.guards.proofs.Packed.{bytes, planned-bytes, planned-length}
 use Rattle.guards.proofs.Lengths.{length-three, xs-length, ys-length}
 use Rattle.guards.proofs.Within.{records-length}
 use Rattle.guards.proofs.UpPassed.{ups-walk, Upped, passed-up}
@@ -96,7 +98,7 @@ module _ (p : Process) (events : ℕ) (lent : List ℕ) (numbered : Numbered p 0
         (put-rows 4 0 (records-of p) (put-rows (base-of events) 3 (up p 3 .words) (put-rows (base-of events) 0 constants lent)))
     its-out = rw (mid, none-left, f .its-out, rows, out) at (g .wrote .its-out)
 
-    finished : finish events v d ≡ written p events lent
+    finished : finish events v d ≡ bytes events (rows-of p) (records-of p) lent
     finished =
         rw (done, rows-length, its-out, last)
         (ap (λ (l : List ℕ). put-word l 0 (events * 65536 + length (rows-of p)))
@@ -109,9 +111,9 @@ fits : (p : Process) (events : ℕ) (lent : List ℕ) → size p ≡ events → 
 fits p events lent e h k =
     and-i (le-leb (length (postfix p)) 1024 (omega (arith, postfix-short p))) (and-i (le-leb events 512 h) (le-leb 51204 (length lent) k))
 
--- What is laid out for a process is what its plan says, and so is the size.
+-- What is laid out for a process is what its plan says over the front of the lent bytes, and so is the size.
 pub laid-plan : (p : Process) (events : ℕ) (lent : List ℕ) → Numbered p 0 → size p ≡ events → events ≤ 512 → 51204 ≤ length lent
-    → (laid-out (postfix p) events lent ≡ written p events lent) × (laid-size (postfix p) events lent ≡ base-of events + 4 * length (rows-of p))
+    → (laid-out (postfix p) events lent ≡ fill lent (planned p)) × (laid-size (postfix p) events lent ≡ length (planned p))
 unfolding laid-out laid-size
 laid-plan p events lent n e h k =
     let b : ℕ = base-of events in
@@ -120,6 +122,6 @@ laid-plan p events lent n e h k =
     let d : Down = second-pass (postfix p) events v in
     let f : Upped b 0 (size p) (up p 3) s v = first p events lent n e h in
     let g : Downed b (down p 3 (v .rows) 2) (down-start v) d = second p events lent n e h s v refl refl refl f in (
-      rw (fits p events lent e h k) (finished p events lent n e h s v d refl refl refl f g),
-      rw (fits p events lent e h k) (ap (λ (r : ℕ). b + 4 * r) (rows-length p events lent n e h s v d refl refl refl f g)),
+      rw (fits p events lent e h k) (finished p events lent n e h s v d refl refl refl f g ∙ planned-bytes p events lent e),
+      rw (fits p events lent e h k) (ap (λ (r : ℕ). b + 4 * r) (rows-length p events lent n e h s v d refl refl refl f g) ∙ sym (planned-length p events e)),
     )

@@ -18,7 +18,7 @@ use Rattle.process.proofs.Local.{closed}
 use Rattle.table.specs.Fields.{guard-of, first-of, count-of}
 use Rattle.table.specs.Sound.{Run}
 use Rattle.guards.specs.Words.{event-record}
-use Rattle.guards.proofs.Plan.{up, down, joined, joint-words, later-may, earlier-may}
+use Rattle.guards.specs.Plan.{up, down, joined, joint-words, later-may, earlier-may}
 use Rattle.guards.proofs.Decoded.{record-fields}
 use Rattle.guards.proofs.Mays.{mays-below}
 use Rattle.guards.proofs.Within.{join-length, up-below, records-length}

@@ -12,8 +12,9 @@ use Rattle.process.proofs.Numbered.{Numbered, size}
 use Rattle.table.specs.Sound.{Row-keeps}
 use Rattle.guards.specs.Words.{bit-row, not-row, both-row, either-row}
 use Rattle.guards.specs.Pieces.{Piece, rounds-piece, both-piece, one-piece, settling, settled-row, some-piece, or-piece, join-piece}
+use Rattle.guards.specs.Plan.{up, down, joined, joint-words, later-may, earlier-may}
 use Rattle.guards.specs.declared.Mark.{Mark}
-use Rattle.guards.proofs.Plan.{up, down, joined, joint-words, later-may, earlier-may, Lower, Below}
+use Rattle.guards.proofs.Says.{Lower, Below}
 use Rattle.guards.proofs.Decoded.{Fields, bit-fields, not-fields, both-fields, either-fields}
 use Rattle.guards.proofs.Within.{lower-join, below-more, settled-below, join-length, up-below}
 use Rattle.guards.proofs.Mays.{mays-below}

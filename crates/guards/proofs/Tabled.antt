@@ -9,8 +9,6 @@ use native.Mathlib.Omega.{arith}
 use lib.Dec.{leb, ltb}
 use lib.ListN.{length, getD, take}
 use lib.Seq.{length-take-le}
-use Rattle.base.specs.Fill.{fill}
-use Rattle.base.proofs.Filled.{fill-taken}
 use Rattle.process.specs.Process.{Process}
 use Rattle.process.specs.Bits.{Bits, clears}
 use Rattle.process.specs.Guards.{complete, enabled}
@@ -23,10 +21,10 @@ use Rattle.table.proofs.Obeyed.{values-obey}
 use Rattle.book.specs.Tells.{Tells}
 use Rattle.guards.specs.Words.{put-word, put-rows}
 use Rattle.guards.specs.Lays.{base-of}
-use Rattle.guards.proofs.Plan.{says, Obeys, Lower}
-use Rattle.guards.proofs.Rest.{word-rest, rows-rest}
+use Rattle.guards.proofs.Says.{says, Obeys, Lower}
 use Rattle.guards.proofs.Fields.{field-take, word-beside, halves-back, rows-beside, Small, row-back}
 use Rattle.guards.proofs.Putting.{put-word-length, put-rows-length}
+use Rattle.guards.proofs.Packed.{bytes}
 
 lower-small : (n k : ℕ) (ws : List ℕ) → Lower n k ws → Small ws
 unfolding Lower
@@ -58,12 +56,9 @@ pub record Kept (n : ℕ) (ws rs : List ℕ) : Type 0 where
   pub records-guard : (e : ℕ) → e < n → guard-of (getD rs e 0) < length ws
   pub records-run : (e : ℕ) → e < n → Run (getD rs e 0) e
 
--- The bytes of the table.
+-- How many bytes the table has.
 abbrev pub size-of : ℕ → List ℕ → ℕ
 size-of n ws = base-of n + 4 * length ws
-
-abbrev pub bytes : ℕ → List ℕ → List ℕ → List ℕ → List ℕ
-bytes n ws rs lent = put-word (put-rows (base-of n) 0 ws (put-rows 4 0 rs lent)) 0 (n * 65536 + length ws)
 
 module _ (n : ℕ) (ws rs lent : List ℕ) (k : Kept n ws rs) (long : 51204 ≤ length lent) where
   abbrev pub t : List ℕ
@@ -116,16 +111,6 @@ module _ (n : ℕ) (ws rs lent : List ℕ) (k : Kept n ws rs) (long : 51204 ≤ 
 
   pub is-sound : sound t ≡ true
   is-sound = sound-exactly t .1 sound-sentences
-
-  -- The bytes past the table stay.
-  pub table-left : bytes n ws rs lent ≡ fill lent t
-  table-left =
-      let o = put-rows (base-of n) 0 ws (put-rows 4 0 rs lent) in
-      let m = size-of n ws in
-      sym
-      (fill-taken lent (bytes n ws rs lent) m (put-word-length o 0 (n * 65536 + length ws) ∙ inner-length)
-      (word-rest m o 0 (n * 65536 + length ws) (omega arith)
-      ∙ (rows-rest m (base-of n) 0 ws (put-rows 4 0 rs lent) (omega arith) ∙ rows-rest m 4 0 rs lent (omega (arith, k .records-length)))))
 
   -- The values of the table's rows are those of the rows that were written.
   values-right : (bits : List ℕ) → Obeys (bit-at bits) (λ i. getD (values-of t bits) i false) 0 ws

@@ -11,8 +11,8 @@ use Rattle.process.proofs.Numbered.{size, Numbered}
 use Rattle.guards.specs.Words.{put-rows}
 use Rattle.guards.specs.Pieces.{Piece, event-piece, again-piece, rounds-piece, join-piece}
 use Rattle.guards.specs.Passes.{mark-at, put-mark, Up, piece-of, up-with, up-step, ups}
+use Rattle.guards.specs.Plan.{Plan, leaf-plan, over-plan, join-plan, joined, up}
 use Rattle.guards.specs.declared.Mark.{Mark}
-use Rattle.guards.proofs.Plan.{Plan, leaf-plan, over-plan, join-plan, joined, up}
 use Rattle.guards.proofs.Putting.{put-rows-append, sets-append, set-before, set-after, set-stored}
 use Rattle.guards.proofs.Lengths.{length-two, length-three, xs-length, ys-length}
 

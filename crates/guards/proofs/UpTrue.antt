@@ -15,8 +15,9 @@ use Rattle.process.specs.Postfix.{joint-code}
 use Rattle.process.proofs.Numbered.{Numbered, size}
 use Rattle.guards.specs.Words.{bit-row, not-row, both-row, either-row}
 use Rattle.guards.specs.Pieces.{mark, event-piece, again-piece, rounds-piece, join-piece, or-piece, some-piece, settling, settled-row}
+use Rattle.guards.specs.Plan.{joined, up}
 use Rattle.guards.specs.declared.Mark.{Mark}
-use Rattle.guards.proofs.Plan.{joined, up, says, Obeys, Marks, Below}
+use Rattle.guards.proofs.Says.{says, Obeys, Marks, Below}
 use Rattle.guards.proofs.Decoded.{bit-says, not-says, both-says, either-says}
 use Rattle.guards.proofs.Within.{obeys-split, below-more, settled-below, join-length, up-below}
 

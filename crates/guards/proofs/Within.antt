@@ -13,8 +13,9 @@ use Rattle.process.specs.Bits.{Bits}
 use Rattle.process.specs.Postfix.{joint-code}
 use Rattle.process.proofs.Numbered.{Numbered, size}
 use Rattle.guards.specs.Pieces.{mark, rounds-piece, settling, settled-row, join-piece}
+use Rattle.guards.specs.Plan.{joined, up, down}
 use Rattle.guards.specs.declared.Mark.{Mark}
-use Rattle.guards.proofs.Plan.{joined, up, down, Obeys, Lower, Below}
+use Rattle.guards.proofs.Says.{Obeys, Lower, Below}
 
 -- ---- lists of rows
 -- Values that obey two lists of rows, one after the other, obey each.

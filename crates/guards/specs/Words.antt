@@ -28,3 +28,8 @@ put-word o i w = set (set (set (set o i (w / 16777216 % 256)) (i + 1) (w / 65536
 unfoldable pub put-rows : ℕ → ℕ → List ℕ → List ℕ → List ℕ
 put-rows base k [] o = o
 put-rows base k (w ∷ ws) o = put-rows base (suc k) ws (put-word o (base + 4 * k) w)
+
+-- Words one after the other, as bytes.
+unfoldable pub packed : List ℕ → List ℕ
+packed [] = []
+packed (w ∷ ws) = w / 16777216 % 256 ∷ w / 65536 % 256 ∷ w / 256 % 256 ∷ w % 256 ∷ packed ws

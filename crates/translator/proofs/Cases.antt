@@ -11,14 +11,15 @@ use Rattle.reader.specs.Accepted.{Accepted}
 use Rattle.reader.specs.Views.{Shows}
 use Rattle.reader.specs.declared.Answer.the-variants.{Done, Refused as Unread}
 use Rattle.reader.specs.declared.Out.{Out}
-use Rattle.reader.proofs.Exact.{accepted-exactly}
+use Rattle.reader.proofs.Exact.{accepted-exactly, refused-exactly}
 use Rattle.reader.proofs.Shown.{accepted-shown}
 use Rattle.process.specs.Expand.{expand}
 use Rattle.process.specs.Postfix.{postfix}
 use Rattle.guards.specs.Lays.{laid-size, laid-out}
-use Rattle.translator.specs.Translates.{Translation, refused, done, Read, Writes}
+use Rattle.translator.specs.Reports.{report}
+use Rattle.translator.specs.Translates.{Translation, refused, done, passed-on, Read, Writes}
 use Rattle.translator.specs.declared.Translated.{Translated}
-use Rattle.translator.specs.declared.Translated.the-variants.{Bytes, Refused}
+use Rattle.translator.specs.declared.Translated.the-variants.{Bytes}
 use Rattle.translator.proofs.Tables.{codes, count-is, count-fits, numbers-are, laid-written}
 
 module _ (text : List ℕ) (o : Out) (read : o ≡ read-of text) where
@@ -35,12 +36,13 @@ module _ (text : List ℕ) (o : Out) (read : o ≡ read-of text) where
 
     -- Where its table is written, the text is translated.
     pub translated : (lent : List ℕ) (n : ℕ) (left : List ℕ) (r : Translated) → 51204 ≤ length lent → Writes (o .diagram) lent n left → r ≡ Bytes n → Translation text lent r left
-    translated lent n left r long w e = done (its-tree .0) n long (its-tree .1) e (w text (its-tree .0) (its-tree .1) its-shown)
+    translated lent n left r long w e = done (its-tree .0) n long (its-tree .1) (ap report e) (w text (its-tree .0) (its-tree .1) its-shown)
 
   -- A refused text.
-  pub turned-away : (lent left : List ℕ) (r : Translated) (number place : ℕ) → 51204 ≤ length lent → o .answer ≡ Unread number place → r ≡ Refused number place
+  pub turned-away : (lent left : List ℕ) (r : Translated) (number place : ℕ) → 51204 ≤ length lent → o .answer ≡ Unread number place → r ≡ passed-on (o .answer)
       → left ≡ lent → Translation text lent r left
-  turned-away lent left r number place long told e q = refused number place long (sym (ap (λ (x : Out). x .answer) read) ∙ told) e q
+  turned-away lent left r number place long told e q =
+      refused number place long (refused-exactly text number place .0 (sym (ap (λ (x : Out). x .answer) read) ∙ told)) (ap report (e ∙ ap passed-on told)) q
 
 -- The table that the passes write over the lent bytes is the diagram's.
 module _ (g : Diagram) (lent : List ℕ) (long : 51204 ≤ length lent) where

@@ -1,7 +1,7 @@
 -- The table of an accepted text's diagram: from the nodes to the process in postfix order, and from there to the bytes.
 use mathlib.Core.Path.{_≡_, sym, ap, _∙_}
 use mathlib.Core.List.{List}
-use Prim.Native.Nat.{ℕ, _+_, _*_, _≤_}
+use Prim.Native.Nat.{ℕ, _≤_}
 use native.Mathlib.Omega.{arith}
 use lib.ListN.{length, take, replicate}
 use Rattle.base.specs.Fill.{fill}
@@ -20,11 +20,12 @@ use Rattle.expansion.specs.Walks.{Place, place, expanded}
 use Rattle.process.proofs.Short.{postfix-short}
 use Rattle.expansion.proofs.Postfixed.{expansion-exact}
 use Rattle.guards.specs.Lays.{laid-size, laid-out}
-use Rattle.guards.proofs.Plan.{rows-of, written}
+use Rattle.guards.specs.Plan.{rows-of, planned}
 use Rattle.guards.proofs.Few.{rows-few}
+use Rattle.guards.proofs.Packed.{planned-length}
 use Rattle.guards.proofs.Passed.{laid-plan}
-use Rattle.guards.proofs.Guarded.{table, plan-tells, plan-rows, plan-length, plan-left}
-use Rattle.translator.specs.Translates.{Written}
+use Rattle.guards.proofs.Guarded.{plan-tells, plan-rows}
+use Rattle.translator.specs.Translates.{Table-of, table-of, Written}
 
 -- What the walk over the nodes leaves in a column of 1,024 numbers.
 abbrev pub codes : Diagram → Place
@@ -61,27 +62,27 @@ module _ (text : List ℕ) (d : Flow) (a : Accepted text d) where
         rw count-is
         (ap (λ (p : Place). take (length (postfix (expand d))) (p .codes)) walked ∙ fill-front (replicate 1024 0) (postfix (expand d)) its-short)
 
-  -- The bytes are a table of the diagram.
-  module _ (lent : List ℕ) (long : 51204 ≤ length lent) where
-    its-plan : (laid-out (postfix (expand d)) (flow-events d) lent ≡ written (expand d) (flow-events d) lent)
-        × (laid-size (postfix (expand d)) (flow-events d) lent ≡ 4 + 4 * flow-events d + 4 * length (rows-of (expand d)))
-    its-plan = laid-plan (expand d) (flow-events d) lent its-numbers its-size (a .events) long
+  -- The bytes that are chosen are a table of the diagram.
+  its-length : length (table-of d) ≤ 51204
+  unfolding table-of
+  its-length = omega (arith, planned-length (expand d) (flow-events d) its-size, a .events, few)
 
-    pub laid-written : Written d lent (laid-size (postfix (expand d)) (flow-events d) lent) (laid-out (postfix (expand d)) (flow-events d) lent)
-    laid-written =
-        let t = table (expand d) (flow-events d) its-numbers its-size (a .events) few lent long in
-        let l = plan-length (expand d) (flow-events d) its-numbers its-size (a .events) few lent long in
-        let tells = plan-tells (expand d) (flow-events d) its-numbers its-size (a .events) few lent long in
-        record {
-          bytes = t;
-          its-count = its-plan .1 ∙ sym l;
-          its-left = its-plan .0 ∙ plan-left (expand d) (flow-events d) its-numbers its-size (a .events) few lent long;
-          fits = omega (arith, l, a .events, few, long);
-          its-table = record {
-            its-sound = tells .its-sound;
-            its-events = tells .its-events;
-            its-clears = tells .its-clears;
-            its-rows = rw (plan-rows (expand d) (flow-events d) its-numbers its-size (a .events) few lent long) (rows-few d (a .keeps .sizes));
-            its-runs = tells-play d (a .keeps) (a .events) t tells;
-          };
-        }
+  pub its-table : Table-of d (table-of d)
+  unfolding table-of
+  its-table =
+      let tells = plan-tells (expand d) (flow-events d) its-numbers its-size (a .events) few in
+      record {
+        its-sound = tells .its-sound;
+        its-events = tells .its-events;
+        its-clears = tells .its-clears;
+        its-rows = rw (plan-rows (expand d) (flow-events d) its-numbers its-size (a .events) few) (rows-few d (a .keeps .sizes));
+        its-runs = tells-play d (a .keeps) (a .events) (planned (expand d)) tells;
+      }
+
+  -- They are what is laid out, whatever was lent.
+  pub laid-written : (lent : List ℕ) → 51204 ≤ length lent
+      → Written d lent (laid-size (postfix (expand d)) (flow-events d) lent) (laid-out (postfix (expand d)) (flow-events d) lent)
+  unfolding table-of
+  laid-written lent long =
+      let plan = laid-plan (expand d) (flow-events d) lent its-numbers its-size (a .events) long in
+      record { its-count = plan .1; its-left = plan .0; fits = omega (arith, its-length, long); its-table = its-table }

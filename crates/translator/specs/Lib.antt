@@ -1,3 +1,3 @@
+pub mod Reports
 pub mod Translates
 pub mod Bounds
-pub mod Reports

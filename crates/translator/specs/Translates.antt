@@ -1,24 +1,28 @@
 -- What translation answers and leaves in the lent buffer. Document 01 leaves the choice of rows open: "Open here is a translation's choice of rows, of which soundness, the
--- row bound and property 3 hold." All else is told by equality.
+-- row bound and property 3 hold." What is chosen is a function of the diagram, never of what the buffer held, so that all is told by equality; of what is chosen, those properties.
 use mathlib.Core.Path.{_≡_}
 use mathlib.Core.Bool.{true, _&&_}
-use mathlib.Core.List.{List}
+use mathlib.Core.List.{List, [], _∷_}
 use Prim.Native.Nat.{ℕ, _+_, _*_, _≤_, _<_}
 use lib.Dec.{leb, ltb}
 use lib.ListN.{length}
 use Rattle.base.specs.Fill.{fill}
+use Rattle.base.specs.Reports.{result, refusal}
 use Rattle.diagram.specs.Tree.{Flow}
 use Rattle.diagram.specs.Count.{flow-copies, flow-events}
 use Rattle.diagram.specs.declared.Diagram.{Diagram}
-use Rattle.reader.specs.Answers.{read-of}
 use Rattle.reader.specs.Accepted.{Accepted}
+use Rattle.reader.specs.Refused.{Turned}
 use Rattle.reader.specs.Views.{Shows}
-use Rattle.reader.specs.declared.Answer.the-variants.{Refused as Unread}
+use Rattle.reader.specs.declared.Answer.{Answer}
+use Rattle.reader.specs.declared.Answer.the-variants.{Done, Refused as Unread}
 use Rattle.process.specs.Expand.{expand}
 use Rattle.process.specs.Bits.{clears}
 use Rattle.table.specs.Fields.{events, rows, event-word, first-of, count-of}
 use Rattle.table.specs.Sound.{sound}
 use Rattle.book.specs.Plays.{Plays-by-book}
+use Rattle.guards.specs.Plan.{planned}
+use Rattle.translator.specs.Reports.{report}
 use Rattle.translator.specs.declared.Translated.{Translated}
 use Rattle.translator.specs.declared.Translated.the-variants.{Bytes, Refused}
 
@@ -34,20 +38,28 @@ pub record Table-of (d : Flow) (t : List ℕ) : Type 0 where
   -- property 3
   pub its-runs : Plays-by-book d t
 
--- The table of a diagram over the front of the lent bytes, and how many bytes it has. "On success, bytes past those written stay too."
+-- The bytes that are chosen for a diagram.
+unfoldable pub table-of : Flow → List ℕ
+table-of d = planned (expand d)
+
+-- They stand over the front of the lent bytes, which has room for them, and are a table of the diagram. "On success, bytes past those written stay too."
 pub record Written (d : Flow) (lent : List ℕ) (count : ℕ) (left : List ℕ) : Type 0 where
-  pub bytes : List ℕ
-  pub its-count : count ≡ length bytes
-  pub its-left : left ≡ fill lent bytes
-  pub fits : length bytes ≤ length lent
-  pub its-table : Table-of d bytes
+  pub its-count : count ≡ length (table-of d)
+  pub its-left : left ≡ fill lent (table-of d)
+  pub fits : length (table-of d) ≤ length lent
+  pub its-table : Table-of d (table-of d)
 
 -- The answer to a text, and the lent bytes after it: number 1, "translation under 51,204", before all others; then reading's refusal, "Lent buffers and records keep their
 -- bytes"; or the table of the text's diagram.
 pub data Translation (text lent : List ℕ) (r : Translated) (left : List ℕ) : Type 0 where
-  short : length lent < 51204 → r ≡ Refused 1 0 → left ≡ lent → Translation text lent r left
-  refused : (number place : ℕ) → 51204 ≤ length lent → read-of text .answer ≡ Unread number place → r ≡ Refused number place → left ≡ lent → Translation text lent r left
-  done : (d : Flow) (count : ℕ) → 51204 ≤ length lent → Accepted text d → r ≡ Bytes count → Written d lent count left → Translation text lent r left
+  short : length lent < 51204 → report r ≡ refusal 1 0 → left ≡ lent → Translation text lent r left
+  refused : (number place : ℕ) → 51204 ≤ length lent → Turned text number place → report r ≡ refusal number place → left ≡ lent → Translation text lent r left
+  done : (d : Flow) (count : ℕ) → 51204 ≤ length lent → Accepted text d → report r ≡ result (count ∷ []) → Written d lent count left → Translation text lent r left
+
+-- Reading's refusal, passed on. Where the text was read there is none, and no byte was written.
+abbrev pub passed-on : Answer → Translated
+passed-on Done = Bytes 0
+passed-on (Unread number place) = Refused number place
 
 -- A diagram that reading a text answered: for the contract of a private function.
 pub record Read (g : Diagram) : Type 0 where

@@ -1,6 +1,7 @@
+ghost use mathlib.Core.Path.{_≡_};
 ghost use Prim.Native.Nat.{_≤_};
 ghost use lib.ListN.{length};
-ghost use Rattle.translator.specs.Translates.{Translation, Read, Writes};
+ghost use Rattle.translator.specs.Translates.{Translation, passed-on, Read, Writes};
 use diagram::Diagram;
 use reader::Answer;
 
@@ -8,6 +9,16 @@ use reader::Answer;
 pub enum Translated {
     Bytes(usize),
     Refused(u8, usize),
+}
+
+// Reading's refusal, passed on.
+fn passed_on(answer: Answer) -> Translated
+    ensures { λ r. ⌜ r ≡ passed-on answer ⌝ }
+{
+    match answer {
+        Answer::Done => Translated::Bytes(0),
+        Answer::Refused(number, place) => Translated::Refused(number, place),
+    }
 }
 
 // The table of a diagram that was read, over the front of `out`; answers how many bytes it has.
@@ -31,9 +42,9 @@ pub fn translate(text: &[u8], out: &mut [u8]) -> Translated
     }
     let o = reader::read(text);
     let answer = o.answer;
-    let Answer::Refused(number, place) = answer else {
-        let d = o.diagram;
-        return Translated::Bytes(write(d, out));
+    let Answer::Done = answer else {
+        return passed_on(answer);
     };
-    Translated::Refused(number, place)
+    let d = o.diagram;
+    Translated::Bytes(write(d, out))
 }

@@ -8,6 +8,7 @@ use Rattle.translator.proofs.translate.Tie as tie
 use Rattle.translator.proofs.translate.Reads as reads
 use Rattle.translator.proofs.translate.Lts as lts
 use Rattle.reader.proofs.read.Reads as read-reads
+use Rattle.translator.proofs.passed_on.Reads as passed-on-reads
 use Rattle.translator.proofs.write.Reads as write-reads
 
 returns : tie.Need-returns
@@ -16,11 +17,22 @@ returns c = short (omega (arith, c .if1 .taken)) refl refl
 read-requires : tie.Need-read-requires
 read-requires c κs = search needs
 
-enum-known-answer : tie.Need-enum-known-answer
-enum-known-answer c = search needs
-
 enum-told : tie.Need-enum-told
 enum-told c = search needs
+
+enum-told-2 : tie.Need-enum-told-2
+enum-told-2 c = search needs
+
+passed-on-requires : tie.Need-passed-on-requires
+passed-on-requires c κs = search needs
+
+returns-2 : tie.Need-returns-2
+returns-2 c =
+    let a = c .before .before .before .before .before .before .before .args in
+    let r = c .before .before .before .read in
+    let k = c .before .enum-told2 .given in
+    turned-away (a .text .now) (r .result) (r .ensures) (a .out .now) (a .out .now) _ (k .0 .0) (k .0 .1 .0) (omega (arith, c .before .before .before .before .if1 .left)) (k .1)
+    (c .passed-on .ensures) refl
 
 write-requires : tie.Need-write-requires
 write-requires c κs =
@@ -31,20 +43,13 @@ write-requires c κs =
 same-length : tie.Need-same-length
 same-length c = search needs
 
-returns-2 : tie.Need-returns-2
-returns-2 c =
+returns-3 : tie.Need-returns-3
+returns-3 c =
     let a = c .before .before .before .before .before .before .before .before .before .before .before .args in
     let r = c .before .before .before .before .before .before .before .read in
     let w = c .before .before .write in
     translated (a .text .now) (r .result) (r .ensures) (c .before .before .before .before .before .enum-told .given .1) (a .out .now) (w .result) (w .last .1 .0) _
     (omega (arith, c .before .before .before .before .before .before .before .before .if1 .left)) (w .ensures) refl
-
-returns-3 : tie.Need-returns-3
-returns-3 c =
-    let a = c .before .before .before .before .before .before .before .args in
-    let r = c .before .before .before .read in
-    turned-away (a .text .now) (r .result) (r .ensures) (a .out .now) (a .out .now) _ (c .before .answer .given .0 .0) (c .before .answer .given .0 .1 .0)
-    (omega (arith, c .before .before .before .before .if1 .left)) (c .before .answer .given .1) refl refl
 
 pub translate-spec : {M : Type 1} → statement M
 translate-spec =
@@ -52,9 +57,10 @@ translate-spec =
     (tie.spec
     returns
     read-requires
-    enum-known-answer
     enum-told
+    enum-told-2
+    passed-on-requires
+    returns-2
     write-requires
     same-length
-    returns-2
     returns-3)

@@ -1,20 +1,14 @@
--- What the two passes write for a process, by its parts.
-use mathlib.Core.Bool.{Bool, not, cond, _&&_, _||_}
-use mathlib.Core.Path.{_≡_}
+-- The table of a process, by its parts: the rows that each part adds, and where they stand. "Open here is a translation's choice of rows": this is the choice, and it is made
+-- from the process alone. The passes write it row by row; that it is right is proved, not read here.
 use mathlib.Core.List.{List, [], _∷_, _++_}
-use Prim.Native.Nat.{ℕ, suc, _+_, _*_, _<_, _^_}
-use lib.Dec.{eqb}
+use Prim.Native.Nat.{ℕ, suc, _+_, _*_}
 use lib.ListN.{length}
 use Rattle.process.specs.Process.{Joint, seq, and, or, xor, Process, event, join, again, rounds}
-use Rattle.process.specs.Bits.{Bits}
-use Rattle.process.specs.Guards.{begun, complete}
 use Rattle.process.specs.Postfix.{joint-code}
-use Rattle.table.specs.Fields.{kind-of, left-of, right-of}
-use Rattle.table.specs.Sound.{Row-keeps}
-use Rattle.guards.specs.Words.{both-row, put-word, put-rows}
-use Rattle.guards.specs.Pieces.{Piece, mark, event-piece, again-piece, rounds-piece, join-piece}
+use Rattle.guards.specs.Words.{both-row, packed}
+use Rattle.guards.specs.Pieces.{Piece, event-piece, again-piece, rounds-piece, join-piece}
 use Rattle.guards.specs.Passes.{down-words, down-record}
-use Rattle.guards.specs.Lays.{constants, base-of}
+use Rattle.guards.specs.Lays.{constants}
 use Rattle.guards.specs.declared.Mark.{Mark}
 
 -- ---- the first pass
@@ -98,40 +92,6 @@ down (rounds p r l) u k m =
     guards (both-row m (up p u .mark .done) ∷ down p u (suc k) m .words)
     (down p u (suc k) m .records ++ (down-record 2 k m (up p u .mark .first) r ∷ []))
 
--- ---- what rows say
--- The value of a row of word w, from the control bits and the values of the rows.
-unfoldable pub says : ℕ → Bits → (ℕ → Bool) → Bool
-says w s v =
-    cond (eqb (kind-of w) 0) (s (left-of w))
-    (cond (eqb (kind-of w) 1) (not (v (left-of w)))
-    (cond (eqb (kind-of w) 2) (v (left-of w) && v (right-of w)) (v (left-of w) || v (right-of w))))
-
--- The values are those of these rows, the first of which is row k.
-unfoldable pub Obeys : Bits → (ℕ → Bool) → ℕ → List ℕ → Type 0
-Obeys s v k [] = Unit {0}
-Obeys s v k (w ∷ ws) = (v k ≡ says w s v) × Obeys s v (suc k) ws
-
--- The rows of a mark say of a process what the bits say.
-pub record Marks (p : Process) (s : Bits) (v : ℕ → Bool) (m : Mark) : Type 0 where
-  pub its-begun : v (m .begun) ≡ begun p s
-  pub its-idle : v (m .idle) ≡ not (begun p s)
-  pub its-done : v (m .done) ≡ complete p s
-  pub its-settled : (m .settled ≡ 0 → ⊥) → v (m .settled) ≡ (complete p s || not (begun p s))
-
--- ---- what rows name
--- Each row is a word of 32 bits that keeps the sentences on rows, where there are n events; the first of them is row k.
-unfoldable pub Lower : ℕ → ℕ → List ℕ → Type 0
-Lower n k [] = Unit {0}
-Lower n k (w ∷ ws) = Row-keeps w n k × (w < 2 ^ 32) × Lower n (suc k) ws
-
--- The rows of a mark are below k, and row 0 is none of them except as "no row yet"; the first event is the part's.
-pub record Below (k first : ℕ) (m : Mark) : Type 0 where
-  pub its-begun : m .begun < k
-  pub its-idle : m .idle < k
-  pub its-done : m .done < k
-  pub its-settled : m .settled < k
-  pub its-first : m .first ≡ first
-
 -- ---- the whole table
 -- The first row of the second pass.
 abbrev pub middle : Process → ℕ
@@ -146,7 +106,6 @@ rows-of p =
 abbrev pub records-of : Process → List ℕ
 records-of p = down p 3 (middle p) 2 .records
 
--- The lent bytes with E and R, the event records and the rows.
-abbrev pub written : Process → ℕ → List ℕ → List ℕ
-written p events lent =
-    put-word (put-rows (base-of events) 0 (rows-of p) (put-rows 4 0 (records-of p) lent)) 0 (events * 65536 + length (rows-of p))
+-- "Table fields are packed most significant first: E, the number of events (16 bits); R, the number of rows (16); E event records; R rows."
+unfoldable pub planned : Process → List ℕ
+planned p = packed ((length (records-of p) * 65536 + length (rows-of p)) ∷ (records-of p ++ rows-of p))
