@@ -136,7 +136,7 @@ module _ (d : Flow) (k : Keeps d) where
   pub own-kept : (x : ℕ) → clears (expand d) x x ≡ false
   own-kept x =
       is-false (clears (expand d) x x)
-      (λ c. ⊎-elim (λ (r, none). clash c (none x)) (λ (r, first, a, b, f). let z = f x .0 c in omega arith)
+      (λ c. ⊎-elim (λ (r, none). clash c (none x)) (λ (r, b, B, a, o, f). let z = f x .0 c in omega arith)
       (event-effect d (k .sizes) x (expand-events d (k .sizes) x .0 (closed (expand d) x x c .0))))
 
   -- The record after a book: its bits are those after the events of the book.

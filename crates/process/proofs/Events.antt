@@ -1,5 +1,5 @@
--- The events of a diagram: every node copy owns an interval of numbers, a reset's body ends right before it, and a number's event is
--- the one at its place in the order.
+-- The events of a diagram: every node copy owns an interval of numbers, a reset stands right after its body and clears exactly it, and a
+-- number's event is the one at its place in the order.
 use mathlib.Core.Path.{_≡_, refl, sym, _∙_, subst}
 use mathlib.Core.Logic.{_↔_}
 use mathlib.Core.Bool.{true}
@@ -13,11 +13,11 @@ use Rattle.diagram.specs.Count.{flow-events, child-events, member-events}
 use Rattle.diagram.specs.Sizes.{flow-sized, child-sized, member-sized}
 use Rattle.process.specs.Process.{Event, Process, rounds, owns, event-of, events}
 use Rattle.process.specs.Expand.{expand, reset-of, flow-process, child-process, loop-process, member-process}
-use Rattle.process.specs.Bits.{clears}
+use Rattle.process.specs.Bodies.{first, Body, Effect}
 use Rattle.process.proofs.Numbered.{size, interval, size-events, event-at}
 use Rattle.process.proofs.Expanded.{Laid, flow-laid, child-laid, member-laid}
 use Rattle.process.proofs.Labels.{flow-marked}
-use Rattle.process.proofs.Cleared.{Effect, effect}
+use Rattle.process.proofs.Cleared.{first-lowest, effect, body-once}
 
 abbrev pub Owns-from-to : Process → ℕ → ℕ → Type 0
 Owns-from-to p lo hi = (x : ℕ) → (owns p x ≡ true) ↔ ((lo ≤ x) × (x < hi))
@@ -37,11 +37,12 @@ module _ (vs : List ℕ) (e : ℕ) where
   pub member-interval : (m : Member) → member-sized m ≡ true → Owns-from-to (member-process m vs e) e (e + member-events m)
   member-interval m h = laid-interval (member-process m vs e) e (e + member-events m) (member-laid m h vs e)
 
-  -- A loop over a flow: its body's events, and right after them its reset.
+  -- A loop over a flow: its body's events from the first one on, and right after them its reset.
   pub reset-after-body : (f : Flow) → flow-sized f ≡ true
-      → (r : ℕ) × (loop-process (inner f) vs e ≡ rounds (flow-process f vs e) r (reset-of f vs)) × Owns-from-to (flow-process f vs e) e r
+      → (loop-process (inner f) vs e ≡ rounds (flow-process f vs e) (e + flow-events f) (reset-of f vs))
+      × (first (flow-process f vs e) ≡ e) × Owns-from-to (flow-process f vs e) e (e + flow-events f)
   unfolding loop-process
-  reset-after-body f h = (e + flow-events f, refl, flow-interval f h)
+  reset-after-body f h = (refl, first-lowest (flow-process f vs e) e (flow-laid f h vs e .numbered), flow-interval f h)
 
 module _ (d : Flow) (h : flow-sized d ≡ true) where
   pub expand-laid : Laid (expand d) 0 (flow-events d)
@@ -62,6 +63,11 @@ module _ (d : Flow) (h : flow-sized d ≡ true) where
       let e = expand-laid .end in
       rw (zero-add x) at (event-at (expand d) 0 x l (expand-laid .numbered) (omega arith))
 
-  -- Taking a leaf copy clears nothing; taking a reset clears the bits of its body, which end right before it.
-  pub event-effect : (x : ℕ) → x < flow-events d → Effect (event-of (expand d) x) (clears (expand d)) 0 x
+  -- Taking a leaf copy clears nothing; taking a reset clears the bits of the events of its loop's body and no others: those from the
+  -- body's first event up to the reset.
+  pub event-effect : (x : ℕ) → x < flow-events d → Effect (expand d) x
   event-effect x k = effect (expand d) 0 x (expand-laid .numbered) (flow-marked d [] 0) (expand-events x .1 k)
+
+  -- No two loops have one reset.
+  pub one-body : (x : ℕ) (a b : Process) → Body (expand d) x a → Body (expand d) x b → a ≡ b
+  one-body x a b = body-once (expand d) 0 (expand-laid .numbered) a b x

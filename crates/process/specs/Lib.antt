@@ -2,6 +2,7 @@ pub mod Process
 pub mod Expand
 pub mod Runs
 pub mod Bits
+pub mod Bodies
 pub mod Guards
 pub mod Decide
 pub mod Once
