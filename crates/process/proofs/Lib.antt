@@ -16,6 +16,7 @@ pub mod Cleared
 pub mod Events
 pub mod Decides
 pub mod Theorem
+pub mod Occurring
 pub mod Between
 pub mod Leaves
 pub mod NoSecond
