@@ -70,7 +70,9 @@ marked-bit p ws x i w h =
 pub marked-words : (p : Process) (ws : List ℕ) (x : ℕ) → Words ws → Words (marked p ws x)
 marked-words p ws x w = cleared-words p x (set-bit ws x) 512 (set-words ws x w)
 
--- Where it does not clear its own bit, the bits after it are what the process says.
+-- Three forms of taking an event meet here. `process.specs.Bits.taking` clears what the event clears and has its own bit set whatever is
+-- cleared; `marked`, and `table.specs.Steps.taken` by the table's event record, set its bit and then clear. The last two are one
+-- (`Played.step-marks`); the first agrees with them where the event does not clear its own bit, and no event does: `own-kept` below.
 own-or-not : (own cl b : Bool) → (own ≡ true → cl ≡ false) → cond cl false (cond own true b) ≡ (own || (not cl && b))
 own-or-not true cl b f = rw (f refl)
 own-or-not false true b f = refl

@@ -1,4 +1,7 @@
--- What the control bits say of a process: whether it is begun, whether it is complete, and which of its events may be taken next.
+-- What the control bits say of a process: whether it is begun, whether it is complete, and which of its events may be taken next. This is no
+-- part of the meaning: what a whole run is, and what begins one, is said in `Runs.antt` without control bits. The theorems of
+-- `proofs/Theorem.antt` show that after events that begin a whole run the bits say what `Runs.antt` says of these events; the rows of a
+-- translated table are held against these tests.
 use mathlib.Core.Bool.{Bool, true, not, _&&_, _||_, cond}
 use Prim.Native.Nat.{ℕ}
 use Rattle.process.specs.Process.{seq, and, or, xor, Process, event, join, again, rounds, owns}
