@@ -1,11 +1,11 @@
 pub mod Sizes
 pub mod Rows
-pub mod Valued
 pub mod Events
 pub mod Sentences
-pub mod Worked
+pub mod NextRow
 pub mod Answered
 pub mod Bounds
 pub mod Laws
 pub mod Obeyed
 pub mod Promised
+pub mod Worked

@@ -5,3 +5,4 @@ pub mod Values
 pub mod Steps
 pub mod Bounds
 pub mod Reports
+pub mod Worked

@@ -7,7 +7,7 @@ use lib.ListN.{length, take, length-set}
 use Rattle.base.proofs.Truth.{clash}
 use Rattle.table.specs.Sound.{rows-sound}
 use Rattle.table.specs.Values.{row-values}
-use Rattle.table.proofs.Worked.{rows-more, row-now, worked-more}
+use Rattle.table.proofs.NextRow.{rows-more, row-now, worked-more}
 use borrow.Author.Needs.{needs}
 use native.Mathlib.Omega.{arith}
 use Rattle.table.proofs.work_out.Statement.{statement}
