@@ -2,3 +2,4 @@ pub mod Called
 pub mod Bounds
 pub mod Laws
 pub mod Promised
+pub mod Worked

@@ -6,8 +6,12 @@ use Rattle.record.specs.Bytes.{field, bytes-to}
 use Rattle.table.specs.Sound.{sized, event-sound, row-sound, events-sound, rows-sound, sound}
 use Rattle.table.specs.Values.{row-value, row-values}
 use Rattle.table.specs.Steps.{check-of, admit-of, taken, taken-or-not, step-of, finished-of, offered, offer-of}
-use Rattle.table.specs.Worked.{lines, Each}
+use Rattle.table.specs.Worked.{lines, Each, limits, Sizes}
 
 pub lines-hold : Each lines
 unfolding fill bit-at change clear-bits clear-between field bytes-to sized event-sound row-sound events-sound rows-sound sound row-value row-values check-of admit-of taken taken-or-not step-of finished-of offered offer-of
 lines-hold = (refl, refl)
+
+pub sizes-hold : Sizes limits
+unfolding field sized
+sizes-hold = refl

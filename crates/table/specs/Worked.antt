@@ -1,11 +1,13 @@
 -- One table in bytes, worked through by hand from document 01, "The run record and the table": the fields of an event record, the kinds of rows and what
 -- each call answers. Its runs: event 0, then rounds of event 1, of event 2 once or more, and of event 3, the reset, which clears bits 1 and 2.
 use mathlib.Core.Path.{_≡_}
+use mathlib.Core.Bool.{Bool, true, false}
 use mathlib.Core.List.{List, [], _∷_, _++_, map}
-use Prim.Native.Nat.{ℕ, _*_, _^_}
+use Prim.Native.Nat.{ℕ, _+_, _*_, _/_, _%_, _^_}
 use lib.ListN.{take, set, replicate}
 use Rattle.base.specs.Reports.{Report}
 use Rattle.record.specs.declared.Record.{Record}
+use Rattle.table.specs.Sound.{sized}
 use Rattle.table.specs.Steps.{check-of, step-of, finished-of, offer-of, offer-left}
 use Rattle.table.specs.Reports.{report, finish-report}
 
@@ -136,3 +138,22 @@ abbrev pub Each : List Line → Type 0
 Each ls =
     (map (λ (l : Line). answered (l .table) (l .call)) ls ≡ map (λ (l : Line). told (l .number)) ls)
     × (map (λ (l : Line). leaves (l .table) (l .call)) ls ≡ map (λ (l : Line). l .left) ls)
+
+-- "E 1 to 512, R 1 to 12,288", both sides of each limit: the size of a table of n events and m rows whose records and rows are all zeros.
+abbrev pub zeros : ℕ → ℕ → List ℕ
+zeros n m = n / 256 ∷ n % 256 ∷ m / 256 ∷ m % 256 ∷ replicate (4 * n + 4 * m) 0
+
+pub record Limit : Type 0 where
+  pub events : ℕ
+  pub rows : ℕ
+  pub fits : Bool
+
+abbrev limit : ℕ → ℕ → Bool → Limit
+limit n m fits = record { events = n; rows = m; fits = fits }
+
+abbrev pub limits : List Limit
+limits =
+    limit 0 1 false ∷ limit 1 0 false ∷ limit 1 1 true ∷ limit 512 1 true ∷ limit 513 1 false ∷ limit 1 12288 true ∷ limit 1 12289 false ∷ []
+
+abbrev pub Sizes : List Limit → Type 0
+Sizes ls = map (λ (l : Limit). sized (zeros (l .events) (l .rows))) ls ≡ map (λ (l : Limit). l .fits) ls

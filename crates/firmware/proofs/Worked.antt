@@ -1,0 +1,14 @@
+-- The table worked through by the C calls: every line, by computation.
+use mathlib.Core.Path.{refl}
+use Rattle.base.specs.Fill.{fill}
+use Rattle.record.specs.Bits.{bit-at, change, clear-bits, clear-between}
+use Rattle.record.specs.Bytes.{field, words-of, bytes-to}
+use Rattle.table.specs.Sound.{sized, event-sound, row-sound, events-sound, rows-sound, sound}
+use Rattle.table.specs.Values.{row-value, row-values}
+use Rattle.table.specs.Steps.{check-of, admit-of, taken, taken-or-not, step-of, finished-of, offered, offer-of}
+use Rattle.firmware.specs.Calls.{step-number, step-bytes, finished-number, offer-number, offer-bytes}
+use Rattle.firmware.specs.Worked.{lines, Each}
+
+pub lines-hold : Each lines
+unfolding fill bit-at change clear-bits clear-between field words-of bytes-to sized event-sound row-sound events-sound rows-sound sound row-value row-values check-of admit-of taken taken-or-not step-of finished-of offered offer-of step-number step-bytes finished-number offer-number offer-bytes
+lines-hold = (refl, refl)
