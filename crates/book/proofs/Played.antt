@@ -4,6 +4,8 @@ use mathlib.Core.Bool.{not}
 use mathlib.Core.List.{List, [], _∷_, _++_}
 use Prim.Native.Nat.{ℕ, _≤_, _<_}
 use native.Mathlib.Omega.{arith}
+use lib.Dec.{lit≤}
+use Rattle.base.specs.Reports.{Report}
 use Rattle.base.proofs.Truth.{clash}
 use Rattle.diagram.specs.Tree.{Flow}
 use Rattle.diagram.specs.Count.{flow-events}
@@ -25,10 +27,9 @@ use Rattle.table.specs.Fields.{events}
 use Rattle.table.specs.Values.{values-of, allows, ended}
 use Rattle.table.specs.Steps.{step-of, finished-of}
 use Rattle.table.specs.Bounds.{Ready, Away, unsound, bit-past, Step-answer, event-taken, step-away, past-events, guard-says-no, Finish-answer, run-finished, run-open, finished-away}
-use Rattle.table.specs.declared.Answer.{Answer}
 use Rattle.table.specs.declared.Answer.the-variants.{Done}
 use Rattle.table.specs.declared.Stepped.{Stepped}
-use Rattle.table.proofs.Bounds.{step-answered, finished-answered}
+use Rattle.table.proofs.Bounds.{refused-as, step-answered, finished-answered}
 use Rattle.table.proofs.Laws.{done-exactly, step-bit, step-words}
 use Rattle.book.specs.Calls.{Call, step, finished, stepped, told}
 use Rattle.book.specs.Marked.{marked, marked-all, record-after}
@@ -49,9 +50,9 @@ module _ (d : Flow) (k : Keeps d) (few : flow-events d ≤ 512) (t : List ℕ) (
           ap not (clear-each (record-after d book .bits) (events t) 512 (λ i l p. record-past d k book h i (rw (T .its-events) at p)));
     }
 
-    never-away : (a : Answer) → Away t (record-after d book .bits) a → ⊥
-    never-away a (unsound q s) = clash (T .its-sound) s
-    never-away a (bit-past q s y) = clash y (record-ready .its-bits)
+    never-away : (r : Report) → Away t (record-after d book .bits) r → ⊥
+    never-away r (unsound q s) = clash (T .its-sound) s
+    never-away r (bit-past q s y) = clash y (record-ready .its-bits)
 
   -- Its bits are those after the events of the book, so what the rows say of it is what the process says of them.
   record-agrees : (book : List ℕ) → Agree (owns (expand d)) (bit-at (record-after d book .bits)) (after (expand d) book)
@@ -94,18 +95,18 @@ module _ (d : Flow) (k : Keeps d) (few : flow-events d ≤ 512) (t : List ℕ) (
         begins (next-iff-enabled d k book e h .1 (l, rw (guard-says book e l) at (y .allowed))) (ap stepped done) refl,
         step-next book e done,
       )
-  step-goes book h e (step-away a q away) = absurd (never-away book h a away)
-  step-goes book h e (past-events q r l) =
+  step-goes book h e (step-away away kept) = absurd (never-away book h _ away)
+  step-goes book h e (past-events q kept r l) =
       let l′ = rw (T .its-events) at l in (
         book,
-        past (λ b. let m = next-iff-enabled d k book e h .0 b .0 in omega arith) l′ (ap (λ (s : Stepped). stepped (s .answer)) q) refl,
-        ap (λ (s : Stepped). s .after) q,
+        past (λ b. let m = next-iff-enabled d k book e h .0 b .0 in omega arith) l′ (ap stepped (refused-as 14 (lit≤ tt) _ q)) refl,
+        kept,
       )
-  step-goes book h e (guard-says-no q r l y) =
+  step-goes book h e (guard-says-no q kept r l y) =
       let l′ = rw (T .its-events) at l in (
         book,
-        below (λ b. clash (guard-says book e l′ ∙ next-iff-enabled d k book e h .0 b .1) y) l′ (ap (λ (s : Stepped). stepped (s .answer)) q) refl,
-        ap (λ (s : Stepped). s .after) q,
+        below (λ b. clash (guard-says book e l′ ∙ next-iff-enabled d k book e h .0 b .1) y) l′ (ap stepped (refused-as 15 (lit≤ tt) _ q)) refl,
+        kept,
       )
 
   -- So is what finished answers.
@@ -114,7 +115,7 @@ module _ (d : Flow) (k : Keeps d) (few : flow-events d ≤ 512) (t : List ℕ) (
   finish-goes book h (run-finished q y) =
       whole (whole-iff-complete d k book h .1 (rw (end-says book) at (y .says-so))) (ap told q) refl
   finish-goes book h (run-open q r y) = part (λ w. clash (end-says book ∙ whole-iff-complete d k book h .0 w) y) (ap told q) refl
-  finish-goes book h (finished-away a q away) = absurd (never-away book h a away)
+  finish-goes book h (finished-away away) = absurd (never-away book h _ away)
 
   -- ---- all calls
   plays-on : (calls : List Call) (book : List ℕ) → Begins (expand d) book → Admits d book calls (play t (record-after d book) calls)

@@ -1,15 +1,17 @@
 -- Property 1, for the C firmware's calls.
-use mathlib.Core.Path.{refl}
+use mathlib.Core.Path.{_≡_, refl, ap, _∙_}
 use mathlib.Core.List.{List}
 use Prim.Native.Nat.{ℕ}
 use lib.Dec.{eqb}
 use lib.ListN.{length}
-use borrow.Author.Tests.{eqb-true, eqb-false}
+use borrow.Author.Tests.{eqb-true, eqb-false, eq-eqb, ne-eqb}
 use Rattle.base.proofs.Truth.{by-cases}
+use Rattle.record.specs.Bytes.{words-of}
 use Rattle.table.specs.Steps.{offer-of}
-use Rattle.table.proofs.Bounds.{check-answered, step-answered, finished-answered, offer-answered}
-use Rattle.firmware.specs.Calls.{record-of, step-number, step-bytes, finished-number, offer-number, offer-bytes}
-use Rattle.firmware.specs.Bounds.{Step-told, step-short, stepped, Finish-told, finish-short, asked, Offer-told, offer-short, offered, checked, Told}
+use Rattle.table.proofs.Bounds.{check-answered, step-answered, finished-answered, offer-answered, only-check, only-step, only-finish, only-offer}
+use Rattle.firmware.specs.Calls.{number, record-of, check-number, step-number, step-bytes, finished-number, offer-number, offer-bytes}
+use Rattle.firmware.specs.Bounds.{Step-told, step-short, stepped, Finish-told, finish-short, asked, Offer-told, offer-short, offered, Check-told, checked, Told}
+use Rattle.firmware.proofs.Called as called
 
 step-told : (t bytes : List ℕ) (e : ℕ) → Step-told t bytes e (step-number t bytes e) (step-bytes t bytes e)
 unfolding step-number step-bytes
@@ -31,6 +33,29 @@ offer-told t bytes lent =
     by-cases (eqb (length bytes) 64)
     (λ q. offered (offer-of t (record-of bytes) lent) (eqb-true (length bytes) 64 q) (rw q) (rw q (offer-answered t (record-of bytes) lent)))
     (λ q. offer-short (rw q) (eqb-false (length bytes) 64 q) (rw q))
+
+-- ---- The other way round: what is known of a number determines it, and every byte that the call leaves.
+pub only-check-told : (t : List ℕ) (n : ℕ) → Check-told t n → n ≡ check-number t
+only-check-told t n (checked a q c) = q ∙ ap number (only-check t a c)
+
+pub only-step-told : (t bytes : List ℕ) (e n : ℕ) (after : List ℕ) → Step-told t bytes e n after
+    → (n ≡ step-number t bytes e) × (after ≡ step-bytes t bytes e)
+only-step-told t bytes e n after (step-short q h l) =
+    let p = called.step-short t bytes e (ne-eqb (length bytes) 64 h) in (q ∙ p .0, l ∙ p .1)
+only-step-told t bytes e n after (stepped s h q l a) =
+    called.step-told t bytes e (eq-eqb (length bytes) 64 h) (words-of bytes) refl s (only-step t (record-of bytes) e s a) n after q l
+
+pub only-finish-told : (t bytes : List ℕ) (n : ℕ) → Finish-told t bytes n → n ≡ finished-number t bytes
+only-finish-told t bytes n (finish-short q h) = q ∙ called.finished-short t bytes (ne-eqb (length bytes) 64 h)
+only-finish-told t bytes n (asked f h q a) =
+    q ∙ called.finished-told t bytes (eq-eqb (length bytes) 64 h) (words-of bytes) refl f f (only-finish t (record-of bytes) f a) refl
+
+pub only-offer-told : (t bytes lent : List ℕ) (n : ℕ) (after : List ℕ) → Offer-told t bytes lent n after
+    → (n ≡ offer-number t bytes lent) × (after ≡ offer-bytes t bytes lent)
+only-offer-told t bytes lent n after (offer-short q h l) =
+    let p = called.offer-short t bytes lent (ne-eqb (length bytes) 64 h) in (q ∙ p .0, l ∙ p .1)
+only-offer-told t bytes lent n after (offered a h q o) =
+    called.offer-told t bytes lent (eq-eqb (length bytes) 64 h) (words-of bytes) refl a n after (only-offer t (record-of bytes) lent a after o) q
 
 -- The answer is 0, 255 or one of the numbers 1 and 12 to 15, under its condition.
 pub calls-told : (t bytes lent : List ℕ) (e : ℕ) → Told t bytes lent e

@@ -9,6 +9,7 @@ use native.Mathlib.Nat.{mod-lt, zero-lt-suc}
 use lib.Dec.{eqb, ltb, lit<}
 use lib.ListN.{length, getD, replicate, List·getD-eq-default}
 use borrow.Author.Tests.{eq-eqb, ltb-true, ltb-false}
+use Rattle.base.specs.Reports.{Report}
 use Rattle.base.proofs.Truth.{by-cases}
 use Rattle.base.proofs.Filled.{fill-whole}
 use Rattle.record.specs.Bits.{bit-at}
@@ -18,6 +19,7 @@ use Rattle.record.specs.declared.Record.{Record}
 use Rattle.record.proofs.Bytes.{bytes-length, byte-at}
 use Rattle.record.proofs.Back.{bytes-words, words-back}
 use Rattle.table.specs.Steps.{step-of, finished-of, offer-of}
+use Rattle.table.specs.Reports.{report}
 use Rattle.table.specs.declared.Answer.{Answer}
 use Rattle.table.specs.declared.Answer.the-variants.{Done, Refused}
 use Rattle.table.specs.declared.Stepped.{Stepped}
@@ -38,20 +40,23 @@ unfolding words-of field blank-record
 blank-bytes = refl
 
 -- A refusal has a number other than 0, so 0 says that the call was done.
-away-number : (t bits : List ℕ) (a : Answer) → Away t bits a → number a ≡ 0 → ⊥
-away-number t bits a (unsound q s) z = let n : _≡_ {A = ℕ} 12 0 = sym (ap number q) ∙ z in omega (arith, n)
-away-number t bits a (bit-past q s p) z = let n : _≡_ {A = ℕ} 13 0 = sym (ap number q) ∙ z in omega (arith, n)
+abbrev told-number : Report → ℕ
+told-number r = r .number
+
+away-number : (t bits : List ℕ) (r : Report) → Away t bits r → r .number ≡ 0 → ⊥
+away-number t bits r (unsound q s) z = let n : _≡_ {A = ℕ} 12 0 = sym (ap told-number q) ∙ z in omega (arith, n)
+away-number t bits r (bit-past q s p) z = let n : _≡_ {A = ℕ} 13 0 = sym (ap told-number q) ∙ z in omega (arith, n)
 
 step-zero : (t : List ℕ) (before : Record) (e : ℕ) (s : Stepped) → Step-answer t before e s → number (s .answer) ≡ 0 → s .answer ≡ Done
 step-zero t before e s (event-taken q k) z = ap (λ (x : Stepped). x .answer) q
-step-zero t before e s (step-away a q w) z = absurd (away-number t (before .bits) a w (sym (ap (λ (x : Stepped). number (x .answer)) q) ∙ z))
-step-zero t before e s (past-events q r h) z = let n : _≡_ {A = ℕ} 14 0 = sym (ap (λ (x : Stepped). number (x .answer)) q) ∙ z in absurd (omega (arith, n))
-step-zero t before e s (guard-says-no q r h y) z = let n : _≡_ {A = ℕ} 15 0 = sym (ap (λ (x : Stepped). number (x .answer)) q) ∙ z in absurd (omega (arith, n))
+step-zero t before e s (step-away w k) z = absurd (away-number t (before .bits) (report (s .answer)) w z)
+step-zero t before e s (past-events q k r h) z = let n : _≡_ {A = ℕ} 14 0 = sym (ap told-number q) ∙ z in absurd (omega (arith, n))
+step-zero t before e s (guard-says-no q k r h y) z = let n : _≡_ {A = ℕ} 15 0 = sym (ap told-number q) ∙ z in absurd (omega (arith, n))
 
 offer-zero : (t : List ℕ) (before : Record) (lent : List ℕ) (a : Answer) (left : List ℕ) → Offer-answer t before lent a left → number a ≡ 0 → a ≡ Done
 offer-zero t before lent a left (offer-made q h r l) z = q
-offer-zero t before lent a left (buffer-short q h l) z = let n : _≡_ {A = ℕ} 1 0 = sym (ap number q) ∙ z in absurd (omega (arith, n))
-offer-zero t before lent a left (offer-away h w l) z = absurd (away-number t (before .bits) a w z)
+offer-zero t before lent a left (buffer-short q h l) z = let n : _≡_ {A = ℕ} 1 0 = sym (ap told-number q) ∙ z in absurd (omega (arith, n))
+offer-zero t before lent a left (offer-away h w l) z = absurd (away-number t (before .bits) (report a) w z)
 
 module _ (t s : List ℕ) (e : ℕ) (b : Bytes s) where
   -- The number of a step is that of the step by value of the record that the bytes hold.

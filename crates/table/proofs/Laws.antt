@@ -6,7 +6,7 @@ use mathlib.Core.Logic.{_↔_}
 use Prim.Native.Nat.{ℕ, zero, suc, _+_, _/_, _≤_, _<_}
 use native.Mathlib.Nat.{zero-div}
 use native.Mathlib.Omega.{arith}
-use lib.Dec.{leb, ltb, eqb, lit<}
+use lib.Dec.{leb, ltb, eqb, lit<, lit≤}
 use lib.ListN.{length, drop, replicate, getD-replicate}
 use borrow.Author.Tests.{ltb-true, ltb-false, leb-true, lt-ltb, le-ltb, le-leb, eqb-true, eqb-false, eq-eqb, ne-eqb}
 use Rattle.base.proofs.Truth.{by-cases, is-false, and-l, and-r, and-i, agree}
@@ -28,8 +28,8 @@ use Rattle.table.specs.declared.Stepped.{Stepped}
 use Rattle.table.proofs.Sizes.{sound-shaped}
 use Rattle.table.proofs.Events.{run-below, sound-event}
 use Rattle.table.specs.Bounds.{Ready, Takes, Ends, unsound, bit-past, Step-answer, event-taken, step-away, past-events, guard-says-no}
-use Rattle.table.proofs.Bounds.{first-look, step-answered}
-use Rattle.table.proofs.Answered.{not-done, admit-done, step-done, offer-1, finished-passed, finished-yes, finished-no}
+use Rattle.table.proofs.Bounds.{first-look, refused-step, ready-admitted, step-answered}
+use Rattle.table.proofs.Answered.{not-done, step-done, offer-1, finished-passed, finished-yes, finished-no}
 
 -- The run of bits that event e clears: from the first on, up to the end and without it.
 abbrev pub run-first : List ℕ → ℕ → ℕ
@@ -38,9 +38,6 @@ run-first t e = first-of (event-word t e)
 abbrev pub run-end : List ℕ → ℕ → ℕ
 run-end t e = first-of (event-word t e) + count-of (event-word t e)
 
-ready-admitted : (t bits : List ℕ) → Ready t bits → admit-of t bits ≡ Done
-ready-admitted t bits r = sym (admit-done t bits (r .its-table) (r .its-bits))
-
 admitted : (t bits : List ℕ) → admit-of t bits ≡ Done → Ready t bits
 admitted t bits d = first-look t bits (λ r a. r) (λ number a w. absurd (not-done number 0 (sym a ∙ d)))
 
@@ -48,10 +45,10 @@ admitted t bits d = first-look t bits (λ r a. r) (λ number a w. absurd (not-do
 by-answer {ℓ} : {P : Type ℓ} (t : List ℕ) (before : Record) (e : ℕ) (s : Stepped) → (Takes t before e → P)
     → ((number : ℕ) → refused before (Refused number 0) ≡ s → P) → Step-answer t before e s → P
 by-answer t before e s done refusal (event-taken q k) = done k
-by-answer t before e s done refusal (step-away a q (unsound p x)) = refusal 12 (sym (q ∙ ap (refused before) p))
-by-answer t before e s done refusal (step-away a q (bit-past p x y)) = refusal 13 (sym (q ∙ ap (refused before) p))
-by-answer t before e s done refusal (past-events q r h) = refusal 14 (sym q)
-by-answer t before e s done refusal (guard-says-no q r h y) = refusal 15 (sym q)
+by-answer t before e s done refusal (step-away (unsound q x) k) = refusal 12 (sym (refused-step before s 12 (lit≤ tt) q k))
+by-answer t before e s done refusal (step-away (bit-past q x y) k) = refusal 13 (sym (refused-step before s 13 (lit≤ tt) q k))
+by-answer t before e s done refusal (past-events q k r h) = refusal 14 (sym (refused-step before s 14 (lit≤ tt) q k))
+by-answer t before e s done refusal (guard-says-no q k r h y) = refusal 15 (sym (refused-step before s 15 (lit≤ tt) q k))
 
 module _ (t : List ℕ) (before : Record) (e : ℕ) where
   taken-done : Takes t before e → record { answer = Done; after = record { bits = taken t (before .bits) e } } ≡ step-of t before e
