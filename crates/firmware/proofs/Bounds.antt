@@ -1,5 +1,5 @@
 -- Property 1, for the C firmware's calls.
-use mathlib.Core.Path.{_≡_, refl, ap, _∙_}
+use mathlib.Core.Path.{_≡_, refl, sym, ap, _∙_}
 use mathlib.Core.List.{List}
 use Prim.Native.Nat.{ℕ}
 use lib.Dec.{eqb}
@@ -18,7 +18,7 @@ unfolding step-number step-bytes
 step-told t bytes e =
     by-cases (eqb (length bytes) 64)
     (λ q. stepped _ (eqb-true (length bytes) 64 q) (rw q) (rw q) (step-answered t (record-of bytes) e))
-    (λ q. step-short (rw q) (eqb-false (length bytes) 64 q) (rw q))
+    (λ q. let p = called.step-short t bytes e q in step-short (sym (p .0)) (eqb-false (length bytes) 64 q) (sym (p .1)))
 
 finish-told : (t bytes : List ℕ) → Finish-told t bytes (finished-number t bytes)
 unfolding finished-number
