@@ -17,10 +17,10 @@ fn is_record(bytes: &[u8]) -> bool
 fn number_of(answer: Answer) -> u8
     ensures { λ r. ⌜ r ≡ number answer ⌝ }
 {
-    let Answer::Refused(number, _) = answer else {
-        return 0;
-    };
-    number
+    match answer {
+        Answer::Done => 0,
+        Answer::Refused(number, _) => number,
+    }
 }
 
 // What a step leaves of a record's bytes: those of the record after it where the event was taken, and else what was there.

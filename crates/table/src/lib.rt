@@ -254,13 +254,14 @@ pub fn step(table: &[u8], before: Record, event: u64) -> Stepped
     }
 }
 
+// What a first look refuses, as the answer to the question whether a run is finished.
 fn unasked(answer: Answer) -> Finish
     ensures { λ r. ⌜ r ≡ unasked answer ⌝ }
 {
-    let Answer::Refused(number, place) = answer else {
-        return Finish::No;
-    };
-    Finish::Refused(number, place)
+    match answer {
+        Answer::Done => Finish::No,
+        Answer::Refused(number, place) => Finish::Refused(number, place),
+    }
 }
 
 // Whether the last row says yes, of a sound table and a record with no set bit at or past E.
