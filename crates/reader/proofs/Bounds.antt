@@ -1,23 +1,35 @@
 -- Property 1, for reading.
-use mathlib.Core.Path.{_≡_, ap, subst}
+use mathlib.Core.Path.{_≡_, sym, _∙_, ap, ap₂, subst}
 use mathlib.Core.Logic.{⊎-elim}
 use mathlib.Core.Bool.{true, false}
-use mathlib.Core.List.{List}
+use mathlib.Core.List.{List, [], _∷_}
 use Prim.Native.Nat.{ℕ, _+_, _≤_, _<_}
 use native.Mathlib.Omega.{arith}
 use lib.Dec.{ltb}
 use lib.ListN.{length, getD, List·getD-eq-default}
 use borrow.Author.Tests.{ltb-true, ltb-false}
+use Rattle.base.specs.Reports.{result as told-result}
 use Rattle.diagram.specs.Tree.{Flow}
+use Rattle.diagram.specs.Count.{flow-nodes, flow-copies, flow-events}
+use Rattle.diagram.specs.declared.Diagram.{Diagram}
 use Rattle.base.proofs.Truth.{cases}
 use Rattle.lexer.specs.Spans.{places}
 use Rattle.lexer.proofs.Spans.{tokens-length, places-length, places-below}
+use Rattle.rules.specs.Heads.{Head}
+use Rattle.reader.specs.Nodes.{stored}
+use Rattle.reader.specs.Accepted.{Accepted}
 use Rattle.reader.specs.Answers.{read-of}
+use Rattle.reader.specs.Reports.{report}
+use Rattle.reader.specs.Views.{Shows}
+use Rattle.reader.specs.declared.Answer.{Answer}
+use Rattle.reader.specs.declared.Answer.the-variants.{Done}
+use Rattle.reader.specs.declared.Out.{Out}
 use Rattle.reader.specs.Refused.{Derived, Turned, by-size, by-byte, by-word, by-token, by-limit, by-name, by-parameter, by-solid, by-strong, by-count}
 use Rattle.reader.specs.Bounds.{Bounded, result, refusal}
 use Rattle.reader.proofs.Laws.{same-inside}
 use Rattle.reader.proofs.Exact.{accepted-read, turned-read, Fate, taken, turned, fate}
 use Rattle.reader.proofs.Shown.{accepted-shown}
+use Rattle.reader.proofs.Told.{derived-heads}
 
 -- A token's place is in the text, and what stands for no place is at most the text's length.
 place-near : (text : List ℕ) (k none : ℕ) → none ≤ length text → getD (places text) k none ≤ length text
@@ -63,9 +75,35 @@ turned-near text c at (by-count e d h) = near text c at 11 e (omega arith) (omeg
 pub read-bounded : (text : List ℕ) → Bounded text (read-of text)
 read-bounded text = go (fate text)
   where
+    counts : (d : Flow) → Accepted text d → Shows text d (read-of text .diagram) → read-of text .answer ≡ Done
+        → report (read-of text) ≡ told-result (flow-nodes d ∷ flow-copies d ∷ flow-events d ∷ [])
+    counts d a s e = rw (e, s .count, s .copies, s .events)
+
     go : Fate text → Bounded text (read-of text)
     go (taken d a) =
-        result record { done = ap (λ o. o .answer) (accepted-read text d a); tree = d; limits = a; shown = accepted-shown text d a }
+        let e = accepted-read text d a in
+        let s = accepted-shown text d a in
+        let done = ap (λ (o : Out). o .answer) e in
+        result
+        record {
+          tree = d;
+          limits = a;
+          told = counts d a s done;
+          done = done;
+          shown = s;
+          placed =
+              ap (λ (o : Out). o .diagram) e
+              ∙ ap (λ (hs : List Head). stored (places text) hs (flow-copies d) (flow-events d)) (sym (derived-heads text d (a .derived)));
+        }
     go (turned c at t) =
         let n = turned-near text c at t in
-        refusal record { number = c; place = at; is = turned-read text c at t; low = n .low; high = n .high; near = n .close }
+        let e = turned-read text c at t in
+        refusal record { number = c; place = at; why = t; told = ap report e; is = e; low = n .low; high = n .high; near = n .close }
+
+-- And there is no other: the text alone says whether it is read, with which diagram, and else the number and the place.
+pub one-answer : (text : List ℕ) (o : Out) → Bounded text o → o ≡ read-of text
+one-answer text o (result r) =
+    ap₂ (λ (a : Answer) (g : Diagram). record { answer = a; diagram = g }) (r .done)
+    (r .placed ∙ ap (λ (hs : List Head). stored (places text) hs (flow-copies (r .tree)) (flow-events (r .tree))) (derived-heads text (r .tree) (r .limits .derived)))
+    ∙ sym (accepted-read text (r .tree) (r .limits))
+one-answer text o (refusal r) = r .is ∙ sym (turned-read text (r .number) (r .place) (r .why))

@@ -1,30 +1,44 @@
--- Property 1, for reading: "Every answer is a result within the limits or one numbered refusal with its place".
+-- Property 1, for reading: "Every answer is a result within the limits or one numbered refusal with its place". There is one such answer for each text:
+-- `reader.proofs.Bounds.one-answer`.
 use mathlib.Core.Path.{_≡_}
-use mathlib.Core.List.{List}
+use mathlib.Core.List.{List, [], _∷_}
 use Prim.Native.Nat.{ℕ, _≤_}
+use Rattle.base.specs.Reports.{result as told-result, refusal as told-refusal}
 use Rattle.diagram.specs.Tree.{Flow}
+use Rattle.diagram.specs.Count.{flow-nodes, flow-copies, flow-events}
+use Rattle.lexer.specs.Spans.{codes, places}
+use Rattle.rules.specs.Heads.{heads, name-in}
+use Rattle.reader.specs.Nodes.{stored}
 use Rattle.reader.specs.Answers.{refused}
 use Rattle.reader.specs.Accepted.{Accepted}
+use Rattle.reader.specs.Refused.{Turned}
+use Rattle.reader.specs.Reports.{report}
 use Rattle.reader.specs.Views.{Shows}
 use Rattle.reader.specs.declared.Answer.the-variants.{Done}
 use Rattle.reader.specs.declared.Out.{Out}
 
--- The nodes of a diagram within the limits, and its counts.
+-- The nodes of a diagram within the limits, and its counts; each node with its places in the text.
 pub record Result (text : List ℕ) (o : Out) : Type 0 where
-  pub done : o .answer ≡ Done
   pub tree : Flow
   pub limits : Accepted text tree
+  pub told : report o ≡ told-result (flow-nodes tree ∷ flow-copies tree ∷ flow-events tree ∷ [])
+  pub done : o .answer ≡ Done
   pub shown : Shows text tree (o .diagram)
+  pub placed : o .diagram ≡ stored (places text) (heads (name-in text (places text)) 0 0 (codes text)) (flow-copies tree) (flow-events tree)
 
--- One of the numbers 2 to 11, with a place in a text within the limits or at its end, and nothing else.
-pub record Refusal (o : Out) : Type 0 where
+-- One of the numbers 2 to 11, by its own sentence, with a place in a text within the limits or at its end, and nothing else.
+pub record Refusal (text : List ℕ) (o : Out) : Type 0 where
   pub number : ℕ
   pub place : ℕ
+  pub why : Turned text number place
+  pub told : report o ≡ told-refusal number place
   pub is : o ≡ refused number place
   pub low : 2 ≤ number
   pub high : number ≤ 11
   pub near : place ≤ 16384
 
 pub data Bounded (text : List ℕ) (o : Out) : Type 0 where
+  -- "a result within the limits"
   result : Result text o → Bounded text o
-  refusal : Refusal o → Bounded text o
+  -- "or one numbered refusal with its place"
+  refusal : Refusal text o → Bounded text o
