@@ -1,16 +1,19 @@
--- Property 1, for printing; and property 2 on the lent bytes.
-use mathlib.Core.Path.{_≡_, refl, sym, _∙_, ap, subst}
+-- Property 1, for printing.
+use mathlib.Core.Path.{_≡_, refl, sym, _∙_, ap, ap₂}
 use mathlib.Core.Logic.{⊎-elim}
 use mathlib.Core.Bool.{true, false}
-use mathlib.Core.List.{List}
+use mathlib.Core.List.{List, [], _∷_}
 use Prim.Native.Nat.{ℕ, _≤_}
 use native.Mathlib.Omega.{arith}
 use lib.Dec.{ltb}
-use lib.ListN.{length, take}
-use borrow.Author.Tests.{ltb-false, le-ltb}
+use lib.ListN.{length}
+use lib.Seq.{length-take-le}
+use borrow.Author.Tests.{ltb-true, ltb-false, lt-ltb, le-ltb}
+use Rattle.base.specs.Fill.{fill}
+use Rattle.base.specs.Reports.{Report, result as told-result, refusal as told-refusal}
 use Rattle.diagram.specs.Tree.{Flow}
 use Rattle.base.proofs.Truth.{cases}
-use Rattle.base.proofs.Filled.{fill-length, fill-front, fill-past}
+use Rattle.base.proofs.Filled.{fill-length, fill-front, fill-past, fill-taken}
 use Rattle.grammar.specs.Printed.{printed}
 use Rattle.reader.specs.Answers.{read-of}
 use Rattle.reader.specs.Accepted.{Accepted}
@@ -19,65 +22,102 @@ use Rattle.reader.specs.declared.Answer.{Answer}
 use Rattle.reader.specs.declared.Answer.the-variants.{Done, Refused as Unread}
 use Rattle.reader.specs.declared.Out.{Out}
 use Rattle.reader.proofs.Bounds.{read-bounded}
-use Rattle.reader.proofs.Exact.{accepted-read}
+use Rattle.reader.proofs.Exact.{accepted-exactly, refused-exactly}
 use Rattle.printer.specs.Prints.{print-answer, print-of, left-by}
-use Rattle.printer.specs.Bounds.{Result, Refusal, Bounded, result, refusal}
+use Rattle.printer.specs.Reports.{report}
+use Rattle.printer.specs.Bounds.{Result, Reason, short-sheet, unread, Bounded, result, refusal}
 use Rattle.printer.specs.declared.Printed.{Printed}
 use Rattle.printer.specs.declared.Printed.the-variants.{Bytes, Refused}
-use Rattle.printer.proofs.Alike.{printed-shorter, printed-accepted}
+use Rattle.printer.proofs.Alike.{printed-shorter}
+use Rattle.printer.proofs.Answered.{Answers}
 
 -- Where the buffer is long enough, the answer goes by reading's.
 long-enough : (text lent : List ℕ) → 16384 ≤ length lent → (a : Answer) → read-of text .answer ≡ a → print-of text lent ≡ print-answer text a
 unfolding print-of
 long-enough text lent h a e = rw (le-ltb (length lent) 16384 h, e)
 
+-- An accepted text is printed.
+pub accepted-prints : (text lent : List ℕ) (d : Flow) → 16384 ≤ length lent → Accepted text d → print-of text lent ≡ Bytes (length (printed text))
+accepted-prints text lent d h a = long-enough text lent h Done (accepted-exactly text .1 (d, a))
+
 too-short : (text lent : List ℕ) → ltb (length lent) 16384 ≡ true → print-of text lent ≡ Refused 1 0
 unfolding print-of
 too-short text lent e = rw e
 
-written-result : (text lent : List ℕ) (p : Printed) → 16384 ≤ length lent → length text ≤ 16384 → p ≡ Bytes (length (printed text)) → Result text lent p
-written-result text lent p h l e =
-    let few : length (printed text) ≤ 16384 = omega (arith, printed-shorter text) in
-    subst (λ (q : Printed). Result text lent q) (sym e)
-    record {
-      count = length (printed text);
-      is = refl;
-      few = few;
-      length-stays = fill-length lent (printed text);
-      front = fill-front lent (printed text) (omega arith);
-      past = fill-past lent (printed text);
-    }
+-- What an answer says tells the answer.
+bytes-told : (p : Printed) (n : ℕ) → report p ≡ told-result (n ∷ []) → p ≡ Bytes n
+bytes-told (Bytes m) n e = let q : m ∷ [] ≡ n ∷ [] = ap (λ (r : Report). r .values) e in let z : m ≡ n = cc in ap Bytes z
+bytes-told (Refused c k) n e =
+    let q : _≡_ {A = List ℕ} [] (n ∷ []) = ap (λ (r : Report). r .values) e in let z : ⊥ = omega (arith, ap length q) in absurd z
 
-refused-refusal : (text lent : List ℕ) (p : Printed) (n k : ℕ) → p ≡ Refused n k → 1 ≤ n → n ≤ 11 → k ≤ 16384 → Refusal text lent p
-refused-refusal text lent p n k e l h c =
-    subst (λ (q : Printed). Refusal text lent q) (sym e) record { number = n; place = k; is = refl; low = l; high = h; near = c; untouched = refl }
+refused-told : (p : Printed) (c k : ℕ) → report p ≡ told-refusal c k → p ≡ Refused c k
+refused-told (Bytes m) c k e =
+    let q : _≡_ {A = List ℕ} (m ∷ []) [] = ap (λ (r : Report). r .values) e in let z : ⊥ = omega (arith, ap length q) in absurd z
+refused-told (Refused d j) c k e = ap₂ Refused (ap (λ (r : Report). r .number) e) (ap (λ (r : Report). r .place) e)
 
--- "Every answer is a result within the limits or one numbered refusal with its place, which leaves lent memory untouched."
-pub print-bounded : (text lent : List ℕ) → Bounded text lent (print-of text lent)
-print-bounded text lent = ⊎-elim short enough (cases (ltb (length lent) 16384))
-  where
-    short : ltb (length lent) 16384 ≡ true → Bounded text lent (print-of text lent)
-    short q = refusal (refused-refusal text lent (print-of text lent) 1 0 (too-short text lent q) (omega arith) (omega arith) (omega arith))
+module _ (text lent : List ℕ) where
+  -- "Every answer is a result within the limits or one numbered refusal with its place, which leaves lent memory untouched."
+  written-result : (d : Flow) → 16384 ≤ length lent → Accepted text d → Bounded text lent (print-of text lent) (left-by text lent (print-of text lent))
+  written-result d h a =
+      let few : length (printed text) ≤ 16384 = omega (arith, printed-shorter text, a .short) in
+      rw (accepted-prints text lent d h a)
+      (result
+      record {
+        enough = h;
+        tree = d;
+        limits = a;
+        count = length (printed text);
+        told = refl;
+        few = few;
+        length-stays = fill-length lent (printed text);
+        front = fill-front lent (printed text) (omega arith);
+        past = fill-past lent (printed text);
+      })
 
-    by-reading : 16384 ≤ length lent → Answered text (read-of text) → Bounded text lent (print-of text lent)
-    by-reading h (read-result r) =
-        result (written-result text lent (print-of text lent) h (r .limits .short) (long-enough text lent h Done (r .done)))
-    by-reading h (read-refusal r) =
-        refusal
-        (refused-refusal text lent (print-of text lent) (r .number) (r .place)
-        (long-enough text lent h (Unread (r .number) (r .place)) (ap (λ (o : Out). o .answer) (r .is))) (omega (arith, r .low)) (r .high) (r .near))
+  refused-refusal : (c k : ℕ) → Reason text lent c k → 1 ≤ c → c ≤ 11 → k ≤ 16384 → print-of text lent ≡ Refused c k
+      → Bounded text lent (print-of text lent) (left-by text lent (print-of text lent))
+  refused-refusal c k y l u n e =
+      rw e (refusal record { number = c; place = k; why = y; told = refl; low = l; high = u; near = n; untouched = refl })
 
-    enough : ltb (length lent) 16384 ≡ false → Bounded text lent (print-of text lent)
-    enough q = by-reading (ltb-false (length lent) 16384 q) (read-bounded text)
+  pub print-bounded : Bounded text lent (print-of text lent) (left-by text lent (print-of text lent))
+  print-bounded = ⊎-elim short enough (cases (ltb (length lent) 16384))
+    where
+      short : ltb (length lent) 16384 ≡ true → Bounded text lent (print-of text lent) (left-by text lent (print-of text lent))
+      short q =
+          refused-refusal 1 0 (short-sheet (ltb-true (length lent) 16384 q) refl refl) (omega arith) (omega arith) (omega arith) (too-short text lent q)
 
--- "printing and reading again yields that diagram": the bytes that printing writes are an accepted text of the same diagram.
-pub print-then-read : (text lent : List ℕ) (d : Flow) → 16384 ≤ length lent → Accepted text d
-    → (print-of text lent ≡ Bytes (length (printed text))) × Accepted (take (length (printed text)) (left-by text lent (print-of text lent))) d
-print-then-read text lent d h a =
-    let e = long-enough text lent h Done (ap (λ (o : Out). o .answer) (accepted-read text d a)) in
-    let r = written-result text lent (print-of text lent) h (a .short) e in
-    (e, subst (λ (l : List ℕ). Accepted l d) (sym (ap (λ (p : Printed). take (length (printed text)) (left-by text lent p)) e ∙ fill-front lent (printed text) (omega (arith, printed-shorter text, a .short)))) (printed-accepted text d a))
+      by-reading : 16384 ≤ length lent → Answered text (read-of text) → Bounded text lent (print-of text lent) (left-by text lent (print-of text lent))
+      by-reading h (read-result r) = written-result (r .tree) h (r .limits)
+      by-reading h (read-refusal r) =
+          refused-refusal (r .number) (r .place) (unread h (r .why)) (omega (arith, r .low)) (r .high) (r .near)
+          (long-enough text lent h (Unread (r .number) (r .place)) (ap (λ (o : Out). o .answer) (r .is)))
+
+      enough : ltb (length lent) 16384 ≡ false → Bounded text lent (print-of text lent) (left-by text lent (print-of text lent))
+      enough q = by-reading (ltb-false (length lent) 16384 q) (read-bounded text)
+
+  -- And there is no other: text and buffer alone say the answer and every byte that is left.
+  one-result : (p : Printed) (left : List ℕ) → Result text lent p left → Answers text lent (print-of text lent) left p
+  one-result p left r =
+      let room : r .count ≤ length left = omega (arith, r .enough, r .few, r .length-stays) in
+      let n : r .count ≡ length (printed text) = sym (length-take-le (r .count) left room) ∙ ap length (r .front) in
+      let e = accepted-prints text lent (r .tree) (r .enough) (r .limits) in (
+        bytes-told p (r .count) (r .told) ∙ (ap Bytes n ∙ sym e),
+        sym (fill-taken lent left (r .count) (r .length-stays) (r .past)) ∙ (ap (fill lent) (r .front) ∙ sym (ap (left-by text lent) e)),
+      )
+
+  one-refusal : (p : Printed) (left : List ℕ) (c k : ℕ) → p ≡ Refused c k → print-of text lent ≡ Refused c k → left ≡ lent → Answers text lent (print-of text lent) left p
+  one-refusal p left c k q e u = (q ∙ sym e, u ∙ sym (ap (left-by text lent) e))
+
+  refusal-prints : (c k : ℕ) → Reason text lent c k → print-of text lent ≡ Refused c k
+  refusal-prints c k (short-sheet h a b) = too-short text lent (lt-ltb (length lent) 16384 h) ∙ sym (ap₂ Refused a b)
+  refusal-prints c k (unread h t) = long-enough text lent h (Unread c k) (refused-exactly text c k .1 t)
+
+  -- So the relation says all that the contract of `printer::print` says.
+  pub one-print : (p : Printed) (left : List ℕ) → Bounded text lent p left → Answers text lent (print-of text lent) left p
+  one-print p left (result r) = one-result p left r
+  one-print p left (refusal r) =
+      one-refusal p left (r .number) (r .place) (refused-told p (r .number) (r .place) (r .told)) (refusal-prints (r .number) (r .place) (r .why)) (r .untouched)
 
 -- Property 1 for both calls.
-pub calls-bounded : (text lent : List ℕ) → Answered text (read-of text) × Bounded text lent (print-of text lent)
+pub calls-bounded : (text lent : List ℕ) → Answered text (read-of text) × Bounded text lent (print-of text lent) (left-by text lent (print-of text lent))
 calls-bounded text lent = (read-bounded text, print-bounded text lent)

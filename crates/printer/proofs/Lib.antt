@@ -3,3 +3,4 @@ pub mod Copied
 pub mod Answered
 pub mod Bounds
 pub mod Promised
+pub mod Same

@@ -1,3 +1,4 @@
 pub mod Prints
 pub mod Bounds
 pub mod Reports
+pub mod Same
