@@ -10,7 +10,7 @@ use Rattle.reader.specs.Answers.{read-of}
 use Rattle.reader.specs.declared.Answer.{Answer}
 use Rattle.reader.specs.declared.Answer.the-variants.{Done, Refused as Unread}
 use Rattle.reader.specs.declared.Out.{Out}
-use Rattle.printer.specs.Prints.{print-answer, print-of, left-by}
+use Rattle.printer.specs.Prints.{passed-on, print-answer, print-of, left-by}
 use Rattle.printer.specs.declared.Printed.{Printed}
 use Rattle.printer.specs.declared.Printed.the-variants.{Bytes, Refused}
 
@@ -23,8 +23,8 @@ pub done-answers : (text lent out : List ℕ) (a : Answer) (n : ℕ) → a ≡ D
 done-answers text lent out a n e h k =
     subst (λ (b : Answer). Answers text lent (print-answer text b) out (Bytes n)) (sym e) (ap Bytes h, k)
 
-pub refused-answers : (text lent : List ℕ) (a : Answer) (c k : ℕ) → a ≡ Unread c k → Answers text lent (print-answer text a) lent (Refused c k)
-refused-answers text lent a c k e = subst (λ (b : Answer). Answers text lent (print-answer text b) lent (Refused c k)) (sym e) (refl, refl)
+pub refused-answers : (text lent : List ℕ) (a : Answer) (c k : ℕ) (p : Printed) → a ≡ Unread c k → p ≡ passed-on a → Answers text lent (print-answer text a) lent p
+refused-answers text lent a c k p e q = rw (q, e) (refl, refl)
 
 pub short-answers : (text lent : List ℕ) → length lent < 16384 → Answers text lent (print-of text lent) lent (Refused 1 0)
 unfolding print-of

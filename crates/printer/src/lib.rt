@@ -2,7 +2,7 @@ ghost use mathlib.Core.Path.{_≡_};
 ghost use lib.ListN.{length};
 ghost use Rattle.base.specs.Fill.{fill};
 ghost use Rattle.grammar.specs.Printed.{printed};
-ghost use Rattle.printer.specs.Prints.{print-answer, print-of, left-by};
+ghost use Rattle.printer.specs.Prints.{passed-on, print-answer, print-of, left-by};
 use reader::Answer;
 
 // How many bytes were written, or the refusal with its number and place.
@@ -26,15 +26,25 @@ fn copy(text: &[u8], out: &mut [u8]) -> usize
     n
 }
 
+// The refusal of a text that was not read, passed on.
+fn passed_on(answer: Answer) -> Printed
+    ensures { λ r. ⌜ r ≡ passed-on answer ⌝ }
+{
+    match answer {
+        Answer::Done => Printed::Bytes(0),
+        Answer::Refused(number, place) => Printed::Refused(number, place),
+    }
+}
+
 // The answer to a text by what reading it answered.
 fn print_read(text: &[u8], out: &mut [u8], answer: Answer) -> Printed
     ensures { λ r. ⌜ r ≡ print-answer (now (text .entry)) answer ⌝ }
     ensures { λ r. ⌜ now (out .exit) ≡ left-by (now (text .entry)) (now (out .entry)) (print-answer (now (text .entry)) answer) ⌝ }
 {
-    let Answer::Refused(number, place) = answer else {
-        return Printed::Bytes(copy(text, out));
+    let Answer::Done = answer else {
+        return passed_on(answer);
     };
-    Printed::Refused(number, place)
+    Printed::Bytes(copy(text, out))
 }
 
 // The text without its blanks, or the refusal: 1 for a buffer of under 16,384 bytes, and then reading's. A refused text leaves the buffer as
