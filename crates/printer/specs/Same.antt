@@ -20,7 +20,7 @@ use Rattle.printer.specs.declared.Printed.the-variants.{Bytes, Refused}
 
 -- A diagram by value without its places: a node tells where its keyword and its name stand in the text, and without the blanks they stand elsewhere.
 abbrev pub unplaced-node : Node → Node
-unplaced-node n = record { kind = n .kind; solid = n .solid; depth = n .depth; at = 0; name = 0 }
+unplaced-node n = record { kind = n .kind; solid = n .solid; strong = n .strong; depth = n .depth; at = 0; name = 0 }
 
 unfoldable pub unplaced : Diagram → Diagram
 unplaced g = record { nodes = map unplaced-node (g .nodes); count = g .count; copies = g .copies; events = g .events }
