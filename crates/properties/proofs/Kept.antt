@@ -3,20 +3,32 @@
 use mathlib.Core.Path.{_≡_, sym, _∙_, subst}
 use mathlib.Core.List.{List}
 use Prim.Native.Nat.{ℕ}
+use denote.Ref.{RefT}
 use Rattle.record.specs.declared.Record.{Record}
-use Rattle.table.specs.Steps.{step-of, finished-of}
+use Rattle.table.specs.Steps.{check-of, step-of, finished-of, offer-of, offer-left}
 use Rattle.table.specs.declared.Answer.{Answer}
 use Rattle.table.specs.declared.Finish.{Finish}
 use Rattle.table.specs.declared.Stepped.{Stepped}
 use Rattle.table.proofs.Promised as table
 use Rattle.update.specs.Updates.{answer-of, left-of}
 use Rattle.update.proofs.Promised as thin
-use Rattle.firmware.specs.Calls.{step-number, step-bytes, finished-number}
+use Rattle.firmware.specs.Calls.{check-number, step-number, step-bytes, finished-number, offer-number, offer-bytes}
 use Rattle.firmware.proofs.Promised as c
 use Rattle.translator.specs.Translates.{Translation}
 use Rattle.translator.specs.declared.Translated.{Translated}
 use Rattle.translator.proofs.Promised as translator
-use Rattle.properties.specs.Calls.{Translates, Steps, Finishes, Updates, C-steps, C-finishes}
+use Rattle.reader.specs.Answers.{read-of}
+use Rattle.reader.specs.declared.Out.{Out}
+use Rattle.reader.proofs.Promised as reader
+use Rattle.printer.specs.Prints.{print-of, left-by}
+use Rattle.printer.specs.declared.Printed.{Printed}
+use Rattle.printer.proofs.Promised as printer
+use Rattle.events.specs.Names.{Named}
+use Rattle.events.specs.Labels.{Valued}
+use Rattle.events.specs.Listing.{Listed}
+use Rattle.events.specs.declared.Label.{Label}
+use Rattle.events.proofs.Promised as events
+use Rattle.properties.specs.Calls.{Reads, Prints, Translates, Names, Values, Lists, Checks, Steps, Finishes, Offers, Updates, C-checks, C-steps, C-finishes, C-offers}
 
 pub steps-met : (t : List ℕ) (before : Record) (e : ℕ) (r : Stepped) → Steps t before e r → r ≡ step-of t before e
 steps-met t before e r m =
@@ -53,3 +65,60 @@ translates-met text lent r left m =
     let (x, y, q, k) = m .said in
     let p = translator.translate-promised (m .lifetimes) (m .args) (m .result) (m .exit) (m .promised) in
     rw (← x, ← y, ← q, ← k) p
+
+pub reads-met : (text : List ℕ) (o : Out) → Reads text o → o ≡ read-of text
+reads-met text o m =
+    let (x, q) = m .said in
+    let p = reader.read-promised (m .lifetimes) (m .args) (m .result) (m .exit) (m .promised) in
+    cc
+
+pub prints-met : (text lent : List ℕ) (p : Printed) (left : List ℕ) → Prints text lent p left
+    → (p ≡ print-of text lent) × (left ≡ left-by text lent (print-of text lent))
+prints-met text lent p left m =
+    let (x, y, q, k) = m .said in
+    let (u, v) = printer.print-promised (m .lifetimes) (m .args) (m .result) (m .exit) (m .promised) in
+    ((cc), (cc))
+
+pub names-met : (text : RefT (List ℕ)) (e : ℕ) (part : RefT (List ℕ)) → Names text e part → Named text e part
+names-met text e part m =
+    let (x, y, q) = m .said in
+    let p = events.name-promised (m .lifetimes) (m .args) (m .result) (m .exit) (m .promised) in
+    rw (← x, ← y, ← q) p
+
+pub values-met : (text : List ℕ) (e : ℕ) (l : Label) → Values text e l → Valued text e l
+values-met text e l m =
+    let (x, y, q) = m .said in
+    let p = events.values-promised (m .lifetimes) (m .args) (m .result) (m .exit) (m .promised) in
+    rw (← x, ← y, ← q) p
+
+pub lists-met : (text lent : List ℕ) (n : ℕ) (left : List ℕ) → Lists text lent n left → Listed text lent n left
+lists-met text lent n left m =
+    let (x, y, q, k) = m .said in
+    let p = events.list-promised (m .lifetimes) (m .args) (m .result) (m .exit) (m .promised) in
+    rw (← x, ← y, ← q, ← k) p
+
+pub checks-met : (t : List ℕ) (a : Answer) → Checks t a → a ≡ check-of t
+checks-met t a m =
+    let (x, q) = m .said in
+    let p = table.check-promised (m .lifetimes) (m .args) (m .result) (m .exit) (m .promised) in
+    cc
+
+pub offers-met : (t : List ℕ) (before : Record) (lent : List ℕ) (a : Answer) (left : List ℕ) → Offers t before lent a left
+    → (a ≡ offer-of t before lent) × (left ≡ offer-left t before lent (offer-of t before lent))
+offers-met t before lent a left m =
+    let (x, y, z, q, k) = m .said in
+    let (u, v) = table.offer-promised (m .lifetimes) (m .args) (m .result) (m .exit) (m .promised) in
+    ((cc), (cc))
+
+pub c-checks-met : (t : List ℕ) (n : ℕ) → C-checks t n → n ≡ check-number t
+c-checks-met t n m =
+    let (x, q) = m .said in
+    let p = c.check-promised (m .lifetimes) (m .args) (m .result) (m .exit) (m .promised) in
+    cc
+
+pub c-offers-met : (t bytes lent : List ℕ) (n : ℕ) (left : List ℕ) → C-offers t bytes lent n left
+    → (n ≡ offer-number t bytes lent) × (left ≡ offer-bytes t bytes lent)
+c-offers-met t bytes lent n left m =
+    let (x, y, z, q, k) = m .said in
+    let (u, v) = c.offer-promised (m .lifetimes) (m .args) (m .result) (m .exit) (m .promised) in
+    ((cc), (cc))

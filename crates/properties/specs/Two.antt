@@ -1,0 +1,44 @@
+-- Property 2, over the calls read and print: "A text is accepted exactly if the grammar with its rules and limits derives it; its diagram is the one derived;
+-- printing and reading again yields that diagram; two accepted texts print alike exactly if their diagrams are equal."
+use mathlib.Core.Path.{_≡_}
+use mathlib.Core.Logic.{_↔_}
+use mathlib.Core.List.{List, [], _∷_}
+use Prim.Native.Nat.{ℕ, _≤_}
+use lib.ListN.{length}
+use Rattle.base.specs.Reports.{result}
+use Rattle.diagram.specs.Tree.{Flow}
+use Rattle.reader.specs.Accepted.{Accepted}
+use Rattle.reader.specs.Refused.{Turned}
+use Rattle.reader.specs.Views.{Shows, Shows-only}
+use Rattle.reader.specs.declared.Answer.the-variants.{Done, Refused}
+use Rattle.reader.specs.declared.Out.{Out}
+use Rattle.printer.specs.Reports.{report}
+use Rattle.printer.specs.Same.{Same, written}
+use Rattle.printer.specs.declared.Printed.{Printed}
+use Rattle.properties.specs.Calls.{Reads, Prints}
+
+-- An accepted text that was printed into a buffer that is long enough: the answer, and the bytes that were left.
+pub record Printing (text : List ℕ) (d : Flow) (p : Printed) (left : List ℕ) : Type 0 where
+  pub accepted : Accepted text d
+  pub lent : List ℕ
+  pub enough : 16384 ≤ length lent
+  pub printing : Prints text lent p left
+
+-- What was written, read again, is done, with the same diagram: the same nodes and counts, places aside, and the same names at those places; both show the one
+-- tree.
+pub record Again (text : List ℕ) (d : Flow) (p : Printed) (left : List ℕ) (o again : Out) : Type 0 where
+  pub told : report p ≡ result (length (written p left) ∷ [])
+  pub done : again .answer ≡ Done
+  pub same : Same (written p left) (again .diagram) text (o .diagram)
+  pub shows : Shows text d (o .diagram)
+  pub shows-again : Shows (written p left) d (again .diagram)
+
+pub record Property-2 : Type 0 where
+  pub accepted-exactly : (text : List ℕ) (o : Out) → Reads text o → (o .answer ≡ Done) ↔ ((d : Flow) × Accepted text d)
+  -- and else it is turned away, by the sentence of one number
+  pub refused-exactly : (text : List ℕ) (o : Out) → Reads text o → (number place : ℕ) → (o .answer ≡ Refused number place) ↔ Turned text number place
+  pub the-one-derived : (text : List ℕ) (o : Out) → Reads text o → (d : Flow) → Accepted text d → Shows-only text d (o .diagram)
+  pub read-again : (text : List ℕ) (d : Flow) (p : Printed) (left : List ℕ) → Printing text d p left
+      → (o again : Out) → Reads text o → Reads (written p left) again → Again text d p left o again
+  pub print-alike : (s t : List ℕ) (d e : Flow) (p q : Printed) (left other : List ℕ) → Printing s d p left → Printing t e q other
+      → (written p left ≡ written q other) ↔ (d ≡ e)
