@@ -17,7 +17,7 @@ use Rattle.labels.specs.declared.Step.{Step}
 use Rattle.labels.specs.declared.Step.the-variants.{Go, Found}
 use Rattle.labels.specs.Values.{push}
 use Rattle.labels.specs.Rows.{Row, Columns, row, rows}
-use Rattle.labels.specs.Weights.{sum, product, parts, resets, weight, weighed}
+use Rattle.labels.specs.Weights.{sum-mod, product-mod, parts, resets, weight, weighed}
 use Rattle.labels.specs.Seeks.{next, entered, found, inside, turn, onward, nowhere, seek}
 use Rattle.labels.proofs.Rowed.{rows-some, rows-none, next-weight, next-place}
 
@@ -139,7 +139,7 @@ module _ (c : Columns) (ws : List ℕ) (d n j end : ℕ) where
   parts-done h = rw (rows-none c ws j end h)
 
   pub parts-add : (e w : ℕ) → e ≡ getD (c .depths) j 0 → j < end → d < e → e - d ≡ 1 → w ≡ getD ws j 0
-      → parts d (sum n w) (rows c ws (j + 1) (end - (j + 1))) ≡ parts d n (rows c ws j (end - j))
+      → parts d (sum-mod n w) (rows c ws (j + 1) (end - (j + 1))) ≡ parts d n (rows c ws j (end - j))
   unfolding parts
   parts-add e w q h l o g =
       rw (rows-some c ws j end h, add-one j, lt-leb (getD (c .depths) j 0) d (omega arith), eq-eqb (getD (c .depths) j 0) (suc d) (omega arith), g)
@@ -170,7 +170,7 @@ module _ (r : Row) (rs : List Row) where
   unfolding weight
   weight-leaf k = rw k
 
-  pub weight-loop : (n m : ℕ) → r .kind ≡ 1 → n ≡ parts (r .depth) 0 rs → m ≡ resets rs → sum n m ≡ weight r rs
+  pub weight-loop : (n m : ℕ) → r .kind ≡ 1 → n ≡ parts (r .depth) 0 rs → m ≡ resets rs → sum-mod n m ≡ weight r rs
   unfolding weight
   weight-loop n m k p q = rw (k, p, q)
 
@@ -179,7 +179,7 @@ module _ (r : Row) (rs : List Row) where
   weight-parts n size k m q z p = rw (ne-eqb (r .kind) 0 k, ne-eqb (r .kind) 1 m, eq-eqb (r .size) 0 (sym q ∙ z)) p
 
   pub weight-copies : (n size : ℕ) → (r .kind ≡ 0 → ⊥) → (r .kind ≡ 1 → ⊥) → size ≡ r .size → (size ≡ 0 → ⊥) → n ≡ parts (r .depth) 0 rs
-      → product size n ≡ weight r rs
+      → product-mod size n ≡ weight r rs
   unfolding weight
   weight-copies n size k m q z p = rw (ne-eqb (r .kind) 0 k, ne-eqb (r .kind) 1 m, ne-eqb (r .size) 0 (λ e. z (q ∙ e)), q, p)
 

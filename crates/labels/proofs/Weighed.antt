@@ -18,12 +18,12 @@ use Rattle.rules.proofs.Headed.{flow-node, copy-node}
 use Rattle.rules.proofs.Trees.{group-code, replicator-code, simple, flow-heads, children-heads, child-heads, member-heads, members-heads}
 use Rattle.reader.specs.Nodes.{kind-of, node-of}
 use Rattle.labels.specs.Rows.{Row, node-row}
-use Rattle.labels.specs.Weights.{sum, product, parts, resets, weight, weigh}
+use Rattle.labels.specs.Weights.{sum-mod, product-mod, parts, resets, weight, weigh}
 use Rattle.labels.specs.Seeks.{next as after}
 use Rattle.labels.proofs.Deep.{Deep, done, deeper, Tree, tree, first-depth, tree-first, child-tree, member-tree, children-first, members-first}
 
 -- Small sums and products are themselves.
-sum-small : (m n : ℕ) → m + n < 1024 → sum m n ≡ m + n
+sum-small : (m n : ℕ) → m + n < 1024 → sum-mod m n ≡ m + n
 sum-small m n h = let e : n < 1024 = omega arith in rw (mod-eq-of-lt e) (mod-eq-of-lt h)
 
 -- The events that the first of some rows has.
@@ -54,7 +54,7 @@ weight-parts {r} rs j =
     let p = j .parted in
     rw (ne-eqb (r .kind) 0 (λ e. omega arith), ne-eqb (r .kind) 1 (λ e. omega arith), eq-eqb (r .size) 0 (j .sized))
 
-weight-copies : {r : Row} {size : ℕ} (rs : List Row) → Joins r size → 1 ≤ size → weight r rs ≡ product size (parts (r .depth) 0 rs)
+weight-copies : {r : Row} {size : ℕ} (rs : List Row) → Joins r size → 1 ≤ size → weight r rs ≡ product-mod size (parts (r .depth) 0 rs)
 unfolding weight
 weight-copies {r} {size} rs j h =
     let p = j .parted in
@@ -72,7 +72,7 @@ module _ (ps : List ℕ) where
   parts-past d n (deeper {h = h} l p) = rw (lt-leb (h .depth) d (omega arith), ne-eqb (h .depth) (suc d) (λ e. omega arith)) (parts-past d n p)
 
   -- One part more.
-  parts-one : (d n : ℕ) {hs more : List Head} → Tree (suc d) hs more → parts d n (weigh (rows-of hs)) ≡ parts d (sum n (first-weight (rows-of hs))) (weigh (rows-of more))
+  parts-one : (d n : ℕ) {hs more : List Head} → Tree (suc d) hs more → parts d n (weigh (rows-of hs)) ≡ parts d (sum-mod n (first-weight (rows-of hs))) (weigh (rows-of more))
   unfolding parts weigh head-row node-of
   parts-one d n (tree {h = h} e p) = rw (e, lt-leb (suc d) d (omega arith), eq-eqb (suc d) (suc d) refl) (parts-past d _ p)
 
@@ -147,7 +147,7 @@ module _ (ps : List ℕ) where
     child-weighed (plain m) b d k more stop ok few = member-weighed m b d k more stop ok few
     child-weighed (loop m) b d k more stop ok few =
         let less : member-events m < 1024 = omega (arith, loop-more m) in
-        ap (λ (n : ℕ). sum n (resets (weigh (rows-of (member-heads m false (suc d) (k + 2) more))))) (lone-part m d (k + 2) more stop less (member-weighed m false (suc d) (k + 2) more (omega arith) ok less))
+        ap (λ (n : ℕ). sum-mod n (resets (weigh (rows-of (member-heads m false (suc d) (k + 2) more))))) (lone-part m d (k + 2) more stop less (member-weighed m false (suc d) (k + 2) more (omega arith) ok less))
         ∙ (sum-small (member-events m) _ (omega (arith, member-resets m (suc d) (k + 2) more)) ∙ member-resets m (suc d) (k + 2) more)
     child-weighed (group y a e ms) b d k more stop ok few =
         let both = and-r (member-sized a) (member-sized e && members-sized ms) ok in
@@ -167,7 +167,7 @@ module _ (ps : List ℕ) where
         let some = leb-true 1 size (and-l (leb 1 size) (leb size 16) (and-l (leb 1 size && leb size 16) (member-sized m) ok)) in
         let less = copies-more size (member-events m) some in
         weight-copies _ (replicator-row y par size b d k) some
-        ∙ (ap (product size) (lone-part m d (k + 7) more stop (omega arith)
+        ∙ (ap (product-mod size) (lone-part m d (k + 7) more stop (omega arith)
         (member-weighed m false (suc d) (k + 7) more (omega arith) (and-r (leb 1 size && leb size 16) (member-sized m) ok) (omega arith))) ∙ mod-eq-of-lt few)
 
     pub member-weighed : (m : Member) (b : Bool) (d k : ℕ) (more : List Head) → first-depth more ≤ d → member-sized m ≡ true → member-events m < 1024

@@ -6,17 +6,17 @@ use lib.Dec.{eqb, leb}
 use lib.ListN.{set}
 use Rattle.labels.specs.Rows.{Row, Columns, row, rows}
 
--- Sums and products as the code has them. A drawing that is read has at most 512 events, so none of them comes to 1,024.
-abbrev pub sum : ℕ → ℕ → ℕ
-sum m n = (m + n % 1024) % 1024
+-- Sums and products modulo 1,024, as the code has them. A drawing that is read has at most 512 events, so none of them comes to 1,024.
+abbrev pub sum-mod : ℕ → ℕ → ℕ
+sum-mod m n = (m + n % 1024) % 1024
 
-abbrev pub product : ℕ → ℕ → ℕ
-product m n = (m * n) % 1024
+abbrev pub product-mod : ℕ → ℕ → ℕ
+product-mod m n = (m * n) % 1024
 
 -- n and the events of the nodes one deeper than d, of those at the front that are deeper than d: the parts of a node of depth d.
 unfoldable pub parts : ℕ → ℕ → List Row → ℕ
 parts d n [] = n
-parts d n (r ∷ rs) = cond (leb (r .depth) d) n (parts d (cond (eqb (r .depth) (suc d)) (sum n (r .weight)) n) rs)
+parts d n (r ∷ rs) = cond (leb (r .depth) d) n (parts d (cond (eqb (r .depth) (suc d)) (sum-mod n (r .weight)) n) rs)
 
 -- A loop has a reset if its member, the node after it, is no leaf.
 abbrev pub resets : List Row → ℕ
@@ -27,8 +27,8 @@ resets (r ∷ rs) = cond (eqb (r .kind) 0) 0 1
 unfoldable pub weight : Row → List Row → ℕ
 weight r rs =
     cond (eqb (r .kind) 0) 1
-    (cond (eqb (r .kind) 1) (sum (parts (r .depth) 0 rs) (resets rs))
-    (cond (eqb (r .size) 0) (parts (r .depth) 0 rs) (product (r .size) (parts (r .depth) 0 rs))))
+    (cond (eqb (r .kind) 1) (sum-mod (parts (r .depth) 0 rs) (resets rs))
+    (cond (eqb (r .size) 0) (parts (r .depth) 0 rs) (product-mod (r .size) (parts (r .depth) 0 rs))))
 
 -- The nodes, each with its events.
 abbrev pub with-weight : Row → ℕ → Row
