@@ -1,6 +1,7 @@
 -- Property 1 for names, values and listings, and that a call has one answer.
-use mathlib.Core.Path.{_≡_, refl, sym, ap, _∙_}
+use mathlib.Core.Path.{_≡_, refl, sym, ap, ap₂, _∙_}
 use mathlib.Core.Logic.{_⊎_, inl, inr, ⊎-elim}
+use mathlib.Core.Bool.{Bool, true, false, cond}
 use mathlib.Core.List.{List, [], _∷_}
 use Prim.Native.Nat.{ℕ, zero, suc, _+_, _≤_, _<_}
 use native.Mathlib.Omega.{arith}
@@ -8,21 +9,26 @@ use denote.Ref.{RefT, now}
 use lib.Dec.{ltb}
 use lib.ListN.{length, getD, take, drop, length-drop, length-take}
 use lib.Seq.{length-take-le}
-use borrow.Author.Tests.{ltb-true, ltb-false}
+use borrow.Author.Tests.{ltb-true, ltb-false, lt-ltb, le-ltb}
 use Rattle.base.specs.Fill.{fill}
+use Rattle.base.specs.Reports.{Report, result as told-result, refusal as told-refusal}
 use Rattle.base.proofs.Filled.{fill-length, fill-past}
 use Rattle.base.proofs.Truth.{by-cases}
 use Rattle.diagram.specs.Count.{flow-events}
 use Rattle.process.specs.Process.{Event, event-of}
 use Rattle.process.specs.Expand.{expand}
-use Rattle.labels.specs.Values.{packed}
+use Rattle.reader.proofs.Exact.{refused-exactly}
+use Rattle.labels.specs.Values.{values, packed}
+use Rattle.labels.specs.declared.Values.{Values}
 use Rattle.labels.proofs.Stood.{one-place}
 use Rattle.events.specs.Reading.{Reading, drawing, away}
 use Rattle.events.specs.Labels.{label, label-of, Valued}
 use Rattle.events.specs.Names.{name-of, Placed, Named}
 use Rattle.events.specs.Listing.{listing, Listed}
-use Rattle.events.specs.Bounds.{Name-bounded, Within, Values-bounded, leaf, reset, refusal, List-bounded}
+use Rattle.events.specs.Reports.{marked, event-marked, report}
+use Rattle.events.specs.Bounds.{Name-bounded, Within, Reason, unread, no-event, Values-bounded, result, refusal, List-bounded}
 use Rattle.events.specs.declared.Label.{Label}
+use Rattle.events.specs.declared.Label.the-variants.{Leaf, Reset, Refused}
 use Rattle.events.proofs.Read.{Same, same-drawing, same-away, one-reading, one-listing}
 use Rattle.events.proofs.Short.{Each, Small, Short}
 use Rattle.events.proofs.Bound.{near, listing-short}
@@ -62,22 +68,88 @@ packed-within l s = record {
   third-small = value-small (l .values) 2 (s .small);
 }
 
-label-bounded : (l : Event) (r : Label) → Short l → r ≡ label l → Values-bounded r
-label-bounded l r s q =
-    by-cases (l .reset)
-    (λ t. reset (packed (l .values)) (q ∙ rw t) (packed-within l s))
-    (λ t. leaf (packed (l .values)) (q ∙ rw t) (packed-within l s))
+label-report : (l : Event) → report (label l) ≡ told-result (event-marked l)
+label-report l = by-cases (l .reset) (λ t. rw t) (λ t. rw t)
 
-reading-bounded : {text : List ℕ} (w : Reading text) (e : ℕ) (r : Label) → r ≡ label-of w e → Values-bounded r
+reading-bounded : {text : List ℕ} (w : Reading text) (e : ℕ) (r : Label) → r ≡ label-of w e → Values-bounded text e r
 unfolding label-of
 reading-bounded {text} (drawing d a) e r q =
     by-cases (ltb e (flow-events d))
-    (λ t. label-bounded (event-of (expand d) e) r (short-at text d a e (ltb-true e (flow-events d) t)) (q ∙ rw t))
-    (λ t. refusal 14 0 (q ∙ rw t) (inr refl) (omega arith))
-reading-bounded {text} (away number place h) e r q = let n = near text number place h in refusal number place q (inl (n .0, n .1)) (n .2)
+    (λ t.
+    let h = ltb-true e (flow-events d) t in
+    let l = event-of (expand d) e in
+    let its : r ≡ label l = q ∙ rw t in
+    result record { tree = d; limits = a; below = h; told = ap report its ∙ label-report l; within = packed-within l (short-at text d a e h) })
+    (λ t.
+    let its : r ≡ Refused 14 0 = q ∙ rw t in
+    refusal
+    record {
+      number = 14;
+      place = 0;
+      why = no-event d a (ltb-false e (flow-events d) t) refl refl;
+      told = ap report its;
+      one-of = inr refl;
+      near = omega arith;
+    })
+reading-bounded {text} (away number place h) e r q =
+    let n = near text number place h in
+    refusal
+    record {
+      number = number;
+      place = place;
+      why = unread (refused-exactly text number place .0 h);
+      told = ap report q;
+      one-of = inl (n .0, n .1);
+      near = n .2;
+    }
 
-pub values-bounded : (text : List ℕ) (e : ℕ) (r : Label) → Valued text e r → Values-bounded r
+pub values-bounded : (text : List ℕ) (e : ℕ) (r : Label) → Valued text e r → Values-bounded text e r
 values-bounded text e r v = reading-bounded (v .reading) e r (v .its-label)
+
+-- What an answer says tells the answer.
+same-values : (m n : ℕ) (v w : Values) → marked m v ≡ marked n w → (m ≡ n) × (v ≡ w)
+same-values m n v w e =
+    let a : m ≡ n = cc in
+    let b : v .count ≡ w .count = cc in
+    let c : v .first ≡ w .first = cc in
+    let d : v .second ≡ w .second = cc in
+    let f : v .third ≡ w .third = cc in
+    let q : values (v .count) (v .first) (v .second) (v .third) ≡ values (w .count) (w .first) (w .second) (w .third) = rw (b, c, d, f) in
+    (a, q)
+
+leaf-told : (v w : Values) (b : Bool) → marked 0 v ≡ marked (cond b 1 0) w → Leaf v ≡ cond b (Reset w) (Leaf w)
+leaf-told v w true e = let n = same-values 0 1 v w e .0 in let z : ⊥ = omega arith in absurd z
+leaf-told v w false e = ap Leaf (same-values 0 0 v w e .1)
+
+reset-told : (v w : Values) (b : Bool) → marked 1 v ≡ marked (cond b 1 0) w → Reset v ≡ cond b (Reset w) (Leaf w)
+reset-told v w true e = ap Reset (same-values 1 1 v w e .1)
+reset-told v w false e = let n = same-values 1 0 v w e .0 in let z : ⊥ = omega arith in absurd z
+
+event-told : (r : Label) (l : Event) → report r ≡ told-result (event-marked l) → r ≡ label l
+event-told (Leaf v) l e = leaf-told v (packed (l .values)) (l .reset) (ap (λ (x : Report). x .values) e)
+event-told (Reset v) l e = reset-told v (packed (l .values)) (l .reset) (ap (λ (x : Report). x .values) e)
+event-told (Refused c k) l e = let n = ap (λ (x : Report). length (x .values)) e in let z : ⊥ = omega arith in absurd z
+
+refused-told : (r : Label) (c k : ℕ) → report r ≡ told-refusal c k → r ≡ Refused c k
+refused-told (Leaf v) c k e = let n = ap (λ (x : Report). length (x .values)) e in let z : ⊥ = omega arith in absurd z
+refused-told (Reset v) c k e = let n = ap (λ (x : Report). length (x .values)) e in let z : ⊥ = omega arith in absurd z
+refused-told (Refused d j) c k e = ap₂ Refused (ap (λ (x : Report). x .number) e) (ap (λ (x : Report). x .place) e)
+
+-- And there is no other: the relation says all that the contract of `events::values` says.
+refusal-valued : (text : List ℕ) (e : ℕ) (r : Label) (c k : ℕ) → r ≡ Refused c k → Reason text e c k → Valued text e r
+unfolding label-of
+refusal-valued text e r c k q (unread t) = record { reading = away c k (refused-exactly text c k .1 t); its-label = q }
+refusal-valued text e r c k q (no-event d a h x y) =
+    record { reading = drawing d a; its-label = q ∙ (ap₂ Refused x y ∙ rw (le-ltb e (flow-events d) h)) }
+
+pub one-values : (text : List ℕ) (e : ℕ) (r : Label) → Values-bounded text e r → Valued text e r
+unfolding label-of
+one-values text e r (result v) =
+    record {
+      reading = drawing (v .tree) (v .limits);
+      its-label = event-told r (event-of (expand (v .tree)) e) (v .told) ∙ rw (lt-ltb e (flow-events (v .tree)) (v .below));
+    }
+one-values text e r (refusal v) = refusal-valued text e r (v .number) (v .place) (refused-told r (v .number) (v .place) (v .told)) (v .why)
 
 -- The name.
 name-short : {text : List ℕ} (w : Reading text) (e : ℕ) → length (name-of w e) ≤ 24

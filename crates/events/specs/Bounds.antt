@@ -6,12 +6,21 @@ use mathlib.Core.List.{List}
 use Prim.Native.Nat.{ℕ, _+_, _≤_, _<_}
 use denote.Ref.{RefT, now}
 use lib.ListN.{length, drop}
+use Rattle.base.specs.Reports.{result as told-result, refusal as told-refusal}
+use Rattle.diagram.specs.Tree.{Flow}
+use Rattle.diagram.specs.Count.{flow-events}
+use Rattle.reader.specs.Accepted.{Accepted}
+use Rattle.reader.specs.Refused.{Turned}
+use Rattle.process.specs.Process.{event-of}
+use Rattle.process.specs.Expand.{expand}
+use Rattle.labels.specs.Values.{packed}
 use Rattle.labels.specs.declared.Values.{Values}
 use Rattle.events.specs.Names.{Part}
+use Rattle.events.specs.Reports.{report, event-marked}
 use Rattle.events.specs.declared.Label.{Label}
-use Rattle.events.specs.declared.Label.the-variants.{Leaf, Reset, Refused}
 
--- A name is a part of the text, of at most 24 bytes; empty where refused.
+-- A name is a part of the text, of at most 24 bytes; empty where refused. Which part it is, `events.specs.Names.Named` says, and there is one:
+-- `events.proofs.Bounds.one-name`.
 pub record Name-bounded (text r : RefT (List ℕ)) : Type 0 where
   pub short : length (now r) ≤ 24
   pub place : ℕ
@@ -25,13 +34,37 @@ pub record Within (v : Values) : Type 0 where
   pub second-small : v .second < 16
   pub third-small : v .third < 16
 
--- A leaf's values, a reset's values, or one of the numbers 2 to 11 and 14, with a place in a text within the limits or at its end.
-pub data Values-bounded (r : Label) : Type 0 where
-  leaf : (v : Values) → r ≡ Leaf v → Within v → Values-bounded r
-  reset : (v : Values) → r ≡ Reset v → Within v → Values-bounded r
-  refusal : (number place : ℕ) → r ≡ Refused number place → ((2 ≤ number) × (number ≤ 11)) ⊎ (number ≡ 14) → place ≤ 16384 → Values-bounded r
+-- Event e of the drawing: the mark that tells a reset from a leaf, and its values.
+pub record Values-result (text : List ℕ) (e : ℕ) (r : Label) : Type 0 where
+  pub tree : Flow
+  pub limits : Accepted text tree
+  pub below : e < flow-events tree
+  pub told : report r ≡ told-result (event-marked (event-of (expand tree) e))
+  pub within : Within (packed (event-of (expand tree) e .values))
 
--- The bytes fit, and those past them are as they were.
+-- Reading's number and place, each by its own sentence; then 14 at 0, "number at or past E".
+pub data Reason (text : List ℕ) (e number place : ℕ) : Type 0 where
+  unread : Turned text number place → Reason text e number place
+  no-event : (d : Flow) → Accepted text d → flow-events d ≤ e → number ≡ 14 → place ≡ 0 → Reason text e number place
+
+-- One of the numbers 2 to 11 and 14, with a place in a text within the limits or at its end.
+pub record Values-refusal (text : List ℕ) (e : ℕ) (r : Label) : Type 0 where
+  pub number : ℕ
+  pub place : ℕ
+  pub why : Reason text e number place
+  pub told : report r ≡ told-refusal number place
+  pub one-of : ((2 ≤ number) × (number ≤ 11)) ⊎ (number ≡ 14)
+  pub near : place ≤ 16384
+
+-- There is one such answer for each text and event number: `events.proofs.Bounds.one-values`.
+pub data Values-bounded (text : List ℕ) (e : ℕ) (r : Label) : Type 0 where
+  -- "a result within the limits"
+  result : Values-result text e r → Values-bounded text e r
+  -- "or one numbered refusal with its place"
+  refusal : Values-refusal text e r → Values-bounded text e r
+
+-- The bytes fit, and those past them are as they were. Which bytes they are, `events.specs.Listing.Listed` says, and there is one such list:
+-- `events.proofs.Bounds.one-list`.
 pub record List-bounded (lent : List ℕ) (r : ℕ) (left : List ℕ) : Type 0 where
   pub few : r ≤ 32768
   pub length-stays : length left ≡ length lent
