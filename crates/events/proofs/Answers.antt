@@ -38,8 +38,8 @@ use Rattle.labels.proofs.Labelled.{labelled}
 use Rattle.events.specs.Reading.{Reading, drawing, away}
 use Rattle.events.specs.Labels.{label, label-of, Valued}
 use Rattle.events.specs.Names.{name-of, Placed, Part, Named}
-use Rattle.events.specs.Listing.{first-line, refused-line, spaced, line, lines, listing, Listed}
-use Rattle.events.specs.Spots.{Word, spot-label, spaced-values, spot-line, spot-lines, spot-listing}
+use Rattle.events.specs.Listing.{first-line, spaced, line, lines, listing, Listed}
+use Rattle.events.specs.Spots.{Word, passed-on, away-line, spot-label, spaced-values, spot-line, spot-lines, spot-listing}
 use Rattle.events.specs.declared.Label.{Label}
 use Rattle.events.specs.declared.Label.the-variants.{Leaf, Reset, Refused}
 use Rattle.events.proofs.Short.{Short, each-at, events-short}
@@ -142,9 +142,11 @@ valued-drawn text o e r q h g =
       its-label = g ∙ label-told (o .diagram) (d .tree) e (d .its-events) (d .its-labels e);
     }
 
-pub valued-away : (text : List ℕ) (o : Out) (e number place : ℕ) → o ≡ read-of text → o .answer ≡ Unread number place → Valued text e (Refused number place)
+pub valued-away : (text : List ℕ) (o : Out) (e number place : ℕ) (r : Label) → o ≡ read-of text → o .answer ≡ Unread number place → r ≡ passed-on (o .answer)
+    → Valued text e r
 unfolding label-of
-valued-away text o e number place q h = record { reading = away number place (sym (ap (λ (x : Out). x .answer) q) ∙ h); its-label = refl }
+valued-away text o e number place r q h g =
+    record { reading = away number place (sym (ap (λ (x : Out). x .answer) q) ∙ h); its-label = g ∙ ap passed-on h }
 
 -- The name call. A name is not empty, so it stands inside the text.
 pub short-at : (text : List ℕ) (d : Flow) → Accepted text d → (e : ℕ) → e < flow-events d → Short (event-of (expand d) e)
@@ -254,7 +256,7 @@ listed-drawn text lent left o r q h m w =
     listed text lent left (drawing (d .tree) (d .its-limits)) (spot-listing text (o .diagram)) r (listing-told text o d) m w
 
 pub listed-away : (text lent left : List ℕ) (o : Out) (number place r : ℕ) → o ≡ read-of text → o .answer ≡ Unread number place → length lent ≡ 32768
-    → buffer r left ≡ put-all (refused-line number place) (buffer 0 lent) → Listed text lent r left
+    → buffer r left ≡ put-all (away-line (o .answer)) (buffer 0 lent) → Listed text lent r left
 unfolding listing
 listed-away text lent left o number place r q h m w =
-    listed text lent left (away number place (sym (ap (λ (x : Out). x .answer) q) ∙ h)) (refused-line number place) r refl m w
+    listed text lent left (away number place (sym (ap (λ (x : Out). x .answer) q) ∙ h)) (away-line (o .answer)) r (ap away-line h) m w

@@ -8,6 +8,8 @@ use lib.Dec.{ltb}
 use lib.ListN.{length}
 use Rattle.diagram.specs.declared.Diagram.{Diagram}
 use Rattle.lexer.specs.Words.{word-at}
+use Rattle.reader.specs.declared.Answer.{Answer}
+use Rattle.reader.specs.declared.Answer.the-variants.{Done, Refused as Unread}
 use Rattle.output.specs.Decimal.{decimal}
 use Rattle.labels.specs.declared.Values.{Values}
 use Rattle.labels.specs.declared.Spot.{Spot}
@@ -15,13 +17,22 @@ use Rattle.labels.specs.Seeks.{spot-of}
 use Rattle.events.specs.declared.Label.{Label}
 use Rattle.events.specs.declared.Label.the-variants.{Leaf, Reset, Refused}
 use Rattle.events.specs.Names.{Part}
-use Rattle.events.specs.Listing.{first-line, mark}
+use Rattle.events.specs.Listing.{first-line, refused-line, mark}
 
 -- The word that starts at a place, as that very part of the text.
 pub record Word (text : RefT (List ℕ)) (at : ℕ) (r : RefT (List ℕ)) : Type 0 where
   pub its-word : now r ≡ word-at (now text) at
   pub inside : at ≤ length (now text) → Part text r at (length (word-at (now text) at))
   pub past : length (now text) < at → Part text r 0 0
+
+-- The refusal of a text that was not read, passed on, and its line; one that was read has none.
+abbrev pub passed-on : Answer → Label
+passed-on Done = Refused 0 0
+passed-on (Unread number place) = Refused number place
+
+abbrev pub away-line : Answer → List ℕ
+away-line Done = []
+away-line (Unread number place) = refused-line number place
 
 -- What the values call answers for a text that is read.
 unfoldable pub spot-label : Diagram → ℕ → Label

@@ -8,7 +8,7 @@ ghost use Rattle.output.specs.Buffer.{buffer, put-all};
 ghost use Rattle.events.specs.Names.{Named};
 ghost use Rattle.events.specs.Labels.{Valued};
 ghost use Rattle.events.specs.Listing.{first-line, refused-line, mark as mark-of, Listed};
-ghost use Rattle.events.specs.Spots.{Word, spot-label, spaced-value, spaced-values, spot-line, spot-lines, spot-listing};
+ghost use Rattle.events.specs.Spots.{Word, passed-on, away-line, spot-label, spaced-value, spaced-values, spot-line, spot-lines, spot-listing};
 use diagram::Diagram;
 use labels::Spot;
 use labels::Values;
@@ -86,17 +86,27 @@ fn labelled(d: Diagram, event: u64) -> Label
     Label::Leaf(values)
 }
 
+// The refusal of a text that was not read, passed on.
+fn passed_on(answer: Answer) -> Label
+    ensures { λ r. ⌜ r ≡ passed-on answer ⌝ }
+{
+    match answer {
+        Answer::Done => Label::Refused(0, 0),
+        Answer::Refused(number, place) => Label::Refused(number, place),
+    }
+}
+
 // The values of an event, with a mark that tells a reset from a leaf, or the refusal: 2 to 11 for the text, 14 for a number at or past E.
 pub fn values(text: &[u8], event: u64) -> Label
     ensures { λ r. ⌜ Valued (now (text .entry)) event r ⌝ }
 {
     let o = reader::read(text);
     let answer = o.answer;
-    let Answer::Refused(number, place) = answer else {
-        let d = o.diagram;
-        return labelled(d, event);
+    let Answer::Done = answer else {
+        return passed_on(answer);
     };
-    Label::Refused(number, place)
+    let d = o.diagram;
+    labelled(d, event)
 }
 
 // `refused`, number and place; as far as `out` goes.
@@ -212,6 +222,16 @@ fn drawn(text: &[u8], d: Diagram, out: &mut [u8]) -> usize
     )
 }
 
+// The line of a text that was not read.
+fn turned_away(answer: Answer, out: &mut [u8]) -> usize
+    ensures { λ r. ⌜ buffer r (now (out .exit)) ≡ put-all (away-line answer) (buffer 0 (now (out .entry))) ⌝ }
+{
+    match answer {
+        Answer::Done => 0,
+        Answer::Refused(number, place) => refused(number, place, out, 0),
+    }
+}
+
 // The listing of a text: events and node copies, then each event with its number, name and values, `reset` before a reset's; or `refused`, number and place. Answers
 // how many bytes there are; those past them stay.
 pub fn list(text: &[u8], out: &mut [u8; 32768]) -> usize
@@ -219,9 +239,9 @@ pub fn list(text: &[u8], out: &mut [u8; 32768]) -> usize
 {
     let o = reader::read(text);
     let answer = o.answer;
-    let Answer::Refused(number, place) = answer else {
-        let d = o.diagram;
-        return drawn(text, d, out);
+    let Answer::Done = answer else {
+        return turned_away(answer, out);
     };
-    refused(number, place, out, 0)
+    let d = o.diagram;
+    drawn(text, d, out)
 }

@@ -7,29 +7,39 @@ use Rattle.events.proofs.values.Tie as tie
 read-requires : tie.Need-read-requires
 read-requires c κs = search needs
 
-enum-known-answer : tie.Need-enum-known-answer
-enum-known-answer c = search needs
-
 enum-told : tie.Need-enum-told
 enum-told c = search needs
+
+enum-told-2 : tie.Need-enum-told-2
+enum-told-2 c = search needs
+
+passed-on-requires : tie.Need-passed-on-requires
+passed-on-requires c κs = search needs
+
+returns : tie.Need-returns
+returns c =
+    let a = c .before .before .before .before .before .args in
+    let r = c .before .before .before .read in
+    let told = c .before .enum-told2 .given in
+    valued-away (a .text .now) (r .result) (a .event) (told .0 .0) (told .0 .1 .0) (c .passed-on .result) (r .ensures) (told .1) (c .passed-on .ensures)
 
 labelled-requires : tie.Need-labelled-requires
 labelled-requires c κs = search needs
 
-returns : tie.Need-returns
-returns c =
+returns-2 : tie.Need-returns-2
+returns-2 c =
     let a = c .before .before .before .before .before .before .args in
     let r = c .before .before .before .before .read in
     valued-drawn (a .text .now) (r .result) (a .event) (c .labelled .result) (r .ensures) (c .before .before .enum-told .given .1) (c .labelled .ensures)
 
-returns-2 : tie.Need-returns-2
-returns-2 c =
-    let a = c .before .before .before .before .before .args in
-    let r = c .before .before .before .read in
-    let told = c .before .answer .given in
-    valued-away (a .text .now) (r .result) (a .event) (told .0 .0) (told .0 .1 .0) (r .ensures) (told .1)
-
 pub values-spec : {M : Type 1} → statement M
 values-spec =
     tie.close
-    (tie.spec read-requires enum-known-answer enum-told labelled-requires returns returns-2)
+    (tie.spec
+    read-requires
+    enum-told
+    enum-told-2
+    passed-on-requires
+    returns
+    labelled-requires
+    returns-2)
