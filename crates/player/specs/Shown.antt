@@ -37,6 +37,11 @@ state-text listing table r =
     ++ (chosen (event-lines listing) (r .bits) 0
     ++ ((10 ∷ 110 ∷ 101 ∷ 120 ∷ 116 ∷ []) ++ (chosen (event-lines listing) (next-words table r) 0 ++ (10 ∷ []))))
 
+-- The line of a step that was refused; one that was taken has none.
+abbrev pub refused-text : Answer → List ℕ
+refused-text Done = []
+refused-text (Refused number place) = refused-line number place
+
 -- `done`, or `refused`, number and place.
 abbrev pub answer-text : Answer → List ℕ
 answer-text Done = 100 ∷ 111 ∷ 110 ∷ 101 ∷ 10 ∷ []

@@ -6,7 +6,7 @@ ghost use Rattle.diagram.specs.Names.{same};
 ghost use Rattle.output.specs.Buffer.{buffer, put-all};
 ghost use Rattle.player.specs.Lines.{lines, first as first-of, event-lines};
 ghost use Rattle.player.specs.Said.{says as says-of, before-saying, event-said};
-ghost use Rattle.player.specs.Shown.{item as item-of, chosen as chosen-of, next-words, state-text, answer-text, stepped-text, said-step, opening-text, finish-text, closing-text};
+ghost use Rattle.player.specs.Shown.{item as item-of, chosen as chosen-of, next-words, state-text, refused-text, answer-text, stepped-text, said-step, opening-text, finish-text, closing-text};
 use record::Record;
 use table::Answer;
 use table::Finish;
@@ -122,13 +122,23 @@ fn state(listing: &[u8], table: &[u8], r: Record, out: &mut [u8], at: usize) -> 
     output::bytes(out, d, b"\n")
 }
 
+// The line of a step that was refused.
+fn refused(answer: Answer, out: &mut [u8], at: usize) -> usize
+    ensures { λ r. ⌜ buffer r (now (out .exit)) ≡ put-all (refused-text answer) (buffer at (now (out .entry))) ⌝ }
+{
+    match answer {
+        Answer::Done => at,
+        Answer::Refused(number, place) => events::refused(number, place, out, at),
+    }
+}
+
 fn answered(answer: Answer, out: &mut [u8], at: usize) -> usize
     ensures { λ r. ⌜ buffer r (now (out .exit)) ≡ put-all (answer-text answer) (buffer at (now (out .entry))) ⌝ }
 {
-    let Answer::Refused(number, place) = answer else {
-        return output::bytes(out, at, b"done\n");
+    let Answer::Done = answer else {
+        return refused(answer, out, at);
     };
-    events::refused(number, place, out, at)
+    output::bytes(out, at, b"done\n")
 }
 
 // Takes the event that is said, by its number or by what the listing calls it, and shows the answer, the control bits that are set and what may come next; as far as `out` goes.
