@@ -84,10 +84,10 @@ static void write_counts(struct writer *w, const char *first, uint32_t a, const 
     write_word(w, "\n");
 }
 
-uint64_t plain_list(const uint8_t *text, size_t len, uint8_t *out, size_t out_len) {
+/* To a buffer that takes every listing. */
+static size_t write_listing(const uint8_t *text, size_t len, uint8_t *out) {
     struct diagram diagram;
     struct writer writer = {.text = text, .diagram = &diagram, .out = out};
-    if (out_len < MOST_LISTING) return 0;
     uint64_t refused = read_diagram(text, len, &diagram);
     if (refused) {
         write_counts(&writer, "refused ", (uint32_t)(refused >> 32), " ", (uint32_t)refused);
@@ -96,6 +96,18 @@ uint64_t plain_list(const uint8_t *text, size_t len, uint8_t *out, size_t out_le
     write_counts(&writer, "events ", diagram.nodes[0].events, " copies ", diagram.nodes[0].copies);
     write_node(&writer, 0);
     return writer.written;
+}
+
+static void copy_front(uint8_t *out, size_t out_len, const uint8_t *bytes, size_t count) {
+    memcpy(out, bytes, count < out_len ? count : out_len);
+}
+
+uint64_t plain_list(const uint8_t *text, size_t len, uint8_t *out, size_t out_len) {
+    uint8_t whole[MOST_LISTING];
+    if (out_len >= MOST_LISTING) return write_listing(text, len, out);
+    size_t written = write_listing(text, len, whole);
+    copy_front(out, out_len, whole, written);
+    return written;
 }
 
 /* Names and values. */
@@ -140,8 +152,8 @@ static uint64_t read_event(const uint8_t *text, size_t len, uint64_t event, stru
 
 uint64_t plain_name(const uint8_t *text, size_t len, uint64_t event, uint8_t *out, size_t out_len) {
     struct event found;
-    if (out_len < MOST_WORD || read_event(text, len, event, &found)) return 0;
-    memcpy(out, text + found.name.place, found.name.length);
+    if (read_event(text, len, event, &found)) return 0;
+    copy_front(out, out_len, text + found.name.place, found.name.length);
     return found.name.length;
 }
 

@@ -311,7 +311,8 @@ uint64_t plain_read(const uint8_t *text, size_t len) {
     struct diagram diagram;
     uint64_t refused = read_diagram(text, len, &diagram);
     if (refused) return refused;
-    return (uint64_t)diagram.nodes[0].events << 16 | diagram.nodes[0].copies;
+    const struct node *root = diagram.nodes;
+    return (uint64_t)root->end << 20 | (uint64_t)root->copies << 10 | root->events;
 }
 
 /* An accepted text has nothing but its tokens and blanks. */

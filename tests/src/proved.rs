@@ -2,7 +2,14 @@
 //! for these tests, and those of the firmware (adl.h) that play a run.
 
 use crate::listing::Values;
+use crate::table::Words;
 use crate::{Kind, NodeInfo, Refusal, Summary};
+
+/// The run record as the library has it.
+#[repr(C)]
+struct Record {
+    bits: Words,
+}
 
 extern "C" {
     fn adl_test_read(text: *const u8, len: usize) -> u64;
@@ -13,6 +20,7 @@ extern "C" {
     fn adl_test_values(text: *const u8, len: usize, event: u64) -> u64;
     fn adl_test_node(text: *const u8, len: usize, index: u64) -> u64;
     fn adl_test_place(text: *const u8, len: usize, index: u64) -> u64;
+    fn adl_test_update(table: *const u8, table_len: usize, lent: *mut Record, event: u64) -> u64;
     fn adl_check(table: *const u8, table_len: usize) -> u8;
     fn adl_step(table: *const u8, table_len: usize, record: *mut u8, record_len: usize, event: u64) -> u8;
     fn adl_offer(
@@ -26,7 +34,8 @@ extern "C" {
     fn adl_finished(table: *const u8, table_len: usize, record: *const u8, record_len: usize) -> u8;
 }
 
-/// events * 2^16 + copies, or number * 2^32 + place for a refusal.
+/// nodes * 2^20 + copies * 2^10 + events, or number * 2^32 + place for a
+/// refusal.
 pub fn read(text: &[u8]) -> u64 {
     // The pointer and the length are those of one slice, which is only read.
     unsafe { adl_test_read(text.as_ptr(), text.len()) }
@@ -44,14 +53,14 @@ pub fn translate(text: &[u8], out: &mut [u8]) -> u64 {
     unsafe { adl_test_translate(text.as_ptr(), text.len(), out.as_mut_ptr(), out.len()) }
 }
 
-/// The number of bytes written; 0 where the buffer is under LISTING_LIMIT.
+/// The length of the listing, which is written as far as the buffer goes.
 pub fn list(text: &[u8], out: &mut [u8]) -> u64 {
     // Pointers and lengths are those of two slices; the second may be written.
     unsafe { adl_test_list(text.as_ptr(), text.len(), out.as_mut_ptr(), out.len()) }
 }
 
-/// The number of bytes written; 0 for a refusal or where the buffer is under
-/// WORD_LIMIT.
+/// The length of the name, which is written as far as the buffer goes; 0 for a
+/// refusal.
 pub fn name(text: &[u8], event: u64, out: &mut [u8]) -> u64 {
     // Pointers and lengths are those of two slices; the second may be written.
     unsafe { adl_test_name(text.as_ptr(), text.len(), event, out.as_mut_ptr(), out.len()) }
@@ -75,6 +84,15 @@ pub fn node(text: &[u8], index: u64) -> u64 {
 pub fn place(text: &[u8], index: u64) -> u64 {
     // The pointer and the length are those of one slice, which is only read.
     unsafe { adl_test_place(text.as_ptr(), text.len(), index) }
+}
+
+/// The thin call on a record that is lent: 0 if the event was taken, otherwise
+/// number * 2^32 + place for a refusal.
+pub fn update(table: &[u8], words: &mut Words, event: u64) -> u64 {
+    let lent = std::ptr::from_mut(words).cast();
+    // A record is laid out as its one field; the table's pointer and length are
+    // those of a slice, which is only read.
+    unsafe { adl_test_update(table.as_ptr(), table.len(), lent, event) }
 }
 
 /// 0 for a sound table, otherwise the number of the refusal.
@@ -105,9 +123,14 @@ pub fn finished(table: &[u8], record: &[u8]) -> u8 {
 /// The reference's answer to reading, as the C function would give it.
 pub fn read_number(answer: &Result<Summary, Refusal>) -> u64 {
     match answer {
-        Ok(summary) => ((summary.events as u64) << 16) + summary.copies as u64,
+        Ok(summary) => counts_number(summary.nodes.len(), summary.copies, summary.events),
         Err(refusal) => refusal_number(*refusal),
     }
+}
+
+/// Nodes, copies and events as the C function would give them.
+pub fn counts_number(nodes: usize, copies: usize, events: usize) -> u64 {
+    (nodes as u64) << 20 | (copies as u64) << 10 | events as u64
 }
 
 /// The reference's answer to printing, as the C function would give it.

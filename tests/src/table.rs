@@ -19,6 +19,18 @@ pub const MOST_ROWS: usize = 12_288;
 
 type Record = [u8; RECORD_BYTES];
 
+/// The record as its eight words, the first byte being the top one of the first.
+pub type Words = [u64; 8];
+
+pub fn words_of(record: &[u8; RECORD_BYTES]) -> Words {
+    let (bytes, _) = record.as_chunks();
+    std::array::from_fn(|at| u64::from_be_bytes(bytes[at]))
+}
+
+pub fn bytes_of(words: &Words) -> [u8; RECORD_BYTES] {
+    std::array::from_fn(|at| words[at / 8].to_be_bytes()[at % 8])
+}
+
 // ---------------------------------------------------------------------------
 // The four calls
 // ---------------------------------------------------------------------------

@@ -1,7 +1,25 @@
-// What the Rust tests and the benchmarks call: numbers and byte slices only. A refusal is its number times 2^32 and its place; a result is below
-// 2^32. The parts of a number are cut to their width, so that nothing has to be known of them here.
+// What the Rust tests and the benchmarks call: numbers and lent bytes only. An answer is packed into one number: a refusal is its number times 2^32 and
+// its place, a result is below 2^32. The parts of a number are cut to their width, so that nothing has to be known of them here.
 
-ghost use Prim.Native.Nat.{_≤_};
+ghost use mathlib.Core.Path.{_≡_};
+ghost use mathlib.Core.Bool.{cond};
+ghost use Prim.Native.Nat.{_+_, _*_, _%_, _^_, _<_};
+ghost use lib.ListN.{length, getD};
+ghost use Rattle.base.specs.Fill.{fill};
+ghost use Rattle.base.specs.Reports.{result};
+ghost use Rattle.diagram.specs.Stored.{blank-node};
+ghost use Rattle.reader.specs.Answers.{read-of};
+ghost use Rattle.reader.specs.Reports.{report as read-report};
+ghost use Rattle.printer.specs.Prints.{print-of, left-by};
+ghost use Rattle.printer.specs.Reports.{report as print-report};
+ghost use Rattle.table.specs.Reports.{report as step-report};
+ghost use Rattle.update.specs.Updates.{answer-of, left-of};
+ghost use Rattle.translator.specs.Reports.{report as translate-report};
+ghost use Rattle.events.specs.Listing.{Listed};
+ghost use Rattle.events.specs.Reports.{marked as marked-values, report as label-report};
+ghost use Rattle.harness.specs.Packed.{packed};
+ghost use Rattle.harness.specs.Nodes.{kind-number, kind-size, node-values, place-values, unread as unread-found, found-at, report as found-report};
+ghost use Rattle.harness.specs.Calls.{Translates, Labels, Names};
 use diagram::Diagram;
 use diagram::Kind;
 use diagram::Node;
@@ -9,159 +27,278 @@ use events::Label;
 use labels::Values;
 use printer::Printed;
 use reader::Answer;
+use reader::Out;
+use record::Record;
 use translator::Translated;
 
-fn refusal(number: u8, place: usize) -> u64 {
+// Every refusal is told so.
+fn refusal(number: u8, place: usize) -> u64
+    ensures { λ r. ⌜ r ≡ number * 2 ^ 32 + place % 2 ^ 32 ⌝ }
+{
     (number as u64) * 4294967296 + (place as u64) % 4294967296
 }
 
-// Events times 2^16 and node copies.
-#[no_mangle]
-pub extern "C" fn adl_test_read(text: &[u8]) -> u64 {
-    let o = reader::read(text);
+// Nodes, node copies and events, of 10 bits each.
+fn read_number(o: Out) -> u64
+    ensures { λ r. ⌜ r ≡ packed 10 (read-report o) ⌝ }
+{
     let answer = o.answer;
-    let Answer::Refused(number, place) = answer else {
-        let d = o.diagram;
-        return ((d.events as u64) % 65536) * 65536 + (d.copies as u64) % 65536;
-    };
-    refusal(number, place)
-}
-
-// The bytes written.
-#[no_mangle]
-pub extern "C" fn adl_test_print(text: &[u8], out: &mut [u8]) -> u64 {
-    let p = printer::print(text, out);
-    let Printed::Bytes(n) = p else {
-        return print_refusal(p);
-    };
-    (n as u64) % 4294967296
-}
-
-fn print_refusal(p: Printed) -> u64 {
-    let Printed::Refused(number, place) = p else {
-        return 0;
-    };
-    refusal(number, place)
-}
-
-// The bytes written.
-#[no_mangle]
-pub extern "C" fn adl_test_translate(text: &[u8], out: &mut [u8]) -> u64 {
-    let t = translator::translate(text, out);
-    let Translated::Bytes(n) = t else {
-        return translate_refusal(t);
-    };
-    (n as u64) % 4294967296
-}
-
-fn translate_refusal(t: Translated) -> u64 {
-    let Translated::Refused(number, place) = t else {
-        return 0;
-    };
-    refusal(number, place)
-}
-
-// The bytes of the listing; 0, and nothing written, where `out` has under 32,768 bytes.
-#[no_mangle]
-pub extern "C" fn adl_test_list(text: &[u8], out: &mut [u8]) -> u64 {
-    if out.len() < 32768 {
-        return 0;
+    let d = o.diagram;
+    match answer {
+        Answer::Done => {
+            let nodes = (d.count as u64) % 1024;
+            let copies = (d.copies as u64) % 1024;
+            let events = (d.events as u64) % 1024;
+            (nodes * 1024 + copies) * 1024 + events
+        }
+        Answer::Refused(number, place) => refusal(number, place),
     }
+}
+
+#[no_mangle]
+pub extern "C" fn adl_test_read(text: &[u8]) -> u64
+    ensures { λ r. ⌜ r ≡ packed 10 (read-report (read-of (now (text .entry)))) ⌝ }
+{
+    let o = reader::read(text);
+    read_number(o)
+}
+
+// The bytes written.
+fn print_number(p: Printed) -> u64
+    ensures { λ r. ⌜ r ≡ packed 32 (print-report p) ⌝ }
+{
+    match p {
+        Printed::Bytes(n) => (n as u64) % 4294967296,
+        Printed::Refused(number, place) => refusal(number, place),
+    }
+}
+
+#[no_mangle]
+pub extern "C" fn adl_test_print(text: &[u8], out: &mut [u8]) -> u64
+    ensures { λ r. ⌜ r ≡ packed 32 (print-report (print-of (now (text .entry)) (now (out .entry)))) ⌝ }
+    ensures { λ r. ⌜ now (out .exit) ≡ left-by (now (text .entry)) (now (out .entry)) (print-of (now (text .entry)) (now (out .entry))) ⌝ }
+{
+    let p = printer::print(text, out);
+    print_number(p)
+}
+
+// The bytes written.
+fn translate_number(t: Translated) -> u64
+    ensures { λ r. ⌜ r ≡ packed 32 (translate-report t) ⌝ }
+{
+    match t {
+        Translated::Bytes(n) => (n as u64) % 4294967296,
+        Translated::Refused(number, place) => refusal(number, place),
+    }
+}
+
+#[no_mangle]
+pub extern "C" fn adl_test_translate(text: &[u8], out: &mut [u8]) -> u64
+    ensures { λ r. ⌜ Translates (now (text .entry)) (now (out .entry)) r (now (out .exit)) ⌝ }
+{
+    let t = translator::translate(text, out);
+    translate_number(t)
+}
+
+// Bytes over the front of `out`, as far as it goes; answers how many there are.
+fn copy(bytes: &[u8], out: &mut [u8]) -> u64
+    ensures { λ r. ⌜ r ≡ length (now (bytes .entry)) ⌝ }
+    ensures { λ r. ⌜ now (out .exit) ≡ fill (now (out .entry)) (now (bytes .entry)) ⌝ }
+{
+    let mut n = 0;
+    while n < bytes.len() {
+        base::put_byte(out, n, bytes[n]);
+        n += 1;
+    }
+    n as u64
+}
+
+// The bytes of the listing, over the front of `out` as far as it goes.
+#[no_mangle]
+pub extern "C" fn adl_test_list(text: &[u8], out: &mut [u8]) -> u64
+    ensures { λ r. ⌜ Listed (now (text .entry)) (now (out .entry)) r (now (out .exit)) ⌝ }
+{
     let mut bytes = [0u8; 32768];
     let n = events::list(text, &mut bytes);
-    (output::bytes(out, 0, &bytes[..n]) as u64) % 4294967296
+    copy(&bytes[..n], out)
 }
 
-// The bytes of the name, over the front of `out`; 0 where refused, or where `out` has under 24 bytes.
+// The bytes of the name, over the front of `out` as far as it goes; none where refused.
 #[no_mangle]
-pub extern "C" fn adl_test_name(text: &[u8], event: u64, out: &mut [u8]) -> u64 {
-    if out.len() < 24 {
-        return 0;
-    }
-    (output::bytes(out, 0, events::name(text, event)) as u64) % 4294967296
+pub extern "C" fn adl_test_name(text: &[u8], event: u64, out: &mut [u8]) -> u64
+    ensures { λ r. ⌜ Names (text .entry) event (now (out .entry)) r (now (out .exit)) ⌝ }
+{
+    let name = events::name(text, event);
+    copy(name, out)
 }
 
-fn packed(reset: u64, v: Values) -> u64
-    requires { ⌜ reset ≤ 1 ⌝ }
+// The mark of a reset, how many values there are, and the values, of 6 bits each.
+fn marked(mark: u64, v: Values) -> u64
+    ensures { λ r. ⌜ r ≡ packed 6 (result (marked-values mark v)) ⌝ }
 {
-    reset * 16777216
-        + ((v.count as u64) % 64) * 262144
-        + ((v.first as u64) % 64) * 4096
-        + ((v.second as u64) % 64) * 64
+    (((mark % 64 * 64 + (v.count as u64) % 64) * 64 + (v.first as u64) % 64) * 64
+        + (v.second as u64) % 64)
+        * 64
         + (v.third as u64) % 64
 }
 
-// Whether it is a reset times 2^24, how many values times 2^18, and the values times 2^12, 2^6 and 1.
-#[no_mangle]
-pub extern "C" fn adl_test_values(text: &[u8], event: u64) -> u64 {
-    let l = events::values(text, event);
+fn label_number(l: Label) -> u64
+    ensures { λ r. ⌜ r ≡ packed 6 (label-report l) ⌝ }
+{
     match l {
-        Label::Leaf(v) => packed(0, v),
-        Label::Reset(v) => packed(1, v),
+        Label::Leaf(v) => marked(0, v),
+        Label::Reset(v) => marked(1, v),
         Label::Refused(number, place) => refusal(number, place),
     }
 }
 
-// A kind's number, and its size where it has one, times 2^24 and 2^16.
-fn kind_number(kind: Kind) -> u64 {
+#[no_mangle]
+pub extern "C" fn adl_test_values(text: &[u8], event: u64) -> u64
+    ensures { λ r. ⌜ Labels (now (text .entry)) event r ⌝ }
+{
+    let l = events::values(text, event);
+    label_number(l)
+}
+
+// A node of a text, or the refusal with its number and place.
+enum Found {
+    At(Node),
+    Refused(u8, usize),
+}
+
+// The refusal of a text that is not read.
+fn unread(answer: Answer) -> Found
+    ensures { λ r. ⌜ r ≡ unread-found answer ⌝ }
+{
+    match answer {
+        Answer::Done => Found::Refused(255, 0),
+        Answer::Refused(number, place) => Found::Refused(number, place),
+    }
+}
+
+fn node_at(d: Diagram, i: usize) -> Node
+    requires { ⌜ i < 256 ⌝ }
+    ensures { λ r. ⌜ r ≡ getD (d .nodes) i blank-node ⌝ }
+{
+    d.nodes[i]
+}
+
+// The node with an index, in the order of the text; 255 for an index past the last one.
+fn find(text: &[u8], index: u64) -> Found
+    ensures { λ r. ⌜ r ≡ found-at (read-of (now (text .entry))) index ⌝ }
+{
+    let o = reader::read(text);
+    let answer = o.answer;
+    let Answer::Done = answer else {
+        return unread(answer);
+    };
+    let d = o.diagram;
+    if (d.count as u64) <= index {
+        return Found::Refused(255, 0);
+    }
+    let node = node_at(d, index as usize);
+    Found::At(node)
+}
+
+fn number_of(kind: Kind) -> u64
+    ensures { λ r. ⌜ r ≡ kind-number kind ⌝ }
+{
     match kind {
         Kind::Flow => 0,
-        Kind::Leaf => 16777216,
-        Kind::And => 33554432,
-        Kind::Or => 50331648,
-        Kind::Xor => 67108864,
-        Kind::All(size) => 83886080 + (size as u64) * 65536,
-        Kind::Some(size) => 100663296 + (size as u64) * 65536,
-        Kind::One(size) => 117440512 + (size as u64) * 65536,
-        Kind::Loop => 134217728,
+        Kind::Leaf => 1,
+        Kind::And => 2,
+        Kind::Or => 3,
+        Kind::Xor => 4,
+        Kind::All(_) => 5,
+        Kind::Some(_) => 6,
+        Kind::One(_) => 7,
+        Kind::Loop => 8,
     }
 }
 
-// Kind and size, whether it is a solid child times 2^8, and its depth.
-fn node_number(node: Node) -> u64 {
+// A replicator's size; 0 for any other node.
+fn size_of(kind: Kind) -> u64
+    ensures { λ r. ⌜ r ≡ kind-size kind ⌝ }
+{
+    match kind {
+        Kind::Flow => 0,
+        Kind::Leaf => 0,
+        Kind::And => 0,
+        Kind::Or => 0,
+        Kind::Xor => 0,
+        Kind::All(size) => size as u64,
+        Kind::Some(size) => size as u64,
+        Kind::One(size) => size as u64,
+        Kind::Loop => 0,
+    }
+}
+
+fn mark_of(marked: bool) -> u64
+    ensures { λ r. ⌜ r ≡ cond marked 1 0 ⌝ }
+{
+    if marked {
+        return 1;
+    }
+    0
+}
+
+// Kind, size, whether it is a solid child, and depth, of 8 bits each.
+fn node_number(node: Node) -> u64
+    ensures { λ r. ⌜ r ≡ packed 8 (result (node-values node)) ⌝ }
+{
     let kind = node.kind;
-    let number = kind_number(kind) % 2147483648 + (node.depth as u64) % 256;
-    if node.solid {
-        return number + 256;
+    let number = number_of(kind);
+    let size = size_of(kind);
+    let solid = mark_of(node.solid);
+    ((number % 256 * 256 + size % 256) * 256 + solid % 256) * 256 + (node.depth as u64) % 256
+}
+
+// A node of a text, by its index.
+#[no_mangle]
+pub extern "C" fn adl_test_node(text: &[u8], index: u64) -> u64
+    ensures { λ r. ⌜ r ≡ packed 8 (found-report node-values (found-at (read-of (now (text .entry))) index)) ⌝ }
+{
+    let found = find(text, index);
+    match found {
+        Found::At(node) => node_number(node),
+        Found::Refused(number, place) => refusal(number, place),
     }
-    number
 }
 
-// A node of a diagram; past the last one it does not matter which.
-fn node_at(d: Diagram, index: u64) -> Node {
-    let nodes = d.nodes;
-    let i = (index % 256) as usize;
-    nodes[i]
+// Where its keyword stands, and its name or par, of 16 bits each.
+fn place_number(node: Node) -> u64
+    ensures { λ r. ⌜ r ≡ packed 16 (result (place-values node)) ⌝ }
+{
+    (node.at as u64) % 65536 * 65536 + (node.name as u64) % 65536
 }
 
-// A node of a text, by its index; 255 for an index past the last node.
+// The places of a node of a text, by its index.
 #[no_mangle]
-pub extern "C" fn adl_test_node(text: &[u8], index: u64) -> u64 {
-    let o = reader::read(text);
-    let answer = o.answer;
-    let Answer::Refused(number, place) = answer else {
-        let d = o.diagram;
-        if (d.count as u64) <= index {
-            return refusal(255, 0);
-        }
-        let node = node_at(d, index);
-        return node_number(node);
-    };
-    refusal(number, place)
+pub extern "C" fn adl_test_place(text: &[u8], index: u64) -> u64
+    ensures { λ r. ⌜ r ≡ packed 16 (found-report place-values (found-at (read-of (now (text .entry))) index)) ⌝ }
+{
+    let found = find(text, index);
+    match found {
+        Found::At(node) => place_number(node),
+        Found::Refused(number, place) => refusal(number, place),
+    }
 }
 
-// Where its keyword stands times 2^16, and its name or par.
+fn step_number(answer: table::Answer) -> u64
+    ensures { λ r. ⌜ r ≡ packed 32 (step-report answer) ⌝ }
+{
+    match answer {
+        table::Answer::Done => 0,
+        table::Answer::Refused(number, place) => refusal(number, place),
+    }
+}
+
+// The thin call: an event on a record that the caller lends.
 #[no_mangle]
-pub extern "C" fn adl_test_place(text: &[u8], index: u64) -> u64 {
-    let o = reader::read(text);
-    let answer = o.answer;
-    let Answer::Refused(number, place) = answer else {
-        let d = o.diagram;
-        if (d.count as u64) <= index {
-            return refusal(255, 0);
-        }
-        let node = node_at(d, index);
-        return ((node.at as u64) % 65536) * 65536 + (node.name as u64) % 65536;
-    };
-    refusal(number, place)
+pub extern "C" fn adl_test_update(table: &[u8], lent: &mut Record, event: u64) -> u64
+    ensures { λ r. ⌜ r ≡ packed 32 (step-report (answer-of (now (table .entry)) (now (lent .entry)) event)) ⌝ }
+    ensures { λ r. ⌜ now (lent .exit) ≡ left-of (now (table .entry)) (now (lent .entry)) event ⌝ }
+{
+    let answer = update::step(table, lent, event);
+    step_number(answer)
 }

@@ -6,7 +6,8 @@ ghost use Rattle.record.specs.Bits.{bit-at, set-bit, clear-bit, clear-bi
 ghost use Rattle.record.specs.Bytes.{field, words-of, bytes-of};
 ghost use Rattle.record.specs.Blank.{blank-record};
 
-// The run record: a control bit for each event, bit 0 the top bit of the first word.
+// The run record: a control bit for each event, bit 0 the top bit of the first word. Laid out as in C, so that a caller outside can lend one.
+#[repr(C)]
 pub struct Record {
     pub bits: [u64; 8],
 }

@@ -3,7 +3,8 @@
 
 use super::{c, print, translate, Refusal};
 use crate::listing::LISTING_LIMIT;
-use crate::{plain_listing, proved, read, table, WORD_LIMIT};
+use crate::table::{bytes_of, words_of, Words};
+use crate::{plain_listing, proved, read, table};
 
 pub struct Calls {
     pub title: &'static str,
@@ -13,6 +14,7 @@ pub struct Calls {
     pub list: fn(&[u8], &mut [u8]) -> u64,
     pub name: fn(&[u8], u64, &mut [u8]) -> u64,
     pub values: fn(&[u8], u64) -> u64,
+    pub update: fn(&[u8], &mut Words, u64) -> u64,
     pub check: fn(&[u8]) -> u8,
     pub step: fn(&[u8], &mut [u8], u64) -> u8,
     pub offer: fn(&[u8], &[u8], &mut [u8]) -> u8,
@@ -27,6 +29,7 @@ pub const PROVED: Calls = Calls {
     list: proved::list,
     name: proved::name,
     values: proved::values,
+    update: proved::update,
     check: proved::check,
     step: proved::step,
     offer: proved::offer,
@@ -41,11 +44,16 @@ pub const RUST: Calls = Calls {
     print: |text, out| written(print(text, out)),
     translate: |text, out| written(translate(text, out)),
     list: |text, out| match out.len() < LISTING_LIMIT {
-        true => 0,
+        true => {
+            let mut whole = [0; LISTING_LIMIT];
+            let length = plain_listing::list(text, &mut whole);
+            copied(&whole[..length], out)
+        }
         false => plain_listing::list(text, out) as u64,
     },
-    name: copied_name,
+    name: |text, event, out| copied(plain_listing::name(text, event), out),
     values: |text, event| proved::values_number(&plain_listing::values(text, event)),
+    update: |table, words, event| updated(table::step, table, words, event),
     check: table::check,
     step: table::step,
     offer: table::offer,
@@ -60,6 +68,7 @@ pub const C: Calls = Calls {
     list: c::list,
     name: c::name,
     values: c::values,
+    update: |table, words, event| updated(c::step, table, words, event),
     check: c::check,
     step: c::step,
     offer: c::offer,
@@ -71,12 +80,17 @@ fn written(answer: Result<usize, Refusal>) -> u64 {
     answer.map_or_else(proved::refusal_number, |length| length as u64)
 }
 
-/// The name as a copy in a lent buffer.
-fn copied_name(text: &[u8], event: u64, out: &mut [u8]) -> u64 {
-    if out.len() < WORD_LIMIT {
-        return 0;
-    }
-    let name = plain_listing::name(text, event);
-    out[..name.len()].copy_from_slice(name);
-    name.len() as u64
+/// Bytes as a copy in a lent buffer, as far as it goes.
+fn copied(bytes: &[u8], out: &mut [u8]) -> u64 {
+    let fits = bytes.len().min(out.len());
+    out[..fits].copy_from_slice(&bytes[..fits]);
+    bytes.len() as u64
+}
+
+/// A step on the bytes of a record, as one on its words.
+fn updated(step: fn(&[u8], &mut [u8], u64) -> u8, table: &[u8], words: &mut Words, event: u64) -> u64 {
+    let mut record = bytes_of(words);
+    let number = step(table, &mut record, event);
+    *words = words_of(&record);
+    u64::from(number) << 32
 }

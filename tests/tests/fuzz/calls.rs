@@ -37,7 +37,10 @@ pub fn random_calls(diagram: &Diagram, random: &mut Random) -> Vec<Call> {
     let mut calls = Vec::new();
     let mut after_the_end = 0;
     while calls.len() < length && after_the_end < CALLS_AFTER_THE_END {
-        let call = random_call(diagram, &book, &habit, random);
+        let call = match random_call(diagram, &book, &habit, random) {
+            Call::Step(event) if random.once_in(2) => Call::Update(event),
+            call => call,
+        };
         calls.push(call);
         answer_of(&mut book, call);
         after_the_end += usize::from(book.next().is_empty());

@@ -37,6 +37,8 @@ pub struct RunCase {
 #[derive(Clone, Copy, Debug, PartialEq)]
 pub enum Call {
     Step(u64),
+    /// A step through the thin call.
+    Update(u64),
     Finished,
 }
 
@@ -117,11 +119,13 @@ impl Display for Case {
     }
 }
 
-/// A step is written as its event, a question as a question mark.
+/// A step is written as its event, one through the thin call with a u before it,
+/// a question as a question mark.
 impl Display for Call {
     fn fmt(&self, out: &mut fmt::Formatter) -> fmt::Result {
         match self {
             Call::Step(event) => write!(out, "{event}"),
+            Call::Update(event) => write!(out, "u{event}"),
             Call::Finished => write!(out, "?"),
         }
     }
@@ -214,7 +218,10 @@ impl FromStr for Call {
     fn from_str(word: &str) -> Result<Call, String> {
         match word {
             "?" => Ok(Call::Finished),
-            event => parsed(event).map(Call::Step),
+            event => match event.strip_prefix('u') {
+                Some(event) => parsed(event).map(Call::Update),
+                None => parsed(event).map(Call::Step),
+            },
         }
     }
 }

@@ -43,8 +43,9 @@ impl Coverage {
 // Titles
 // ---------------------------------------------------------------------------
 
-const CALLS: [&str; 12] =
-    ["read", "node", "place", "print", "translate", "list", "name", "values", "check", "step", "offer", "finished"];
+const CALLS: [&str; 13] = [
+    "read", "node", "place", "print", "translate", "list", "name", "values", "check", "step", "update", "offer", "finished",
+];
 
 /// The numbers that a call can answer with; 0 stands for what is no refusal.
 /// The name call gives no number, but an empty name where values refuses. No
@@ -57,6 +58,7 @@ fn numbers_of(call: &str) -> Vec<u8> {
         "name" | "values" => (&[0], &[14]),
         "check" => return vec![0, 12],
         "step" => return vec![0, 1, 12, 13, 14, 15],
+        "update" => return vec![0, 12, 13, 14, 15],
         "offer" => return vec![0, 1, 12, 13],
         _ => return vec![0, 1, 12, 13, 255],
     };
@@ -109,7 +111,7 @@ const TRAITS: [&str; 19] = [
 
 const BUFFERS: [(&str, usize); 4] =
     [("print", TEXT_LIMIT), ("translate", TABLE_LIMIT), ("list", LISTING_LIMIT), ("name", WORD_LIMIT)];
-const LENGTHS: [&str; 4] = ["empty", "short by one", "exact", "long"];
+const LENGTHS: [&str; 4] = ["empty", "short", "exact", "long"];
 const OFFER_LENGTHS: [usize; 5] = [0, 63, 64, 65, 100];
 const RECORD_LENGTHS: [usize; 5] = [0, 63, 64, 65, 128];
 
@@ -168,7 +170,7 @@ fn add_text(case: &TextCase, counts: &mut Counts) {
     counts.add(&title("read", number));
     counts.add(&title("print", number_of(&print(&case.text, case.print))));
     counts.add(&title("translate", translated));
-    counts.add_if(case.list >= LISTING_LIMIT, &title("list", number));
+    counts.add(&title("list", number));
     case.nodes.iter().for_each(|index| add_index(&summary, *index, counts));
     let events = events(&case.text);
     add_answers(case, &events, counts);
@@ -186,7 +188,7 @@ fn add_text(case: &TextCase, counts: &mut Counts) {
 fn length_kind(length: usize, limit: usize) -> &'static str {
     match length {
         0 => "empty",
-        _ if length < limit => "short by one",
+        _ if length < limit => "short",
         _ if length == limit => "exact",
         _ => "long",
     }
@@ -205,7 +207,7 @@ fn add_index(summary: &Result<Summary, Refusal>, index: u64, counts: &mut Counts
 fn add_answers(case: &TextCase, events: &Events, counts: &mut Counts) {
     for number in &case.events {
         let answer = number_of(&answer_in(events, *number));
-        counts.add_if(case.name >= WORD_LIMIT, &title("name", answer));
+        counts.add(&title("name", answer));
         counts.add(&title("values", answer));
         if let Ok(events) = events {
             add_event_number("text", *number, events.len(), counts);
@@ -317,7 +319,7 @@ fn add_run(case: &RunCase, counts: &mut Counts) {
     counts.add(&title("check", 0));
     case.calls.iter().for_each(|_| counts.add(&title("offer", 0)));
     for call in &case.calls {
-        if let Call::Step(event) = call {
+        if let Call::Step(event) | Call::Update(event) = call {
             add_event_number("run", *event, diagram.events.len(), counts);
         }
     }
@@ -348,7 +350,9 @@ fn add_table(case: &TableCase, counts: &mut Counts) {
 
 fn add_table_step(case: &TableCase, table: &[u8], counts: &mut Counts) {
     let mut record = case.record.clone();
-    counts.add(&title("step", table::step(table, &mut record, case.event)));
+    let answer = table::step(table, &mut record, case.event);
+    counts.add(&title("step", answer));
+    counts.add_if(record.len() == RECORD_BYTES, &title("update", answer));
     let cleared = case.record.iter().zip(&record).any(|(before, after)| before & !after != 0);
     counts.add_if(cleared, "step on a sound table clears bits");
 }

@@ -4,8 +4,8 @@
 use crate::calls::random_calls;
 use crate::case::{Case, RunCase, TextCase};
 use crate::make::make;
+use crate::playing::{play as play_cases, report};
 use crate::texts::{event_difference, list_difference};
-use crate::{play as play_cases, report};
 use reference::generate::{
     edge_texts, every_constructor, longest_drawing, many_copies, many_events, nested_flows, pad_between, root,
     root_with_leaves, Random, T, U,
@@ -70,20 +70,20 @@ fn records_worked_through() {
 
 #[test]
 fn sizes_worked_through() {
-    let accepted = |events: u64, copies: u64| events << 16 | copies;
+    let accepted = proved::counts_number;
     let refused = |number: u64, place: usize| number << 32 | place as u64;
     let last_leaf = |text: &str| text.rfind("leaf").expect("there is a leaf");
     for (text, wanted) in [
-        (T.to_string(), accepted(5, 8)),
-        (U.to_string(), accepted(4, 6)),
+        (T.to_string(), accepted(8, 8, 5)),
+        (U.to_string(), accepted(6, 6, 4)),
         (String::new(), refused(5, 0)),
-        (root_with_leaves(255), accepted(255, 256)),
+        (root_with_leaves(255), accepted(256, 256, 255)),
         (root_with_leaves(256), refused(6, last_leaf(&root_with_leaves(256)))),
-        (nested_flows(11), accepted(1, 12)),
+        (nested_flows(11), accepted(12, 12, 1)),
         (nested_flows(12), refused(6, last_leaf(&nested_flows(12)))),
-        (many_events(16), accepted(512, 544)),
+        (many_events(16), accepted(79, 544, 512)),
         (many_events(17), refused(11, 0)),
-        (many_copies(8), accepted(376, 768)),
+        (many_copies(8), accepted(78, 768, 376)),
         (many_copies(9), refused(11, 0)),
     ] {
         assert_eq!(proved::read(text.as_bytes()), wanted, "{text}");

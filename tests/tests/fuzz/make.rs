@@ -73,8 +73,8 @@ fn make_text(random: &mut Random) -> Made {
     let case = TextCase {
         print: random_length(TEXT_LIMIT, random),
         translate: random_length(TABLE_LIMIT, random),
-        list: random_length(LISTING_LIMIT, random),
-        name: random_length(WORD_LIMIT, random),
+        list: random_front(LISTING_LIMIT, random),
+        name: random_front(WORD_LIMIT, random),
         nodes: node_indices(&text, summary.as_ref(), random),
         events: event_numbers(&text, summary.as_ref(), random),
         text,
@@ -110,6 +110,14 @@ fn random_length(limit: usize, random: &mut Random) -> usize {
         1 => limit - 1,
         2..=5 => limit,
         _ => limit + random.within(1, 97),
+    }
+}
+
+/// The same, or one that takes only the front of what is written.
+fn random_front(limit: usize, random: &mut Random) -> usize {
+    match random.below(4) {
+        0 => random.below(limit.min(200)),
+        _ => random_length(limit, random),
     }
 }
 

@@ -2,6 +2,7 @@
 //! the drawing and the calls alone.
 
 use crate::case::{Call, RunCase};
+use crate::thin::update;
 use crate::translation::translated;
 use reference::kit::Lent;
 use reference::meaning::{Book, Diagram};
@@ -43,18 +44,21 @@ fn calls_difference(table: &[u8], diagram: &Diagram, calls: &[Call], library: &C
 fn call_difference(table: &Lent, record: &mut Lent, book: &mut Book, call: Call, library: &Calls) -> Option<String> {
     let wanted = answer_of(book, call);
     let given = match call {
-        Call::Step(event) => (library.step)(table.bytes(), record.bytes_mut(), event),
-        Call::Finished => (library.finished)(table.bytes(), record.bytes()),
+        Call::Step(event) => Ok((library.step)(table.bytes(), record.bytes_mut(), event)),
+        Call::Update(event) => update(table, record.bytes_mut(), event, library),
+        Call::Finished => Ok((library.finished)(table.bytes(), record.bytes())),
     };
-    if given != wanted {
-        return Some(format!("the book says {wanted}, the library {given}"));
+    match given {
+        Ok(given) if given == wanted => {}
+        Ok(given) => return Some(format!("the book says {wanted}, the library {given}")),
+        Err(difference) => return Some(difference),
     }
     record.difference(&book.record()).map(|difference| format!("the record: {difference}"))
 }
 
 pub fn answer_of(book: &mut Book, call: Call) -> u8 {
     match call {
-        Call::Step(event) => book.step(event),
+        Call::Step(event) | Call::Update(event) => book.step(event),
         Call::Finished => book.finished(),
     }
 }

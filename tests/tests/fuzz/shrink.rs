@@ -200,15 +200,25 @@ fn smaller_run(mut case: RunCase, fails: Fails) -> RunCase {
     let RunCase { text, mut calls } = current;
     let text = with_fewer_bytes(&text, &|text| still(text, &calls));
     for at in 0..calls.len() {
-        if let Call::Step(event) = calls[at] {
-            calls[at] = Call::Step(smaller_number(event, |event| {
-                let mut nearer = calls.clone();
-                nearer[at] = Call::Step(event);
-                still(&text, &nearer)
-            }));
-        }
+        calls[at] = simpler_call(calls[at], |call| {
+            let mut simpler = calls.clone();
+            simpler[at] = call;
+            still(&text, &simpler)
+        });
     }
     RunCase { text, calls }
+}
+
+/// A plain step in the place of one through the thin call, and an event nearer
+/// to 0.
+fn simpler_call(call: Call, fails: impl Fn(Call) -> bool) -> Call {
+    match call {
+        Call::Finished => call,
+        Call::Update(event) if !fails(Call::Step(event)) => {
+            Call::Update(smaller_number(event, |event| fails(Call::Update(event))))
+        }
+        Call::Step(event) | Call::Update(event) => Call::Step(smaller_number(event, |event| fails(Call::Step(event)))),
+    }
 }
 
 /// The calls of a case for another drawing: the same events have other numbers
@@ -218,6 +228,9 @@ fn same_calls(case: &RunCase, text: &[u8]) -> Option<Vec<Call>> {
     let same = |call: &Call| match call {
         Call::Step(event) if *event < old.events.len() as u64 => {
             same_event(&old.events[*event as usize], &new).map(|event| Call::Step(event as u64))
+        }
+        Call::Update(event) if *event < old.events.len() as u64 => {
+            same_event(&old.events[*event as usize], &new).map(|event| Call::Update(event as u64))
         }
         call => Some(*call),
     };
@@ -341,10 +354,12 @@ fn moved_damage(damage: &[Damage], first: usize, count: usize, left: &[usize]) -
 
 mod wrong {
     use crate::case::{Call, Case};
-    use crate::{make, play, report};
+    use crate::make;
+    use crate::playing::{play, report};
     use reference::plain::calls::{Calls, PROVED};
     use reference::plain::TABLE_LIMIT;
     use reference::proved;
+    use reference::table::Words;
 
     /// Prints a drawing with a `some` in it without its last byte.
     fn short_print(text: &[u8], out: &mut [u8]) -> u64 {
@@ -418,7 +433,27 @@ mod wrong {
         let case = printed(&Calls { step: forgetful_step, ..PROVED });
         let Case::Run(case) = case else { panic!("no run: {case}") };
         assert!(case.text.len() <= 60, "{}", case.text.escape_ascii());
-        assert_eq!(case.calls, [Call::Step(0), Call::Step(2)]);
+        let [Call::Step(0), between @ .., Call::Step(2)] = &case.calls[..] else { panic!("{case:?}") };
+        assert!(matches!(between, [] | [Call::Step(_)]), "{case:?}");
+    }
+
+    /// Takes event 2 and forgets it if event 0 was taken.
+    fn forgetful_update(table: &[u8], words: &mut Words, event: u64) -> u64 {
+        let before = *words;
+        let answer = proved::update(table, words, event);
+        if answer == 0 && event == 2 && before[0] >> 63 != 0 {
+            *words = before;
+        }
+        answer
+    }
+
+    #[test]
+    fn a_forgetful_thin_call_is_found_and_made_small() {
+        let case = printed(&Calls { update: forgetful_update, ..PROVED });
+        let Case::Run(case) = case else { panic!("no run: {case}") };
+        assert!(case.text.len() <= 60, "{}", case.text.escape_ascii());
+        let [Call::Step(0), between @ .., Call::Update(2)] = &case.calls[..] else { panic!("{case:?}") };
+        assert!(matches!(between, [] | [Call::Step(_)]), "{case:?}");
     }
 
     #[test]

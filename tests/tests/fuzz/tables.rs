@@ -1,15 +1,17 @@
-//! The four C calls on a table and a record, held against the table player of
-//! the reference.
+//! The four C calls and the thin call on a table and a record, held against the
+//! table player of the reference.
 
 use crate::case::TableCase;
+use crate::thin::update;
 use reference::kit::Lent;
 use reference::plain::calls::Calls;
-use reference::table;
+use reference::table::{self, RECORD_BYTES};
 
 pub fn difference(case: &TableCase, library: &Calls) -> Option<String> {
     let table = Lent::bytes_of(&case.damaged());
     check_difference(&table, library)
         .or_else(|| step_difference(&table, case, library))
+        .or_else(|| update_difference(&table, case, library))
         .or_else(|| offer_difference(&table, case, library))
         .or_else(|| finished_difference(&table, case, library))
         .or_else(|| table.change().map(|change| format!("the table: {change}")))
@@ -30,6 +32,21 @@ fn step_difference(table: &Lent, case: &TableCase, library: &Calls) -> Option<St
     let given = (library.step)(table.bytes(), record.bytes_mut(), case.event);
     answer_difference("step", wanted, given)
         .or_else(|| record.difference(&wanted_record).map(|difference| format!("record after step: {difference}")))
+}
+
+/// The thin call takes no record of another length.
+fn update_difference(table: &Lent, case: &TableCase, library: &Calls) -> Option<String> {
+    if case.record.len() != RECORD_BYTES {
+        return None;
+    }
+    let mut wanted_record = case.record.clone();
+    let wanted = table::step(table.bytes(), &mut wanted_record, case.event);
+    let mut record = case.record.clone();
+    match update(table, &mut record, case.event, library) {
+        Ok(given) => answer_difference("update", wanted, given)
+            .or_else(|| (record != wanted_record).then(|| "record after update".to_string())),
+        Err(difference) => Some(difference),
+    }
 }
 
 fn offer_difference(table: &Lent, case: &TableCase, library: &Calls) -> Option<String> {

@@ -4,9 +4,9 @@
 use crate::case::TextCase;
 use crate::translation::translated;
 use reference::kit::Lent;
-use reference::listing::{events, listing, name_in, values_in, Event, Events, LISTING_LIMIT};
+use reference::listing::{events, listing, name_in, values_in, Event, Events};
 use reference::plain::calls::Calls;
-use reference::{print, proved, read, Refusal, Summary, WORD_LIMIT};
+use reference::{print, proved, read, Refusal, Summary};
 
 pub fn difference(case: &TextCase, library: &Calls) -> Option<String> {
     let text = Lent::text(&case.text);
@@ -46,13 +46,17 @@ fn print_difference(text: &Lent, length: usize, library: &Calls) -> Option<Strin
         .map(|difference| format!("print to {length} bytes: {difference}"))
 }
 
+/// Bytes over the front of a buffer, as far as it goes.
+fn front(bytes: &[u8], length: usize) -> &[u8] {
+    &bytes[..bytes.len().min(length)]
+}
+
 /// The listing written to a buffer of some length: what is wrong with it.
 pub fn list_difference(text: &Lent, listing: &[u8], length: usize, library: &Calls) -> Option<String> {
-    let wanted = if length < LISTING_LIMIT { &[] } else { listing };
     let mut buffer = Lent::buffer(length, text.bytes().len());
     let given = (library.list)(text.bytes(), buffer.bytes_mut());
-    number_difference(wanted.len() as u64, given)
-        .or_else(|| buffer.difference(wanted))
+    number_difference(listing.len() as u64, given)
+        .or_else(|| buffer.difference(front(listing, length)))
         .map(|difference| format!("listing to {length} bytes: {difference}"))
 }
 
@@ -107,13 +111,13 @@ pub fn event_difference(text: &Lent, number: u64, event: &Answer, length: usize,
 
 fn name_difference(text: &Lent, number: u64, event: &Answer, length: usize, library: &Calls) -> Option<String> {
     let wanted = match event {
-        Ok(event) if length >= WORD_LIMIT => &text.bytes()[event.name.clone()],
-        _ => &[],
+        Ok(event) => &text.bytes()[event.name.clone()],
+        Err(_) => &[],
     };
     let mut buffer = Lent::buffer(length, number as usize);
     let given = (library.name)(text.bytes(), number, buffer.bytes_mut());
     number_difference(wanted.len() as u64, given)
-        .or_else(|| buffer.difference(wanted))
+        .or_else(|| buffer.difference(front(wanted, length)))
         .map(|difference| format!("name to {length} bytes: {difference}"))
 }
 

@@ -29,7 +29,8 @@ pub fn watch(diagram: &Diagram, calls: &[Call], counts: &mut Counts) {
     for call in calls {
         match call {
             Call::Finished => watch_question(diagram, &book, counts),
-            Call::Step(event) => watch_step(diagram, &mut book, *event, counts),
+            Call::Step(event) => watch_step("step", diagram, &mut book, *event, counts),
+            Call::Update(event) => watch_step("update", diagram, &mut book, *event, counts),
         }
     }
     counts.add_if(book.taken().len() > 300, "list of over 300 events taken");
@@ -42,11 +43,11 @@ fn watch_question(diagram: &Diagram, book: &Book, counts: &mut Counts) {
     counts.add_if(halfway, "or with a member halfway, asked whether finished");
 }
 
-fn watch_step(diagram: &Diagram, book: &mut Book, event: u64, counts: &mut Counts) {
+fn watch_step(call: &str, diagram: &Diagram, book: &mut Book, event: u64, counts: &mut Counts) {
     let was_finished = book.finished() == FINISHED;
     let cleared_resets = is_reset_over_resets(diagram, book, event);
     let answer = book.step(event);
-    counts.add(&format!("step {answer}"));
+    counts.add(&format!("{call} {answer}"));
     match answer {
         TAKEN => watch_taken(diagram, book, event as usize, cleared_resets, counts),
         NOT_NOW => watch_refused(diagram, book, event as usize, counts),

@@ -1,0 +1,28 @@
+-- Laws of packing.
+use mathlib.Core.Path.{_≡_, refl, sym, ap, _∙_}
+use mathlib.Core.List.{[], _∷_}
+use Prim.Native.Nat.{ℕ, _+_, _*_, _%_, _^_}
+use native.Mathlib.Omega.{arith}
+use Rattle.base.specs.Reports.{Report, result, refusal}
+use Rattle.harness.specs.Packed.{packed}
+
+-- An answer is told by what is told of the case that it is.
+pub told : {A : Type 0} (w : ℕ) (report : A → Report) {a b : A} {r : ℕ} → a ≡ b → r ≡ packed w (report b) → r ≡ packed w (report a)
+told w report is e = e ∙ ap (λ x. packed w (report x)) (sym is)
+
+pub refused : (w number place : ℕ) {r : ℕ} → r ≡ number * 2 ^ 32 + place % 2 ^ 32 → r ≡ packed w (refusal number place)
+refused w number place e = omega (arith, e)
+
+-- So many values, side by side.
+pub none : 0 ≡ packed 32 (result [])
+none = refl
+
+pub one : (n : ℕ) → n % 4294967296 ≡ packed 32 (result (n ∷ []))
+one n = omega arith
+
+pub three : (a b c : ℕ) → (a % 1024 * 1024 + b % 1024) * 1024 + c % 1024 ≡ packed 10 (result (a ∷ b ∷ c ∷ []))
+three a b c = omega arith
+
+pub four : (a b c d : ℕ) {x y z : ℕ} → x ≡ a → y ≡ b → z ≡ c
+    → ((x % 256 * 256 + y % 256) * 256 + z % 256) * 256 + d % 256 ≡ packed 8 (result (a ∷ b ∷ c ∷ d ∷ []))
+four a b c d p q s = rw (p, q, s) (omega arith)

@@ -1,0 +1,3 @@
+pub mod Packed
+pub mod Nodes
+pub mod Calls

@@ -1,0 +1,69 @@
+-- What a node of a text is told as: the diagram of an answer, node by node.
+use mathlib.Core.Bool.{Bool, cond}
+use mathlib.Core.List.{List, [], _∷_}
+use Prim.Native.Nat.{ℕ}
+use lib.Dec.{ltb}
+use lib.ListN.{getD}
+use Rattle.base.specs.Reports.{Report, result, refusal}
+use Rattle.diagram.specs.Stored.{blank-node}
+use Rattle.diagram.specs.declared.Diagram.{Diagram}
+use Rattle.diagram.specs.declared.Kind.{Kind}
+use Rattle.diagram.specs.declared.Kind.the-variants.{Flow, Leaf, And, Or, Xor, All, Some, One, Loop}
+use Rattle.diagram.specs.declared.Node.{Node}
+use Rattle.reader.specs.declared.Answer.{Answer}
+use Rattle.reader.specs.declared.Answer.the-variants.{Done, Refused as Unread}
+use Rattle.reader.specs.declared.Out.{Out}
+use Rattle.harness.specs.declared.Found.{Found}
+use Rattle.harness.specs.declared.Found.the-variants.{At, Refused}
+
+-- The kinds by number, and a replicator's size; 0 for a node that has none.
+abbrev pub kind-number : Kind → ℕ
+kind-number Flow = 0
+kind-number Leaf = 1
+kind-number And = 2
+kind-number Or = 3
+kind-number Xor = 4
+kind-number (All size) = 5
+kind-number (Some size) = 6
+kind-number (One size) = 7
+kind-number Loop = 8
+
+abbrev pub kind-size : Kind → ℕ
+kind-size Flow = 0
+kind-size Leaf = 0
+kind-size And = 0
+kind-size Or = 0
+kind-size Xor = 0
+kind-size (All size) = size
+kind-size (Some size) = size
+kind-size (One size) = size
+kind-size Loop = 0
+
+-- Kind, size, whether it is a solid child, and depth.
+abbrev pub node-values : Node → List ℕ
+node-values n = kind-number (n .kind) ∷ kind-size (n .kind) ∷ cond (n .solid) 1 0 ∷ n .depth ∷ []
+
+-- The places of its keyword, and of its name or par.
+abbrev pub place-values : Node → List ℕ
+place-values n = n .at ∷ n .name ∷ []
+
+-- The node with an index, in the order of the text; 255 past the last one.
+abbrev pub stored-at : Diagram → ℕ → Found
+stored-at d i = cond (ltb i (d .count)) (At (getD (d .nodes) i blank-node)) (Refused 255 0)
+
+abbrev pub found-in : Diagram → ℕ → Answer → Found
+found-in d i Done = stored-at d i
+found-in d i (Unread number place) = Refused number place
+
+-- The refusal of a text that is not read; the first case never comes up: for the contract of a private function.
+abbrev pub unread : Answer → Found
+unread Done = Refused 255 0
+unread (Unread number place) = Refused number place
+
+abbrev pub found-at : Out → ℕ → Found
+found-at o i = found-in (o .diagram) i (o .answer)
+
+-- What is told of a node that is found: these values of it; or number and place.
+abbrev pub report : (Node → List ℕ) → Found → Report
+report values (At n) = result (values n)
+report values (Refused number place) = refusal number place
