@@ -1,3 +1,4 @@
 pub mod Kept
+pub mod One
 pub mod Two
 pub mod Three

@@ -46,9 +46,9 @@ property-1 = record {
   read = λ text o m. rw (reads-met text o m) (read-bounded text);
   print = λ text lent p left m. let (x, y) = prints-met text lent p left m in rw (x, y) (print-bounded text lent);
   translate = λ text lent r left m. translate-bounded text lent r left (translates-met text lent r left m);
-  name = λ text e part m. name-bounded text e part (names-met text e part m);
+  name = λ text e part m. let n = names-met text e part m in (n, name-bounded text e part n);
   values = λ text e l m. values-bounded text e l (values-met text e l m);
-  list = λ text lent n left m. list-bounded text lent n left (lists-met text lent n left m);
+  list = λ text lent n left m. let l = lists-met text lent n left m in (l, list-bounded text lent n left l);
   check = λ t a m. rw (checks-met t a m) (check-answered t);
   step = λ t before e s m. rw (steps-met t before e s m) (step-answered t before e);
   finished = λ t before f m. rw (finishes-met t before f m) (finished-answered t before);

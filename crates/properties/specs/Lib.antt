@@ -1,3 +1,4 @@
 pub mod Calls
+pub mod One
 pub mod Two
 pub mod Three

@@ -15,6 +15,8 @@ use Rattle.printer.specs.Bounds as printer
 use Rattle.printer.specs.declared.Printed.{Printed}
 use Rattle.translator.specs.Bounds as translator
 use Rattle.translator.specs.declared.Translated.{Translated}
+use Rattle.events.specs.Names.{Named}
+use Rattle.events.specs.Listing.{Listed}
 use Rattle.events.specs.Bounds.{Name-bounded, Values-bounded, List-bounded}
 use Rattle.events.specs.declared.Label.{Label}
 use Rattle.reader.proofs.read.Reads as read-reads
@@ -62,9 +64,9 @@ pub record Property-1 : Type 0 where
   pub read : (text : List ℕ) (o : Out) → Reads text o → reader.Bounded text o
   pub print : (text lent : List ℕ) (p : Printed) (left : List ℕ) → Prints text lent p left → printer.Bounded text lent p left
   pub translate : (text lent : List ℕ) (r : Translated) (left : List ℕ) → Translates text lent r left → translator.Bounded text lent r left
-  pub name : (text : RefT (List ℕ)) (e : ℕ) (part : RefT (List ℕ)) → Names text e part → Name-bounded text part
+  pub name : (text : RefT (List ℕ)) (e : ℕ) (part : RefT (List ℕ)) → Names text e part → Named text e part × Name-bounded text part
   pub values : (text : List ℕ) (e : ℕ) (l : Label) → Values text e l → Values-bounded text e l
-  pub list : (text lent : List ℕ) (n : ℕ) (left : List ℕ) → Lists text lent n left → List-bounded lent n left
+  pub list : (text lent : List ℕ) (n : ℕ) (left : List ℕ) → Lists text lent n left → Listed text lent n left × List-bounded lent n left
   pub check : (t : List ℕ) (a : Answer) → Checks t a → Check-answer t a
   pub step : (t : List ℕ) (before : Record) (e : ℕ) (s : Stepped) → Steps t before e s → Step-answer t before e s
   pub finished : (t : List ℕ) (before : Record) (f : Finish) → Finishes t before f → Finish-answer t before f
