@@ -1,5 +1,5 @@
 -- Property 3, from the contracts of the calls to the book.
-use mathlib.Core.Path.{_≡_, refl, sym, ap, _∙_, subst}
+use mathlib.Core.Path.{_≡_, refl, ap, ap₂, _∙_}
 use mathlib.Core.Logic.{_⊎_, inl, inr}
 use mathlib.Core.List.{List, [], _∷_, map}
 use Prim.Native.Nat.{ℕ}
@@ -7,15 +7,15 @@ use lib.ListN.{take, replicate}
 use Rattle.record.specs.Blank.{blank-record}
 use Rattle.record.specs.declared.Record.{Record}
 use Rattle.table.specs.Steps.{step-of, finished-of}
+use Rattle.table.specs.declared.Answer.{Answer}
+use Rattle.table.specs.declared.Finish.{Finish}
 use Rattle.table.specs.declared.Stepped.{Stepped}
-use Rattle.firmware.specs.Calls.{step-number, step-bytes, finished-number}
-use Rattle.book.specs.Calls.{Call, step, finished, Reply, stepped, told, Line}
+use Rattle.book.specs.Calls.{Call, step, finished, stepped, told, Line}
 use Rattle.book.specs.Plays.{play}
 use Rattle.book.proofs.Once.{admits-once}
 use Rattle.runs.specs.InC.{C-line, play-in-c}
 use Rattle.runs.proofs.Through.{blank-in-c}
 use Rattle.translator.proofs.Bounds.{accepted-translated}
-use Rattle.properties.specs.Calls.{Translates}
 use Rattle.properties.specs.Three.{Played, none, next, Makes, C-makes, Runs, Property-3}
 use Rattle.properties.proofs.Kept.{steps-met, finishes-met, updates-met, c-steps-met, c-finishes-met, translates-met}
 
@@ -26,8 +26,9 @@ line-of t finished before = record { reply = told (finished-of t before); after 
 
 one-line : (t : List ℕ) (c : Call) (before : Record) (l : Line) → Makes t c before l → l ≡ line-of t c before
 one-line t (step e) before l (inl (r, m, q)) = q ∙ ap (λ (s : Stepped). record { reply = stepped (s .answer); after = s .after }) (steps-met t before e r m)
-one-line t (step e) before l (inr (a, r, m, q)) = let (x, y) = updates-met t before e a r m in q ∙ rw (x, y)
-one-line t finished before l (f, m, q) = q ∙ rw (finishes-met t before f m)
+one-line t (step e) before l (inr (a, r, m, q)) =
+    let (x, y) = updates-met t before e a r m in q ∙ ap₂ (λ (a : Answer) (r : Record). record { reply = stepped a; after = r }) x y
+one-line t finished before l (f, m, q) = q ∙ ap (λ (f : Finish). record { reply = told f; after = before }) (finishes-met t before f m)
 
 -- A list of calls, whatever each of them answered and left.
 made-played : (t : List ℕ) (before : Record) (calls : List Call) (made : List Line) → Played (Makes t) (λ (l : Line). l .after) before calls made → made ≡ play t before calls
