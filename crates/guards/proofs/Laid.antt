@@ -5,11 +5,11 @@ use mathlib.Core.List.{List, [], _∷_}
 use Prim.Native.Nat.{ℕ, suc, _+_, _*_, _≤_}
 use borrow.Author.Tests.{ltb-true, ltb-false, leb-true, lt-leb, le-leb}
 use lib.Dec.{ltb, leb}
-use lib.ListN.{length, getD}
+use lib.ListN.{length}
 use Rattle.base.proofs.Truth.{by-cases, and-l, and-r}
-use Rattle.guards.specs.Words.{not-row, both-row, either-row, put-word, put-rows}
+use Rattle.guards.specs.Words.{not-row, either-row, put-word, put-rows}
 use Rattle.guards.specs.Passes.{Up, ups}
-use Rattle.guards.specs.Lays.{constants, base-of, first-pass, second-pass, room, laid-size, laid-out}
+use Rattle.guards.specs.Lays.{constants, base-of, first-pass, second-pass, last-row, room, laid-size, laid-out}
 use Rattle.guards.proofs.Stepped.{up-at}
 
 -- ---- room
@@ -70,13 +70,13 @@ first-begins base n ops marks xs ys out written q = rw q
 pub laid-all : (ops : List ℕ) (events : ℕ) (lent : List ℕ) → cramped (length ops) events (length lent) ≡ false
     → (u : Up) → u ≡ first-pass ops events lent
     → (rows : ℕ) (out : List ℕ) → (rows ≡ second-pass ops events u .rows) × (out ≡ second-pass ops events u .out)
-    → (done row head size : ℕ) (mid last : List ℕ) → done ≡ getD (u .marks) (u .top + 2) 0 → row ≡ both-row done done
+    → (row head size : ℕ) (mid last : List ℕ) → row ≡ last-row u
     → mid ≡ put-rows (base-of events) rows (row ∷ []) out → head ≡ events * 65536 + suc rows → last ≡ put-word mid 0 head
     → size ≡ base-of events + 4 * suc rows
     → (size ≡ laid-size ops events lent) × (last ≡ laid-out ops events lent)
 unfolding laid-size laid-out
-laid-all ops events lent f u first rows out second done row head size mid last d r m h l s =
+laid-all ops events lent f u first rows out second row head size mid last r m h l s =
     let t = has-room (length ops) events (length lent) f in (
       rw (s, second .0, first) (sym (cond-yes (room ops events lent) _ _ t)),
-      rw (l, h, m, r, d, second .0, second .1, first) (sym (cond-yes (room ops events lent) _ _ t)),
+      rw (l, h, m, r, second .0, second .1, first) (sym (cond-yes (room ops events lent) _ _ t)),
     )

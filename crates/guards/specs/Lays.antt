@@ -36,12 +36,13 @@ first-pass ops events lent = ups (base-of events) ops (length ops) (up-start (ba
 unfoldable pub second-pass : List ℕ → ℕ → Up → Down
 second-pass ops events u = downs (base-of events) ops (u .xs) (u .ys) (length ops) (length ops) (down-start u)
 
--- "Row R−1 says finished": one row more, which says that the whole is complete; and E and R.
+-- "Row R−1 says finished": one row more, which says that the whole is complete.
+abbrev pub last-row : Up → ℕ
+last-row u = both-row (getD (u .marks) (u .top + 2) 0) (getD (u .marks) (u .top + 2) 0)
+
+-- That row; and E and R.
 abbrev pub finish : ℕ → Up → Down → List ℕ
-finish events u d =
-    put-word
-    (put-rows (base-of events) (d .rows) (both-row (getD (u .marks) (u .top + 2) 0) (getD (u .marks) (u .top + 2) 0) ∷ []) (d .out))
-    0 (events * 65536 + suc (d .rows))
+finish events u d = put-word (put-rows (base-of events) (d .rows) (last-row u ∷ []) (d .out)) 0 (events * 65536 + suc (d .rows))
 
 -- There is room: at most 1,024 numbers, 512 events, and the buffer that document 01 asks for.
 abbrev pub room : List ℕ → ℕ → List ℕ → Bool

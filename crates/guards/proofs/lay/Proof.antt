@@ -1,11 +1,11 @@
 -- `guards::lay` meets its contract: nothing where there is no room, else three rows, the two passes, one row more, E and R.
 use native.Mathlib.Omega.{arith}
 use borrow.Author.Needs.{needs}
-use mathlib.Core.Path.{_≡_, refl, _∙_}
+use mathlib.Core.Path.{_≡_, refl, ap, _∙_}
 use mathlib.Core.List.{List}
 use Prim.Native.Nat.{ℕ, _≤_}
 use lib.ListN.{length}
-use Rattle.guards.specs.Words.{put-rows}
+use Rattle.guards.specs.Words.{both-row, put-rows}
 use Rattle.guards.specs.Passes.{Up, Down}
 use Rattle.guards.specs.Lays.{constants, base-of, first-pass, second-pass}
 use Rattle.guards.proofs.Stepped.{up-at}
@@ -185,9 +185,9 @@ returns-2 c =
     let first = first-of second in
     let test = test-of (rows-of first) in
     laid-all (ops-of test) (events-of test) (lent-of test) (test .if1 .left) (up-state first) (first-done first) (second .downs .result)
-    (second .downs .last .1 .1 .1 .1 .1 .1 .0) (second-done second) (numbered .number .result) (row .before .both-row .result) _ _
+    (second .downs .last .1 .1 .1 .1 .1 .1 .0) (second-done second) (row .before .both-row .result) _ _
     (row .row4 .last .0)
-    (last .put-word .last .0) (numbered .number .ensures) (row .before .both-row .ensures) (row .row4 .ensures) (omega arith)
+    (last .put-word .last .0) (row .before .both-row .ensures ∙ ap (λ (n : ℕ). both-row n n) (numbered .number .ensures)) (row .row4 .ensures) (omega arith)
     (last .put-word .ensures) (omega arith)
 
 pub lay-spec : {M : Type 1} → statement M
