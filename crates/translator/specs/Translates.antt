@@ -38,7 +38,7 @@ pub record Table-of (d : Flow) (t : List ℕ) : Type 0 where
   -- property 3
   pub its-runs : Plays-by-book d t
 
--- The bytes that are chosen for a diagram.
+-- The bytes that are chosen for a diagram. Which rows they have is open; they depend on the diagram alone.
 unfoldable pub table-of : Flow → List ℕ
 table-of d = planned (expand d)
 
@@ -56,7 +56,7 @@ pub data Translation (text lent : List ℕ) (r : Translated) (left : List ℕ) :
   refused : (number place : ℕ) → 51204 ≤ length lent → Turned text number place → report r ≡ refusal number place → left ≡ lent → Translation text lent r left
   done : (d : Flow) (count : ℕ) → 51204 ≤ length lent → Accepted text d → report r ≡ result (count ∷ []) → Written d lent count left → Translation text lent r left
 
--- Reading's refusal, passed on. Where the text was read there is none, and no byte was written.
+-- Reading's refusal, passed on: for the contract of a private function. Where the text was read there is none, and no byte was written.
 abbrev pub passed-on : Answer → Translated
 passed-on Done = Bytes 0
 passed-on (Unread number place) = Refused number place
