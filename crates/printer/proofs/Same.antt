@@ -1,14 +1,15 @@
 -- Property 2 on the lent bytes: what was printed, read again; and which texts print alike.
-use mathlib.Core.Path.{_≡_, refl, sym, _∙_, ap, subst}
+use mathlib.Core.Path.{_≡_, refl, sym, _∙_, ap, ap₂, subst}
 use mathlib.Core.List.{List, [], _∷_, _++_, map, map-append}
 use Prim.Native.Nat.{ℕ, _-_, _≤_}
 use native.Mathlib.Omega.{arith}
-use lib.ListN.{length, replicate}
+use lib.ListN.{length, getD, drop, replicate}
 use Rattle.base.specs.Reports.{result}
 use Rattle.base.proofs.Filled.{fill-front}
 use Rattle.diagram.specs.Tree.{Flow}
 use Rattle.diagram.specs.Stored.{blank-node}
 use Rattle.diagram.specs.declared.Node.{Node}
+use Rattle.diagram.specs.declared.Diagram.{Diagram}
 use Rattle.lexer.specs.Spans.{places}
 use Rattle.rules.specs.Heads.{Head}
 use Rattle.grammar.specs.Printed.{printed}
@@ -25,7 +26,7 @@ use Rattle.printer.specs.declared.Printed.{Printed}
 use Rattle.printer.proofs.Alike.{printed-shorter, printed-accepted, print-alike}
 use Rattle.printer.proofs.Bounds.{accepted-prints}
 
--- But for its places a node does not depend on the places of the tokens.
+-- "Places aside": but for its places a node does not depend on the places of the tokens.
 nodes-unplaced : (ps qs : List ℕ) (hs : List Head) → map unplaced-node (map (node-of ps) hs) ≡ map unplaced-node (map (node-of qs) hs)
 unfolding node-of
 nodes-unplaced ps qs [] = refl
@@ -39,6 +40,33 @@ stored-unplaced ps qs hs x y =
       map-append unplaced-node (map (node-of qs) hs) (replicate (256 - length hs) blank-node),
       nodes-unplaced ps qs hs,
     )
+
+-- It forgets nothing else: diagrams that are equal without their places, and have the same places, are equal.
+placed-node : Node → ℕ → ℕ → Node
+placed-node n at name = record { kind = n .kind; solid = n .solid; depth = n .depth; at = at; name = name }
+
+node-placed : (n m : Node) → unplaced-node n ≡ unplaced-node m → n .at ≡ m .at → n .name ≡ m .name → n ≡ m
+unfolding placed-node
+node-placed n m e p q = ap (λ (x : Node). placed-node x (n .at) (n .name)) e ∙ ap₂ (placed-node m) p q
+
+nodes-placed : (ns ms : List Node) → map unplaced-node ns ≡ map unplaced-node ms → map (λ n. n .at) ns ≡ map (λ n. n .at) ms
+    → map (λ n. n .name) ns ≡ map (λ n. n .name) ms → ns ≡ ms
+nodes-placed [] [] e p q = refl
+nodes-placed [] (m ∷ ms) e p q = let z : ⊥ = omega (arith, ap length p) in absurd z
+nodes-placed (n ∷ ns) [] e p q = let z : ⊥ = omega (arith, ap length p) in absurd z
+nodes-placed (n ∷ ns) (m ∷ ms) e p q =
+    let x : n .at ≡ m .at = cc in
+    let y : n .name ≡ m .name = cc in
+    let h : unplaced-node n ≡ unplaced-node m = ap (λ (l : List Node). getD l 0 n) e in
+    ap₂ (λ (a : Node) (l : List Node). a ∷ l) (node-placed n m h x y) (nodes-placed ns ms (ap (drop 1) e) (ap (drop 1) p) (ap (drop 1) q))
+
+pub only-places : (g h : Diagram) → unplaced g ≡ unplaced h → map (λ n. n .at) (g .nodes) ≡ map (λ n. n .at) (h .nodes)
+    → map (λ n. n .name) (g .nodes) ≡ map (λ n. n .name) (h .nodes) → g ≡ h
+unfolding unplaced
+only-places g h e p q =
+    let ns = nodes-placed (g .nodes) (h .nodes) (ap (λ (d : Diagram). d .nodes) e) p q in
+    ap (λ (d : Diagram). record { nodes = g .nodes; count = d .count; copies = d .copies; events = d .events }) e
+    ∙ ap (λ (l : List Node). record { nodes = l; count = h .count; copies = h .copies; events = h .events }) ns
 
 -- Two texts of one tree have the same diagram, places aside.
 pub same-diagram : (s t : List ℕ) (d : Flow) → Accepted s d → Accepted t d → Same s (read-of s .diagram) t (read-of t .diagram)

@@ -18,7 +18,8 @@ use Rattle.printer.specs.Reports.{report}
 use Rattle.printer.specs.declared.Printed.{Printed}
 use Rattle.printer.specs.declared.Printed.the-variants.{Bytes, Refused}
 
--- A diagram by value without its places: a node tells where its keyword and its name stand in the text, and without the blanks they stand elsewhere.
+-- A diagram by value without its places: a node tells where its keyword and its name stand in the text, and without the blanks they stand elsewhere. Nothing
+-- else is left out: `printer.proofs.Same.only-places`.
 abbrev pub unplaced-node : Node → Node
 unplaced-node n = record { kind = n .kind; solid = n .solid; strong = n .strong; depth = n .depth; at = 0; name = 0 }
 
