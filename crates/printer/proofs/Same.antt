@@ -43,7 +43,7 @@ stored-unplaced ps qs hs x y =
 
 -- It forgets nothing else: diagrams that are equal without their places, and have the same places, are equal.
 placed-node : Node → ℕ → ℕ → Node
-placed-node n at name = record { kind = n .kind; solid = n .solid; depth = n .depth; at = at; name = name }
+placed-node n at name = record { kind = n .kind; solid = n .solid; strong = n .strong; depth = n .depth; at = at; name = name }
 
 node-placed : (n m : Node) → unplaced-node n ≡ unplaced-node m → n .at ≡ m .at → n .name ≡ m .name → n ≡ m
 unfolding placed-node
