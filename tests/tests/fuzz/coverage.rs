@@ -44,7 +44,19 @@ impl Coverage {
 // ---------------------------------------------------------------------------
 
 const CALLS: [&str; 13] = [
-    "read", "node", "place", "print", "translate", "list", "name", "values", "check", "step", "update", "offer", "finished",
+    "read",
+    "node",
+    "place",
+    "print",
+    "translate",
+    "list",
+    "name",
+    "values",
+    "check",
+    "step",
+    "update",
+    "offer",
+    "finished",
 ];
 
 /// The numbers that a call can answer with; 0 stands for what is no refusal.

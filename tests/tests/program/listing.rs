@@ -20,7 +20,7 @@ const PROGRAM: &str = "ADL_LISTING";
 
 #[test]
 fn texts_worked_through() {
-    let Some(program) = program(PROGRAM) else { return };
+    let program = program(PROGRAM);
     for (text, wanted) in worked::listings() {
         assert_prints(&program, &[&text], wanted.as_bytes());
     }
@@ -30,7 +30,7 @@ fn texts_worked_through() {
 /// away, not cut.
 #[test]
 fn blanks_and_lengths() {
-    let Some(program) = program(PROGRAM) else { return };
+    let program = program(PROGRAM);
     assert_played(&program, format!("\n\n  {}  \n", T.replace(')', " )\n")).as_bytes());
     for length in [TEXT_LIMIT - 1, TEXT_LIMIT, TEXT_LIMIT + 1, 4 * TEXT_LIMIT, 200_000] {
         let mut blank_end = T.as_bytes().to_vec();
@@ -44,7 +44,7 @@ fn blanks_and_lengths() {
 
 #[test]
 fn random_drawings_and_bytes() {
-    let Some(program) = program(PROGRAM) else { return };
+    let program = program(PROGRAM);
     for seed in (number_from("ADL_SEED", 1)..).take(CASES) {
         let random = &mut Random::new(seed);
         let size = *random.pick(&[Size::Small(10), Size::Middle, Size::Deep, Size::Full]);
@@ -60,7 +60,7 @@ fn random_drawings_and_bytes() {
 /// reference does.
 #[test]
 fn drawings_shipped() {
-    let Some(program) = program(PROGRAM) else { return };
+    let program = program(PROGRAM);
     let mut played = 0;
     for entry in fs::read_dir(concat!(env!("CARGO_MANIFEST_DIR"), "/../drawings")).unwrap() {
         let path = entry.unwrap().path();
@@ -81,7 +81,7 @@ fn drawings_shipped() {
 /// A pipe gives at most what was written so far: all pieces are to be joined.
 #[test]
 fn texts_in_pieces() {
-    let Some(program) = program(PROGRAM) else { return };
+    let program = program(PROGRAM);
     assert_played_in_pieces(&program, T.as_bytes(), 1);
     assert_played_in_pieces(&program, U.as_bytes(), 7);
     assert_played_in_pieces(&program, T.as_bytes(), T.len() - 1);
@@ -99,7 +99,7 @@ fn texts_in_pieces() {
 
 #[test]
 fn texts_from_a_file() {
-    let Some(program) = program(PROGRAM) else { return };
+    let program = program(PROGRAM);
     let path = format!("{}/listing_program.txt", env!("CARGO_TARGET_TMPDIR"));
     for text in [b"".to_vec(), T.as_bytes().to_vec(), pad_between(U.as_bytes(), TEXT_LIMIT), vec![b' '; 200_000]] {
         fs::write(&path, &text).expect("the file can be written");

@@ -1,9 +1,11 @@
 //! Holds the programs against the reference. Their paths are in the environment
-//! variables ADL_LISTING, ADL_TRANSLATE and ADL_PLAY; without one its program
-//! is not played, and a line says so. ADL_SEED: the seed of the first random drawing.
+//! variables ADL_LISTING, ADL_TRANSLATE and ADL_PLAY; without one the tests of
+//! its program fail. ADL_SEED: the seed of the first random drawing.
 //!
-//! A relative path is looked up from the directory of this package.
+//! A relative path is looked up from the directory of this package. The tests of
+//! `alone` need no program.
 
+mod alone;
 mod listing;
 mod playing;
 mod running;

@@ -1,6 +1,7 @@
 //! The program `play` against the reference, and against what docs/COURSE.md
 //! shows of it.
 
+use crate::alone::{course, runs_in, Run, ROOT};
 use crate::running::{assert_prints, program, start};
 use reference::drawings::{accepted_text, Size};
 use reference::generate::{damaged, many_events, pad_between, random_bytes, Random, T, U};
@@ -8,7 +9,6 @@ use reference::kit::number_from;
 use reference::meaning::{Book, Diagram};
 use reference::player::{label, played, LINE_LIMIT};
 use reference::TEXT_LIMIT;
-use std::collections::BTreeSet;
 use std::ffi::OsString;
 use std::fs;
 use std::io::{BufRead, BufReader, Write};
@@ -17,7 +17,6 @@ use std::process::Stdio;
 /// How many random drawings are played.
 const CASES: usize = 60;
 const PROGRAM: &str = "ADL_PLAY";
-const ROOT: &str = concat!(env!("CARGO_MANIFEST_DIR"), "/..");
 
 fn assert_played(program: &OsString, input: &[u8]) {
     assert_prints(program, &[input], &played(input));
@@ -27,36 +26,13 @@ fn assert_played(program: &OsString, input: &[u8]) {
 // What the course shows
 // ---------------------------------------------------------------------------
 
-/// Each `target/bin/play < FILE` of the course, with the block after it.
+/// Each run of the course, those of its answers too.
 #[test]
 fn the_course_shows_what_is_printed() {
-    let Some(program) = program(PROGRAM) else { return };
-    let course = fs::read_to_string(format!("{ROOT}/docs/COURSE.md")).unwrap();
-    let mut shown = 0;
-    for part in course.split("    target/bin/play < ").skip(1) {
-        let (file, after) = part.split_once('\n').unwrap();
-        let wanted = block(after);
+    let program = program(PROGRAM);
+    for Run { file, shown } in runs_in(&course()) {
         let input = fs::read(format!("{ROOT}/{file}")).unwrap();
-        assert_eq!(String::from_utf8(played(&input)).unwrap(), wanted, "the course at {file}");
-        assert_prints(&program, &[&input], wanted.as_bytes());
-        shown += 1;
-    }
-    assert!(shown >= 5, "only {shown} runs in the course");
-}
-
-/// The first block of a document's part, without its fences.
-fn block(part: &str) -> &str {
-    let after_fence = part.split_once("```\n").expect("a block").1;
-    after_fence.split_once("```").expect("the block's end").0
-}
-
-/// Where the course shows a run, the file it names is a drawing and events.
-#[test]
-fn every_run_of_the_course_is_shown() {
-    let course = fs::read_to_string(format!("{ROOT}/docs/COURSE.md")).unwrap();
-    for entry in fs::read_dir(format!("{ROOT}/course")).unwrap() {
-        let name = entry.unwrap().file_name().into_string().unwrap();
-        assert!(course.contains(&format!("target/bin/play < course/{name}\n")), "{name} is not shown");
+        assert_prints(&program, &[&input], shown.as_bytes());
     }
 }
 
@@ -66,7 +42,7 @@ fn every_run_of_the_course_is_shown() {
 
 #[test]
 fn inputs_worked_through() {
-    let Some(program) = program(PROGRAM) else { return };
+    let program = program(PROGRAM);
     let run = |text: &str, events: &str| format!("{text}\n\n{events}").into_bytes();
     let double = "take: done\nbits [0 take]\nnext [1 fill] [2 send] [3 drop]\n";
     let begin = "events 5 copies 8\nbits\nnext [0 take]\n";
@@ -82,7 +58,7 @@ fn inputs_worked_through() {
 /// Lines that say no event, empty ones, long ones, and inputs without events.
 #[test]
 fn lines_of_all_sorts() {
-    let Some(program) = program(PROGRAM) else { return };
+    let program = program(PROGRAM);
     let long = "x".repeat(LINE_LIMIT);
     let lines = [
         "", "take ", " take", "Take", "00", "+0", "-1", "0 take", "take\r", "reset trip", "5", "512", "18446744073709551616", &long,
@@ -104,7 +80,7 @@ fn lines_of_all_sorts() {
 
 #[test]
 fn texts_at_the_limit() {
-    let Some(program) = program(PROGRAM) else { return };
+    let program = program(PROGRAM);
     for length in [TEXT_LIMIT - 2, TEXT_LIMIT - 1, TEXT_LIMIT, TEXT_LIMIT + 1, 200_000] {
         let text: Vec<u8> = without_line_ends(pad_between(many_events(16).as_bytes(), length));
         let events: String = (0..6).map(|event| format!("{event}\n")).collect();
@@ -114,7 +90,7 @@ fn texts_at_the_limit() {
 
 #[test]
 fn random_drawings_and_events() {
-    let Some(program) = program(PROGRAM) else { return };
+    let program = program(PROGRAM);
     for seed in (number_from("ADL_SEED", 1)..).take(CASES) {
         let random = &mut Random::new(seed);
         let size = *random.pick(&[Size::Small(10), Size::Middle, Size::Deep, Size::Full]);
@@ -158,25 +134,10 @@ fn line_for(diagram: &Diagram, event: usize, random: &mut Random) -> String {
     }
 }
 
-/// The program and the reference both take the first event that is called so:
-/// neither would tell if two were. This asks the drawings themselves.
-#[test]
-fn no_two_events_are_called_the_same() {
-    for seed in (number_from("ADL_SEED", 1)..).take(10 * CASES) {
-        let random = &mut Random::new(seed);
-        let size = *random.pick(&[Size::Small(10), Size::Middle, Size::Deep, Size::Full]);
-        let text = accepted_text(size, random);
-        let diagram = Diagram::of(&text).expect("the drawing is accepted");
-        let mut called: BTreeSet<String> = diagram.events.iter().map(label).collect();
-        called.extend((0..diagram.events.len()).map(|number| number.to_string()));
-        assert_eq!(called.len(), 2 * diagram.events.len(), "b\"{}\"", text.escape_ascii());
-    }
-}
-
 /// A class types an event and sees its answer before the next one.
 #[test]
 fn a_line_is_answered_when_it_is_there() {
-    let Some(program) = program(PROGRAM) else { return };
+    let program = program(PROGRAM);
     let mut child = start(&program, Stdio::piped());
     let mut input = child.stdin.take().expect("standard input is a pipe");
     let mut output = BufReader::new(child.stdout.take().expect("standard output is a pipe"));

@@ -2,7 +2,7 @@
 
 use std::env;
 use std::ffi::OsString;
-use std::io::{self, ErrorKind, Read, Write};
+use std::io::{ErrorKind, Read, Write};
 use std::process::{Child, ChildStdin, Command, ExitStatus, Stdio};
 use std::thread::{self, sleep};
 use std::time::{Duration, Instant};
@@ -12,14 +12,10 @@ const TIME_LIMIT: Duration = Duration::from_secs(20);
 /// Between two pieces of an input; by then the program waits for the second.
 const PAUSE: Duration = Duration::from_millis(1);
 
-/// The path of a program, from an environment variable.
-pub fn program(variable: &str) -> Option<OsString> {
-    let program = env::var_os(variable);
-    if program.is_none() {
-        // Not by a macro that the test's capture would see.
-        let _ = writeln!(io::stderr(), "{variable} is not set: the program is not played");
-    }
-    program
+/// The path of a program, from an environment variable. A test whose program is
+/// missing has failed.
+pub fn program(variable: &str) -> OsString {
+    env::var_os(variable).unwrap_or_else(|| panic!("{variable} is not set: there is no program to play"))
 }
 
 pub fn start(program: &OsString, input: Stdio) -> Child {

@@ -56,7 +56,7 @@ fn offered(table: &[u8], record: &[u8]) -> Vec<usize> {
 
 #[test]
 fn tables_play_their_drawings() {
-    let Some(program) = program(PROGRAM) else { return };
+    let program = program(PROGRAM);
     for text in [T.as_bytes(), U.as_bytes(), &pad_between(many_copies(8).as_bytes(), TEXT_LIMIT)] {
         assert_played(&program, text, &mut Random::new(1));
     }
@@ -70,7 +70,7 @@ fn tables_play_their_drawings() {
 
 #[test]
 fn texts_turned_away_give_no_table() {
-    let Some(program) = program(PROGRAM) else { return };
+    let program = program(PROGRAM);
     for text in edge_texts().iter().step_by(50) {
         table_of(&program, text);
     }
