@@ -4,18 +4,19 @@ use mathlib.Core.Logic.{_↔_}
 use mathlib.Core.List.{List}
 use Prim.Native.Nat.{ℕ}
 use Rattle.diagram.specs.Tree.{Flow}
+use Rattle.diagram.specs.declared.Diagram.{Diagram}
 use Rattle.reader.specs.Answers.{read-of}
 use Rattle.reader.specs.Accepted.{Accepted}
 use Rattle.reader.specs.Refused.{Turned}
-use Rattle.reader.specs.Views.{Shows-only}
+use Rattle.reader.specs.Views.{Shows, Shows-only}
 use Rattle.reader.specs.declared.Answer.the-variants.{Done, Refused}
 use Rattle.reader.specs.declared.Out.{Out}
 use Rattle.reader.proofs.Exact as exact
 use Rattle.reader.proofs.Once.{accepted-shows-only}
 use Rattle.printer.specs.Prints.{print-of, left-by}
-use Rattle.printer.specs.Same.{wrote, written}
+use Rattle.printer.specs.Same.{Same, unplaced, wrote, written}
 use Rattle.printer.specs.declared.Printed.{Printed}
-use Rattle.printer.proofs.Same.{print-then-read, left-alike}
+use Rattle.printer.proofs.Same.{same-diagram, print-then-read, left-alike}
 use Rattle.properties.specs.Calls.{Reads, Prints}
 use Rattle.properties.specs.Two.{Printing, Again, Property-2}
 use Rattle.properties.proofs.Kept.{reads-met, prints-met}
@@ -40,6 +41,23 @@ again text d p left k o q m n =
       shows-again = rw (s, w) (a .shows-again);
     }
 
+-- Diagrams that are the same, places aside, show the same tree.
+same-shown : (s t : List ℕ) (e : Flow) (g h : Diagram) → Same s g t h → Shows t e h → Shows s e g
+unfolding unplaced
+same-shown s t e g h m k = record {
+  nodes = m .names ∙ k .nodes;
+  count = ap (λ (x : Diagram). x .count) (m .nodes) ∙ k .count;
+  copies = ap (λ (x : Diagram). x .copies) (m .nodes) ∙ k .copies;
+  events = ap (λ (x : Diagram). x .events) (m .nodes) ∙ k .events;
+}
+
+same-tree : (s t : List ℕ) (d e : Flow) → Accepted s d → Accepted t e → Same s (read-of s .diagram) t (read-of t .diagram) ↔ (d ≡ e)
+same-tree s t d e a b = (
+  λ m. sym (accepted-shows-only s d a .no-other e (b .keeps .parameters)
+      (same-shown s t e (read-of s .diagram) (read-of t .diagram) m (accepted-shows-only t e b .this))),
+  λ q. same-diagram s t d a (rw q b),
+)
+
 pub property-2 : Property-2
 property-2 = record {
   accepted-exactly = λ text o m. rw (reads-met text o m) (exact.accepted-exactly text);
@@ -48,4 +66,5 @@ property-2 = record {
   read-again = again;
   print-alike = λ s t d e p q left other k l.
       rw (wrote-is s d p left k, wrote-is t e q other l) (left-alike s (k .lent) d t (l .lent) e (k .enough) (l .enough) (k .accepted) (l .accepted) .exactly);
+  same-exactly = λ s t d e o q a b m n. rw (reads-met s o m, reads-met t q n) (same-tree s t d e a b);
 }

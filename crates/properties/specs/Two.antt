@@ -42,3 +42,6 @@ pub record Property-2 : Type 0 where
       → (o again : Out) → Reads text o → Reads (written p left) again → Again text d p left o again
   pub print-alike : (s t : List ℕ) (d e : Flow) (p q : Printed) (left other : List ℕ) → Printing s d p left → Printing t e q other
       → (written p left ≡ written q other) ↔ (d ≡ e)
+  -- "their diagrams are equal", of what reading answered: the same, places aside, exactly if the trees are
+  pub same-exactly : (s t : List ℕ) (d e : Flow) (o q : Out) → Accepted s d → Accepted t e → Reads s o → Reads t q
+      → Same s (o .diagram) t (q .diagram) ↔ (d ≡ e)
