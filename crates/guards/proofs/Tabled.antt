@@ -19,7 +19,7 @@ use Rattle.table.specs.Values.{row-value, values-of}
 use Rattle.table.proofs.Sentences.{sound-exactly}
 use Rattle.table.proofs.Obeyed.{values-obey}
 use Rattle.book.specs.Tells.{Tells}
-use Rattle.guards.specs.Words.{put-word, put-rows}
+use Rattle.guards.specs.Words.{put-rows}
 use Rattle.guards.specs.Lays.{base-of}
 use Rattle.guards.proofs.Says.{says, Obeys, Lower}
 use Rattle.guards.proofs.Fields.{field-take, word-beside, halves-back, rows-beside, Small, row-back}

@@ -1,6 +1,6 @@
 -- Property 2 on the lent bytes: what was printed, read again; and which texts print alike.
 use mathlib.Core.Path.{_≡_, refl, sym, _∙_, ap, ap₂, subst}
-use mathlib.Core.List.{List, [], _∷_, _++_, map, map-append}
+use mathlib.Core.List.{List, [], _∷_, map, map-append}
 use Prim.Native.Nat.{ℕ, _-_, _≤_}
 use native.Mathlib.Omega.{arith}
 use lib.ListN.{length, getD, drop, replicate}
@@ -19,7 +19,7 @@ use Rattle.reader.specs.Accepted.{Accepted}
 use Rattle.reader.specs.declared.Out.{Out}
 use Rattle.reader.proofs.Exact.{accepted-read, accepted-exactly}
 use Rattle.reader.proofs.Shown.{accepted-shown}
-use Rattle.printer.specs.Prints.{print-of, left-by}
+use Rattle.printer.specs.Prints.{left-by}
 use Rattle.printer.specs.Reports.{report}
 use Rattle.printer.specs.Same.{unplaced-node, unplaced, Same, written, wrote, Again, Alike}
 use Rattle.printer.specs.declared.Printed.{Printed}

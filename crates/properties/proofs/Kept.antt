@@ -1,6 +1,6 @@
 -- What the calls that were made answered and left, by the definitions of their contracts. Each law goes from a call's own `Post` to its definition by the law of its
 -- crate's file `Promised`.
-use mathlib.Core.Path.{_≡_, sym, _∙_, subst}
+use mathlib.Core.Path.{_≡_}
 use mathlib.Core.List.{List}
 use Prim.Native.Nat.{ℕ}
 use denote.Ref.{RefT}

@@ -1,13 +1,9 @@
 -- Property 1, from the contracts of the calls.
-use mathlib.Core.Path.{_≡_, sym, subst}
 use mathlib.Core.List.{List, []}
 use Prim.Native.Nat.{ℕ}
-use denote.Ref.{now}
-use Rattle.record.specs.Blank.{blank-record}
 use Rattle.record.specs.declared.Record.{Record}
 use Rattle.table.specs.Bounds.{Step-answer}
 use Rattle.table.specs.declared.Answer.{Answer}
-use Rattle.table.specs.declared.Stepped.{Stepped}
 use Rattle.table.proofs.Bounds.{check-answered, step-answered, finished-answered, offer-answered}
 use Rattle.firmware.proofs.Bounds.{calls-told}
 use Rattle.reader.proofs.Bounds.{read-bounded}

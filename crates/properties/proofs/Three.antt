@@ -1,7 +1,7 @@
 -- Property 3, from the contracts of the calls to the book.
 use mathlib.Core.Path.{_≡_, refl, ap, ap₂, _∙_}
-use mathlib.Core.Logic.{_⊎_, inl, inr}
-use mathlib.Core.List.{List, [], _∷_, map}
+use mathlib.Core.Logic.{inl, inr}
+use mathlib.Core.List.{List, [], _∷_}
 use Prim.Native.Nat.{ℕ}
 use lib.ListN.{take, replicate}
 use Rattle.record.specs.Blank.{blank-record}
@@ -16,7 +16,7 @@ use Rattle.book.proofs.Once.{admits-once}
 use Rattle.runs.specs.InC.{C-line, play-in-c}
 use Rattle.runs.proofs.Through.{blank-in-c}
 use Rattle.translator.proofs.Bounds.{accepted-translated}
-use Rattle.properties.specs.Three.{Played, none, next, Makes, C-makes, Runs, Property-3}
+use Rattle.properties.specs.Three.{Played, none, next, Makes, C-makes, Property-3}
 use Rattle.properties.proofs.Kept.{steps-met, finishes-met, updates-met, c-steps-met, c-finishes-met, translates-met}
 
 -- The line of one call, as `play` has it.

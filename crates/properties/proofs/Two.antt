@@ -1,5 +1,5 @@
 -- Property 2, from the contracts of read and print.
-use mathlib.Core.Path.{_≡_, sym, ap, ap₂, subst, _∙_}
+use mathlib.Core.Path.{_≡_, sym, ap, _∙_}
 use mathlib.Core.Logic.{_↔_}
 use mathlib.Core.List.{List}
 use Prim.Native.Nat.{ℕ}
@@ -7,17 +7,14 @@ use Rattle.diagram.specs.Tree.{Flow}
 use Rattle.diagram.specs.declared.Diagram.{Diagram}
 use Rattle.reader.specs.Answers.{read-of}
 use Rattle.reader.specs.Accepted.{Accepted}
-use Rattle.reader.specs.Refused.{Turned}
-use Rattle.reader.specs.Views.{Shows, Shows-only}
-use Rattle.reader.specs.declared.Answer.the-variants.{Done, Refused}
+use Rattle.reader.specs.Views.{Shows}
 use Rattle.reader.specs.declared.Out.{Out}
 use Rattle.reader.proofs.Exact as exact
 use Rattle.reader.proofs.Once.{accepted-shows-only}
-use Rattle.printer.specs.Prints.{print-of, left-by}
 use Rattle.printer.specs.Same.{Same, unplaced, wrote, written}
 use Rattle.printer.specs.declared.Printed.{Printed}
 use Rattle.printer.proofs.Same.{same-diagram, print-then-read, left-alike}
-use Rattle.properties.specs.Calls.{Reads, Prints}
+use Rattle.properties.specs.Calls.{Reads}
 use Rattle.properties.specs.Two.{Printing, Again, Property-2}
 use Rattle.properties.proofs.Kept.{reads-met, prints-met}
 

@@ -1,5 +1,5 @@
 -- What reading answers, as document 01 tells it: the counts of the diagram, or the refusal.
-use mathlib.Core.List.{List, [], _∷_}
+use mathlib.Core.List.{[], _∷_}
 use Rattle.base.specs.Reports.{Report, result, refusal}
 use Rattle.diagram.specs.declared.Diagram.{Diagram}
 use Rattle.reader.specs.declared.Answer.{Answer}

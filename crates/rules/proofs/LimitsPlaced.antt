@@ -1,10 +1,10 @@
 -- Number 6 by the tokens is number 6 on the tree: it holds at the keyword of a node that is number 257 or later, or at depth 13 or more, and at
 -- no other token.
 use mathlib.Core.Path.{_≡_, refl, sym, _∙_, ap}
-use mathlib.Core.Logic.{_⊎_, inl, inr, ⊎-elim}
-use mathlib.Core.Bool.{Bool, true, false, _&&_, _||_, cond}
+use mathlib.Core.Logic.{⊎-elim}
+use mathlib.Core.Bool.{Bool, true, false, _||_, cond}
 use mathlib.Core.List.{List, [], _∷_, map}
-use Prim.Native.Nat.{ℕ, zero, suc, _+_, _-_, _<_}
+use Prim.Native.Nat.{ℕ, zero, suc, _+_, _<_}
 use native.Mathlib.Nat.{add-zero, zero-add}
 use native.Mathlib.Numerals.{add-one}
 use native.Mathlib.Omega.{arith}
@@ -17,11 +17,10 @@ use Rattle.lexer.specs.Words.{code}
 use Rattle.grammar.specs.Tokens.{flow-tokens}
 use Rattle.grammar.specs.Derives.{Grammatical}
 use Rattle.grammar.specs.Limits.{keyed, over-limit}
-use Rattle.grammar.proofs.LimitedFrom.{keys, opens, closes, flat, keyed-at-least, Balanced, big-at, big-in, big-here, big-later, big-nil, over-limit-in}
+use Rattle.grammar.proofs.LimitedFrom.{keys, opens, closes, flat, keyed-at-least, Balanced, big-in, big-here, big-later, big-nil, over-limit-in}
 use Rattle.grammar.proofs.LimitedTrees.{tree-level}
 use Rattle.rules.specs.Heads.{Head, head, heads, opened}
 use Rattle.rules.specs.Sites.{Site, too-big, flow-sites}
-use Rattle.rules.proofs.Trees.{flow-heads}
 use Rattle.rules.proofs.Headed.{tree-heads}
 use Rattle.rules.proofs.NamesAlong.{flow-head, flow-site, flow-key, Kinds, along}
 

@@ -1,3 +1,4 @@
 pub mod Laws
 pub mod Contract
 pub mod Promised
+pub mod Both

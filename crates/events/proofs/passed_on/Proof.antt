@@ -4,8 +4,6 @@ use Rattle.events.specs.Spots.{passed-on}
 use borrow.Author.Needs.{needs}
 use Rattle.events.proofs.passed_on.Statement.{statement}
 use Rattle.events.proofs.passed_on.Tie as tie
-use Rattle.events.proofs.passed_on.Reads as reads
-use Rattle.events.proofs.passed_on.Lts as lts
 
 enum-told : tie.Need-enum-told
 enum-told c = search needs

@@ -2,10 +2,6 @@ use Rattle.printer.proofs.Answered.{done-answers, refused-answers}
 use borrow.Author.Needs.{needs}
 use Rattle.printer.proofs.print_read.Statement.{statement}
 use Rattle.printer.proofs.print_read.Tie as tie
-use Rattle.printer.proofs.print_read.Reads as reads
-use Rattle.printer.proofs.print_read.Lts as lts
-use Rattle.printer.proofs.copy.Reads as copy-reads
-use Rattle.printer.proofs.passed_on.Reads as passed-on-reads
 
 enum-told : tie.Need-enum-told
 enum-told c = search needs

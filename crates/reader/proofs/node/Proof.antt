@@ -2,15 +2,6 @@ use Rattle.reader.proofs.Laws.{node-made}
 use borrow.Author.Needs.{needs}
 use Rattle.reader.proofs.node.Statement.{statement}
 use Rattle.reader.proofs.node.Tie as tie
-use Rattle.reader.proofs.node.Reads as reads
-use Rattle.reader.proofs.node.Lts as lts
-use Rattle.reader.proofs.kind.Reads as kind-reads
-use Rattle.reader.proofs.name.Reads as name-reads
-use Rattle.reader.proofs.size.Reads as size-reads
-use Rattle.reader.proofs.strong.Reads as strong-reads
-use Rattle.rules.proofs.place.Reads as place-reads
-use Rattle.rules.proofs.solid.Reads as solid-reads
-use Rattle.rules.proofs.token.Reads as token-reads
 
 token-requires : tie.Need-token-requires
 token-requires c κs = search needs

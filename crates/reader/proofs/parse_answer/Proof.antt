@@ -3,9 +3,6 @@ use Rattle.reader.specs.Answers.{parse-answer}
 use borrow.Author.Needs.{needs}
 use Rattle.reader.proofs.parse_answer.Statement.{statement}
 use Rattle.reader.proofs.parse_answer.Tie as tie
-use Rattle.reader.proofs.parse_answer.Reads as reads
-use Rattle.reader.proofs.parse_answer.Lts as lts
-use Rattle.reader.proofs.place.Reads as place-reads
 
 enum-told : tie.Need-enum-told
 enum-told c = search needs

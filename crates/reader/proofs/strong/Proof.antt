@@ -2,10 +2,6 @@ use Rattle.reader.proofs.Laws.{strong-some, strong-none}
 use borrow.Author.Needs.{needs}
 use Rattle.reader.proofs.strong.Statement.{statement}
 use Rattle.reader.proofs.strong.Tie as tie
-use Rattle.reader.proofs.strong.Reads as reads
-use Rattle.reader.proofs.strong.Lts as lts
-use Rattle.rules.proofs.strong.Reads as strong-reads
-use Rattle.rules.proofs.token.Reads as token-reads
 
 token-requires : tie.Need-token-requires
 token-requires c κs = search needs

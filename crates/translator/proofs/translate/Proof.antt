@@ -5,11 +5,6 @@ use Rattle.translator.proofs.Cases.{is-read, translated, turned-away}
 use borrow.Author.Needs.{needs}
 use Rattle.translator.proofs.translate.Statement.{statement}
 use Rattle.translator.proofs.translate.Tie as tie
-use Rattle.translator.proofs.translate.Reads as reads
-use Rattle.translator.proofs.translate.Lts as lts
-use Rattle.reader.proofs.read.Reads as read-reads
-use Rattle.translator.proofs.passed_on.Reads as passed-on-reads
-use Rattle.translator.proofs.write.Reads as write-reads
 
 returns : tie.Need-returns
 returns c = short (omega (arith, c .if1 .taken)) refl refl
