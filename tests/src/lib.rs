@@ -79,6 +79,8 @@ pub enum Kind {
 pub struct NodeInfo {
     pub kind: Kind,
     pub solid: bool,
+    /// A flow's sw is 1; false for any other node.
+    pub strong: bool,
     pub depth: usize,
     pub name: String,
     /// Where its keyword stands.
@@ -624,6 +626,7 @@ fn info(node: &Node) -> NodeInfo {
     NodeInfo {
         kind: node.kind(),
         solid: node.solid,
+        strong: matches!(node.shape, Shape::Flow { strong: true, .. }),
         depth: node.depth,
         name: node.name().map_or(String::new(), |name| name.word.clone()),
         place: node.place,

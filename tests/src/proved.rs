@@ -159,7 +159,7 @@ pub fn values_number(answer: &Result<Values, Refusal>) -> u64 {
 pub const NO_NODE: u64 = 255 << 32;
 
 /// The reference's node as the C function would give it:
-/// kind * 2^24 + size * 2^16 + solid * 2^8 + depth.
+/// kind * 2^24 + size * 2^18 + solid * 2^12 + strong * 2^6 + depth.
 pub fn node_number(node: &NodeInfo) -> u64 {
     let (kind, size) = match node.kind {
         Kind::Flow => (0, 0),
@@ -172,7 +172,7 @@ pub fn node_number(node: &NodeInfo) -> u64 {
         Kind::One(size) => (7, size as u64),
         Kind::Loop => (8, 0),
     };
-    kind << 24 | size << 16 | u64::from(node.solid) << 8 | node.depth as u64
+    kind << 24 | size << 18 | u64::from(node.solid) << 12 | u64::from(node.strong) << 6 | node.depth as u64
 }
 
 /// The places of a node as the C function would give them: that of its keyword

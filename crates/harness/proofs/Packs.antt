@@ -23,6 +23,6 @@ one n = omega arith
 pub three : (a b c : ℕ) → (a % 1024 * 1024 + b % 1024) * 1024 + c % 1024 ≡ packed 10 (result (a ∷ b ∷ c ∷ []))
 three a b c = omega arith
 
-pub four : (a b c d : ℕ) {x y z : ℕ} → x ≡ a → y ≡ b → z ≡ c
-    → ((x % 256 * 256 + y % 256) * 256 + z % 256) * 256 + d % 256 ≡ packed 8 (result (a ∷ b ∷ c ∷ d ∷ []))
-four a b c d p q s = rw (p, q, s) (omega arith)
+pub five : (a b c d e : ℕ) {x y z w : ℕ} → x ≡ a → y ≡ b → z ≡ c → w ≡ d
+    → (((x % 64 * 64 + y % 64) * 64 + z % 64) * 64 + w % 64) * 64 + e % 64 ≡ packed 6 (result (a ∷ b ∷ c ∷ d ∷ e ∷ []))
+five a b c d e p q s t = rw (p, q, s, t) (omega arith)

@@ -39,9 +39,9 @@ kind-size (Some size) = size
 kind-size (One size) = size
 kind-size Loop = 0
 
--- Kind, size, whether it is a solid child, and depth.
+-- Kind, size, whether it is a solid child, whether a flow's sw is 1, and depth.
 abbrev pub node-values : Node → List ℕ
-node-values n = kind-number (n .kind) ∷ kind-size (n .kind) ∷ cond (n .solid) 1 0 ∷ n .depth ∷ []
+node-values n = kind-number (n .kind) ∷ kind-size (n .kind) ∷ cond (n .solid) 1 0 ∷ cond (n .strong) 1 0 ∷ n .depth ∷ []
 
 -- The places of its keyword, and of its name or par.
 abbrev pub place-values : Node → List ℕ

@@ -242,21 +242,23 @@ fn mark_of(marked: bool) -> u64
     0
 }
 
-// Kind, size, whether it is a solid child, and depth, of 8 bits each.
+// Kind, size, whether it is a solid child, whether a flow's sw is 1, and depth, of 6 bits each.
 fn node_number(node: Node) -> u64
-    ensures { λ r. ⌜ r ≡ packed 8 (result (node-values node)) ⌝ }
+    ensures { λ r. ⌜ r ≡ packed 6 (result (node-values node)) ⌝ }
 {
     let kind = node.kind;
     let number = number_of(kind);
     let size = size_of(kind);
     let solid = mark_of(node.solid);
-    ((number % 256 * 256 + size % 256) * 256 + solid % 256) * 256 + (node.depth as u64) % 256
+    let strong = mark_of(node.strong);
+    (((number % 64 * 64 + size % 64) * 64 + solid % 64) * 64 + strong % 64) * 64
+        + (node.depth as u64) % 64
 }
 
 // A node of a text, by its index.
 #[no_mangle]
 pub extern "C" fn adl_test_node(text: &[u8], index: u64) -> u64
-    ensures { λ r. ⌜ r ≡ packed 8 (found-report node-values (found-at (read-of (now (text .entry))) index)) ⌝ }
+    ensures { λ r. ⌜ r ≡ packed 6 (found-report node-values (found-at (read-of (now (text .entry))) index)) ⌝ }
 {
     let found = find(text, index);
     match found {

@@ -22,10 +22,10 @@ refusal-requires : tie.Need-refusal-requires
 refusal-requires c κs = search needs
 
 returns : tie.Need-returns
-returns c = told 8 (found-report node-values) (sym (c .before .before .before .before .find .ensures) ∙ c .before .before .found .given .1) (c .node-number .ensures)
+returns c = told 6 (found-report node-values) (sym (c .before .before .before .before .find .ensures) ∙ c .before .before .found .given .1) (c .node-number .ensures)
 
 returns-2 : tie.Need-returns-2
-returns-2 c = told 8 (found-report node-values) (sym (c .before .before .before .before .find .ensures) ∙ c .before .before .found2 .given .1) (refused 8 _ _ (c .refusal .ensures))
+returns-2 c = told 6 (found-report node-values) (sym (c .before .before .before .before .find .ensures) ∙ c .before .before .found2 .given .1) (refused 6 _ _ (c .refusal .ensures))
 
 pub adl-test-node-spec : {M : Type 1} → statement M
 adl-test-node-spec =

@@ -1,7 +1,7 @@
 -- `harness::node_number` meets its contract: what its parts answer, side by side.
 use mathlib.Core.Bool.{cond}
 use Rattle.harness.specs.Nodes.{kind-number, kind-size}
-use Rattle.harness.proofs.Packs.{four}
+use Rattle.harness.proofs.Packs.{five}
 use borrow.Author.Needs.{needs}
 use Rattle.harness.proofs.node_number.Statement.{statement}
 use Rattle.harness.proofs.node_number.Tie as tie
@@ -14,6 +14,9 @@ size-of-requires c κs = search needs
 
 mark-of-requires : tie.Need-mark-of-requires
 mark-of-requires c κs = search needs
+
+mark-of-requires-2 : tie.Need-mark-of-requires-2
+mark-of-requires-2 c κs = search needs
 
 mul-result : tie.Need-mul-result
 mul-result c = search needs
@@ -33,10 +36,17 @@ mul-result-3 c = search needs
 add-result-3 : tie.Need-add-result-3
 add-result-3 c = search needs
 
+mul-result-4 : tie.Need-mul-result-4
+mul-result-4 c = search needs
+
+add-result-4 : tie.Need-add-result-4
+add-result-4 c = search needs
+
 returns : tie.Need-returns
 returns c =
-    let n = c .before .before .before .args .node in
-    four (kind-number (n .kind)) (kind-size (n .kind)) (cond (n .solid) 1 0) (n .depth) (c .before .before .number-of .ensures) (c .before .size-of .ensures) (c .mark-of .ensures)
+    let n = c .before .before .before .before .args .node in
+    five (kind-number (n .kind)) (kind-size (n .kind)) (cond (n .solid) 1 0) (cond (n .strong) 1 0) (n .depth) (c .before .before .before .number-of .ensures)
+    (c .before .before .size-of .ensures) (c .before .mark-of .ensures) (c .mark-of2 .ensures)
 
 pub node-number-spec : {M : Type 1} → statement M
 node-number-spec =
@@ -45,10 +55,13 @@ node-number-spec =
     number-of-requires
     size-of-requires
     mark-of-requires
+    mark-of-requires-2
     mul-result
     add-result
     mul-result-2
     add-result-2
     mul-result-3
     add-result-3
+    mul-result-4
+    add-result-4
     returns)
