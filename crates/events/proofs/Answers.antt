@@ -21,7 +21,7 @@ use Rattle.reader.specs.Answers.{read-of}
 use Rattle.reader.specs.Accepted.{Accepted}
 use Rattle.reader.specs.declared.Answer.the-variants.{Done, Refused as Unread}
 use Rattle.reader.specs.declared.Out.{Out}
-use Rattle.reader.proofs.Exact.{accepted-exactly}
+use Rattle.reader.proofs.Exact.{accepted-exactly, refused-exactly}
 use Rattle.reader.proofs.Shown.{accepted-shown}
 use Rattle.process.specs.Process.{Event, event-of, events}
 use Rattle.process.specs.Expand.{expand}
@@ -142,11 +142,15 @@ valued-drawn text o e r q h g =
       its-label = g ∙ label-told (o .diagram) (d .tree) e (d .its-events) (d .its-labels e);
     }
 
+-- A text that was turned away, by what reading answered.
+abbrev turned-reading : (text : List ℕ) (o : Out) (number place : ℕ) → o ≡ read-of text → o .answer ≡ Unread number place → Reading text
+turned-reading text o number place q h = away number place (refused-exactly text number place .0 (sym (ap (λ (x : Out). x .answer) q) ∙ h))
+
 pub valued-away : (text : List ℕ) (o : Out) (e number place : ℕ) (r : Label) → o ≡ read-of text → o .answer ≡ Unread number place → r ≡ passed-on (o .answer)
     → Valued text e r
 unfolding label-of
 valued-away text o e number place r q h g =
-    record { reading = away number place (sym (ap (λ (x : Out). x .answer) q) ∙ h); its-label = g ∙ ap passed-on h }
+    record { reading = turned-reading text o number place q h; its-label = g ∙ ap passed-on h }
 
 -- The name call. A name is not empty, so it stands inside the text.
 pub short-at : (text : List ℕ) (d : Flow) → Accepted text d → (e : ℕ) → e < flow-events d → Short (event-of (expand d) e)
@@ -164,7 +168,7 @@ pub named-away : (text r : RefT (List ℕ)) (o : Out) (e number place : ℕ) →
     → Named text e r
 unfolding name-of Placed
 named-away text r o e number place q h p n =
-    record { reading = away number place (sym (ap (λ (x : Out). x .answer) q) ∙ h); its-name = n; place = 0; its-place = refl; its-part = p }
+    record { reading = turned-reading (now text) o number place q h; its-name = n; place = 0; its-place = refl; its-part = p }
 
 pub named-past : (text r : RefT (List ℕ)) (o : Out) (e : ℕ) → o ≡ read-of (now text) → o .answer ≡ Done → o .diagram .events ≤ e → Part text r 0 0 → now r ≡ []
     → Named text e r
@@ -259,4 +263,4 @@ pub listed-away : (text lent left : List ℕ) (o : Out) (number place r : ℕ) �
     → buffer r left ≡ put-all (away-line (o .answer)) (buffer 0 lent) → Listed text lent r left
 unfolding listing
 listed-away text lent left o number place r q h m w =
-    listed text lent left (away number place (sym (ap (λ (x : Out). x .answer) q) ∙ h)) (away-line (o .answer)) r (ap away-line h) m w
+    listed text lent left (turned-reading text o number place q h) (away-line (o .answer)) r (ap away-line h) m w

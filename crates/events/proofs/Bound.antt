@@ -11,7 +11,8 @@ use Rattle.reader.specs.Answers.{read-of}
 use Rattle.reader.specs.Bounds.{Bounded, result, refusal}
 use Rattle.reader.specs.declared.Answer.the-variants.{Refused}
 use Rattle.reader.specs.declared.Out.{Out}
-use Rattle.reader.proofs.Exact.{done-refused}
+use Rattle.reader.specs.Refused.{Turned}
+use Rattle.reader.proofs.Exact.{done-refused, refused-exactly}
 use Rattle.reader.proofs.Bounds.{read-bounded}
 use Rattle.process.specs.Process.{Event, events}
 use Rattle.process.specs.Expand.{expand}
@@ -51,9 +52,12 @@ unfolding refused-line
 refused-short n p h k = simp length-append (omega (arith, decimal-short 1 n h, decimal-short 4 p k))
 
 -- The number and the place with which a text is turned away are small.
-pub near : (text : List ℕ) (number place : ℕ) → read-of text .answer ≡ Refused number place → (2 ≤ number) × (number ≤ 11) × (place ≤ 16384)
-near text n p e = go (read-bounded text)
+pub near : (text : List ℕ) (number place : ℕ) → Turned text number place → (2 ≤ number) × (number ≤ 11) × (place ≤ 16384)
+near text n p t = go (read-bounded text)
   where
+    e : read-of text .answer ≡ Refused n p
+    e = refused-exactly text n p .1 t
+
     go : Bounded text (read-of text) → (2 ≤ n) × (n ≤ 11) × (p ≤ 16384)
     go (result r) = done-refused (sym (r .done) ∙ e)
     go (refusal r) =

@@ -17,7 +17,6 @@ use Rattle.base.proofs.Truth.{by-cases}
 use Rattle.diagram.specs.Count.{flow-events}
 use Rattle.process.specs.Process.{Event, event-of}
 use Rattle.process.specs.Expand.{expand}
-use Rattle.reader.proofs.Exact.{refused-exactly}
 use Rattle.labels.specs.Values.{values, packed}
 use Rattle.labels.specs.declared.Values.{Values}
 use Rattle.labels.proofs.Stood.{one-place}
@@ -97,7 +96,7 @@ reading-bounded {text} (away number place h) e r q =
     record {
       number = number;
       place = place;
-      why = unread (refused-exactly text number place .0 h);
+      why = unread h;
       told = ap report q;
       one-of = inl (n .0, n .1);
       near = n .2;
@@ -138,7 +137,7 @@ refused-told (Refused d j) c k e = ap₂ Refused (ap (λ (x : Report). x .number
 -- And there is no other: the relation says all that the contract of `events::values` says.
 refusal-valued : (text : List ℕ) (e : ℕ) (r : Label) (c k : ℕ) → r ≡ Refused c k → Reason text e c k → Valued text e r
 unfolding label-of
-refusal-valued text e r c k q (unread t) = record { reading = away c k (refused-exactly text c k .1 t); its-label = q }
+refusal-valued text e r c k q (unread t) = record { reading = away c k t; its-label = q }
 refusal-valued text e r c k q (no-event d a h x y) =
     record { reading = drawing d a; its-label = q ∙ (ap₂ Refused x y ∙ rw (le-ltb e (flow-events d) h)) }
 

@@ -1,13 +1,11 @@
--- What a text is to the calls that start from one: a drawing, or turned away with a number and a place. Every text is one of the two, and only one:
+-- What a text is to the calls that start from one: a drawing, or turned away with a number and a place by that number's sentence. Every text is one of the two, and only one:
 -- `events.proofs.Read.reading`, `events.proofs.Read.one-reading`.
-use mathlib.Core.Path.{_≡_}
 use mathlib.Core.List.{List}
 use Prim.Native.Nat.{ℕ}
 use Rattle.diagram.specs.Tree.{Flow}
-use Rattle.reader.specs.Answers.{read-of}
 use Rattle.reader.specs.Accepted.{Accepted}
-use Rattle.reader.specs.declared.Answer.the-variants.{Refused}
+use Rattle.reader.specs.Refused.{Turned}
 
 pub data Reading (text : List ℕ) : Type 0 where
   drawing : (d : Flow) → Accepted text d → Reading text
-  away : (number place : ℕ) → read-of text .answer ≡ Refused number place → Reading text
+  away : (number place : ℕ) → Turned text number place → Reading text
