@@ -9,6 +9,7 @@ pub mod NamesAlong
 pub mod NamesPlaced
 pub mod NamesKept
 pub mod LimitsPlaced
+pub mod KeysPlaced
 pub mod SolidsStrongs
 pub mod SolidsPlaced
 pub mod SolidsKept
