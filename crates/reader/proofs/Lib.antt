@@ -3,6 +3,7 @@ pub mod Scans
 pub mod Told
 pub mod Exact
 pub mod Shown
+pub mod Placed
 pub mod Once
 pub mod Laws
 pub mod Rows

@@ -32,10 +32,10 @@ use Rattle.reader.proofs.Told.{derived-heads}
 use Rattle.reader.proofs.Exact.{accepted-read}
 
 -- Which kinds have a name, by the keyword's number.
-abbrev titled : ℕ → Bool
+abbrev pub titled : ℕ → Bool
 titled c = flowing c || (leafy c || copying c)
 
-abbrev Named : ℕ → ℕ → Type 0
+abbrev pub Named : ℕ → ℕ → Type 0
 Named s c = has-name (kind-of c s) ≡ titled c
 
 -- One keyword after the other.
@@ -52,14 +52,14 @@ no-keyword s c a b d =
         (λ e. ⊎-elim (λ q. inr (inl (eqb-true c 13 q))) (λ q. inr (inr (omega (arith, eqb-false c 12 e, eqb-false c 13 q)))) (cases (eqb c 13)))
         (cases (eqb c 12))
 
-kind-named : (c s : ℕ) → Named s c
+pub kind-named : (c s : ℕ) → Named s c
 unfolding kind-of
 kind-named c s =
     keyword-or s c 7 refl (λ a. keyword-or s c 8 refl (λ b. keyword-or s c 9 refl (λ d. keyword-or s c 10 refl (λ e. keyword-or s c 11 refl (λ f.
     keyword-or s c 12 refl (λ g. keyword-or s c 13 refl (λ h. keyword-or s c 14 refl (λ i.
     rw (a, b, d, e, f, g, h, i, no-keyword s c (eqb-false c 12 g) (eqb-false c 13 h) (eqb-false c 14 i))))))))))
 
-head-view : Head → View
+unfoldable pub head-view : Head → View
 head-view h = shown (kind-of (h .code) (h .size)) (h .solid) (h .strong) (h .depth) (h .name)
 
 -- A node is told by its place as its tokens have it.
@@ -147,6 +147,9 @@ stored-shown text hs x y =
 nothing : Same [] []
 nothing = record { law = refl }
 
+pub tree-shown : (d : Flow) → map head-view (flow-heads d false 1 0 []) ≡ flow-views d false 1 []
+tree-shown d = flow-shown d false 1 0 nothing .law
+
 -- A node for each keyword.
 heads-count : (nm : ℕ → Name) (p k : ℕ) (cs : List ℕ) → length (heads nm p k cs) ≡ nodes-in cs
 unfolding heads count-of
@@ -172,7 +175,7 @@ accepted-shown text d a =
           stored-shown text hs (flow-copies d) (flow-events d)
           ∙ (subst (λ (l : List Head). map (view text) (map (node-of (places text)) l) ≡ map head-view l) (derived-heads text d (a .derived))
           (heads-shown text (places text) 0 0 (codes text))
-          ∙ flow-shown d false 1 0 nothing .law);
+          ∙ tree-shown d);
       count = nodes-held text d (a .derived);
       copies = refl;
       events = refl;

@@ -3,6 +3,7 @@ pub mod Answers
 pub mod Accepted
 pub mod Refused
 pub mod Views
+pub mod Places
 pub mod Bounds
 pub mod Reports
 pub mod Worked
