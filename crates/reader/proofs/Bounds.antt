@@ -15,8 +15,6 @@ use Rattle.diagram.specs.declared.Diagram.{Diagram}
 use Rattle.base.proofs.Truth.{cases}
 use Rattle.lexer.specs.Spans.{places}
 use Rattle.lexer.proofs.Spans.{tokens-length, places-length, places-below}
-use Rattle.rules.specs.Heads.{Head}
-use Rattle.reader.specs.Nodes.{stored}
 use Rattle.reader.specs.Accepted.{Accepted}
 use Rattle.reader.specs.Answers.{read-of}
 use Rattle.reader.specs.Reports.{report}
@@ -29,7 +27,7 @@ use Rattle.reader.specs.Bounds.{Bounded, result, refusal}
 use Rattle.reader.proofs.Laws.{same-inside}
 use Rattle.reader.proofs.Exact.{accepted-read, turned-read, Fate, taken, turned, fate}
 use Rattle.reader.proofs.Shown.{accepted-shown}
-use Rattle.reader.proofs.Told.{derived-heads}
+use Rattle.reader.proofs.Placed.{accepted-placed, one-diagram}
 
 -- A token's place is in the text, and what stands for no place is at most the text's length.
 place-near : (text : List ℕ) (k none : ℕ) → none ≤ length text → getD (places text) k none ≤ length text
@@ -91,9 +89,7 @@ read-bounded text = go (fate text)
           told = counts d a s done;
           done = done;
           shown = s;
-          placed =
-              ap (λ (o : Out). o .diagram) e
-              ∙ ap (λ (hs : List Head). stored (places text) hs (flow-copies d) (flow-events d)) (sym (derived-heads text d (a .derived)));
+          placed = accepted-placed text d a;
         }
     go (turned c at t) =
         let n = turned-near text c at t in
@@ -103,7 +99,9 @@ read-bounded text = go (fate text)
 -- And there is no other: the text alone says whether it is read, with which diagram, and else the number and the place.
 pub one-answer : (text : List ℕ) (o : Out) → Bounded text o → o ≡ read-of text
 one-answer text o (result r) =
-    ap₂ (λ (a : Answer) (g : Diagram). record { answer = a; diagram = g }) (r .done)
-    (r .placed ∙ ap (λ (hs : List Head). stored (places text) hs (flow-copies (r .tree)) (flow-events (r .tree))) (derived-heads text (r .tree) (r .limits .derived)))
-    ∙ sym (accepted-read text (r .tree) (r .limits))
+    let d = r .tree in
+    let a = r .limits in
+    ap₂ (λ (a : Answer) (g : Diagram). record { answer = a; diagram = g })
+    (r .done ∙ sym (ap (λ (o : Out). o .answer) (accepted-read text d a)))
+    (one-diagram text d (o .diagram) (read-of text .diagram) (r .shown) (r .placed) (accepted-shown text d a) (accepted-placed text d a))
 one-answer text o (refusal r) = r .is ∙ sym (turned-read text (r .number) (r .place) (r .why))

@@ -6,14 +6,12 @@ use Prim.Native.Nat.{ℕ, _≤_}
 use Rattle.base.specs.Reports.{result as told-result, refusal as told-refusal}
 use Rattle.diagram.specs.Tree.{Flow}
 use Rattle.diagram.specs.Count.{flow-nodes, flow-copies, flow-events}
-use Rattle.lexer.specs.Spans.{codes, places}
-use Rattle.rules.specs.Heads.{heads, name-in}
-use Rattle.reader.specs.Nodes.{stored}
 use Rattle.reader.specs.Answers.{refused}
 use Rattle.reader.specs.Accepted.{Accepted}
 use Rattle.reader.specs.Refused.{Turned}
 use Rattle.reader.specs.Reports.{report}
 use Rattle.reader.specs.Views.{Shows}
+use Rattle.reader.specs.Places.{Placed}
 use Rattle.reader.specs.declared.Answer.the-variants.{Done}
 use Rattle.reader.specs.declared.Out.{Out}
 
@@ -24,7 +22,7 @@ pub record Result (text : List ℕ) (o : Out) : Type 0 where
   pub told : report o ≡ told-result (flow-nodes tree ∷ flow-copies tree ∷ flow-events tree ∷ [])
   pub done : o .answer ≡ Done
   pub shown : Shows text tree (o .diagram)
-  pub placed : o .diagram ≡ stored (places text) (heads (name-in text (places text)) 0 0 (codes text)) (flow-copies tree) (flow-events tree)
+  pub placed : Placed text tree (o .diagram)
 
 -- One of the numbers 2 to 11, by its own sentence, with a place in a text within the limits or at its end, and nothing else.
 pub record Refusal (text : List ℕ) (o : Out) : Type 0 where
