@@ -11,6 +11,7 @@ use Rattle.reader.specs.Views.{Shows}
 use Rattle.reader.specs.declared.Out.{Out}
 use Rattle.reader.proofs.Exact as exact
 use Rattle.reader.proofs.Once.{accepted-shows-only}
+use Rattle.reader.proofs.Placed.{accepted-placed}
 use Rattle.printer.specs.Same.{Same, unplaced, wrote, written}
 use Rattle.printer.specs.declared.Printed.{Printed}
 use Rattle.printer.proofs.Same.{same-diagram, print-then-read, left-alike}
@@ -59,7 +60,7 @@ pub property-2 : Property-2
 property-2 = record {
   accepted-exactly = λ text o m. rw (reads-met text o m) (exact.accepted-exactly text);
   refused-exactly = λ text o m number place. rw (reads-met text o m) (exact.refused-exactly text number place);
-  the-one-derived = λ text o m d a. rw (reads-met text o m) (accepted-shows-only text d a);
+  the-one-derived = λ text o m d a. rw (reads-met text o m) (accepted-shows-only text d a, accepted-placed text d a);
   read-again = again;
   print-alike = λ s t d e p q left other k l.
       rw (wrote-is s d p left k, wrote-is t e q other l) (left-alike s (k .lent) d t (l .lent) e (k .enough) (l .enough) (k .accepted) (l .accepted) .exactly);

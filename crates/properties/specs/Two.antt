@@ -10,6 +10,7 @@ use Rattle.diagram.specs.Tree.{Flow}
 use Rattle.reader.specs.Accepted.{Accepted}
 use Rattle.reader.specs.Refused.{Turned}
 use Rattle.reader.specs.Views.{Shows, Shows-only}
+use Rattle.reader.specs.Places.{Placed}
 use Rattle.reader.specs.declared.Answer.the-variants.{Done, Refused}
 use Rattle.reader.specs.declared.Out.{Out}
 use Rattle.printer.specs.Reports.{report}
@@ -37,7 +38,9 @@ pub record Property-2 : Type 0 where
   pub accepted-exactly : (text : List ℕ) (o : Out) → Reads text o → (o .answer ≡ Done) ↔ ((d : Flow) × Accepted text d)
   -- and else it is turned away, by the sentence of one number
   pub refused-exactly : (text : List ℕ) (o : Out) → Reads text o → (number place : ℕ) → (o .answer ≡ Refused number place) ↔ Turned text number place
-  pub the-one-derived : (text : List ℕ) (o : Out) → Reads text o → (d : Flow) → Accepted text d → Shows-only text d (o .diagram)
+  -- with the places of its nodes in the text
+  pub the-one-derived : (text : List ℕ) (o : Out) → Reads text o → (d : Flow) → Accepted text d
+      → Shows-only text d (o .diagram) × Placed text d (o .diagram)
   pub read-again : (text : List ℕ) (d : Flow) (p : Printed) (left : List ℕ) → Printing text d p left
       → (o again : Out) → Reads text o → Reads (written p left) again → Again text d p left o again
   pub print-alike : (s t : List ℕ) (d e : Flow) (p q : Printed) (left other : List ℕ) → Printing s d p left → Printing t e q other
