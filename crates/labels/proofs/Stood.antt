@@ -60,10 +60,6 @@ still-heard m before h u = and-false (not ((flowing (h .code) || leafy (h .code)
 
 module _ (nm : ℕ → Name) where
   -- The first of some tokens, which begins a leaf or flow: its node has the name two tokens on.
-  own-name : (p k c : ℕ) (cs : List ℕ) → Titled c → head nm (suc p) k (c ∷ cs) .name ≡ nm (k + 2)
-  unfolding head
-  own-name p k c cs t = rw (titled (flowing c) (leafy c) (copying c) t)
-
   own-heard : (p k c : ℕ) (cs : List ℕ) (before : List Head) → Titled c → unheard (nm (k + 2)) (head nm (suc p) k (c ∷ cs) ∷ before) ≡ false
   unfolding head
   own-heard p k c cs before t = rw (t, titled (flowing c) (leafy c) (copying c) t, same-decides (nm (k + 2)) (nm (k + 2)) .1 refl)

@@ -117,7 +117,3 @@ module _ (text lent : List ℕ) where
   one-print p left (result r) = one-result p left r
   one-print p left (refusal r) =
       one-refusal p left (r .number) (r .place) (refused-told p (r .number) (r .place) (r .told)) (refusal-prints (r .number) (r .place) (r .why)) (r .untouched)
-
--- Property 1 for both calls.
-pub calls-bounded : (text lent : List ℕ) → Answered text (read-of text) × Bounded text lent (print-of text lent) (left-by text lent (print-of text lent))
-calls-bounded text lent = (read-bounded text, print-bounded text lent)
