@@ -13,10 +13,11 @@ use Rattle.diagram.specs.declared.Node.{Node}
 use Rattle.reader.specs.declared.Answer.{Answer}
 use Rattle.reader.specs.declared.Answer.the-variants.{Done, Refused as Unread}
 use Rattle.reader.specs.declared.Out.{Out}
+use Rattle.expansion.specs.Columns.{size-number}
 use Rattle.harness.specs.declared.Found.{Found}
 use Rattle.harness.specs.declared.Found.the-variants.{At, Refused}
 
--- The kinds by number, and a replicator's size; 0 for a node that has none.
+-- The kinds by number.
 abbrev pub kind-number : Kind → ℕ
 kind-number Flow = 0
 kind-number Leaf = 1
@@ -28,20 +29,9 @@ kind-number (Some size) = 6
 kind-number (One size) = 7
 kind-number Loop = 8
 
-abbrev pub kind-size : Kind → ℕ
-kind-size Flow = 0
-kind-size Leaf = 0
-kind-size And = 0
-kind-size Or = 0
-kind-size Xor = 0
-kind-size (All size) = size
-kind-size (Some size) = size
-kind-size (One size) = size
-kind-size Loop = 0
-
 -- Kind, size, whether it is a solid child, whether a flow's sw is 1, and depth.
 abbrev pub node-values : Node → List ℕ
-node-values n = kind-number (n .kind) ∷ kind-size (n .kind) ∷ cond (n .solid) 1 0 ∷ cond (n .strong) 1 0 ∷ n .depth ∷ []
+node-values n = kind-number (n .kind) ∷ size-number (n .kind) ∷ cond (n .solid) 1 0 ∷ cond (n .strong) 1 0 ∷ n .depth ∷ []
 
 -- The places of its keyword, and of its name or par.
 abbrev pub place-values : Node → List ℕ

@@ -18,7 +18,8 @@ ghost use Rattle.translator.specs.Reports.{report as translate-report};
 ghost use Rattle.events.specs.Listing.{Listed};
 ghost use Rattle.events.specs.Reports.{marked as marked-values, report as label-report};
 ghost use Rattle.harness.specs.Packed.{packed};
-ghost use Rattle.harness.specs.Nodes.{kind-number, kind-size, node-values, place-values, unread as unread-found, found-at, report as found-report};
+ghost use Rattle.expansion.specs.Columns.{size-number};
+ghost use Rattle.harness.specs.Nodes.{kind-number, node-values, place-values, unread as unread-found, found-at, report as found-report};
 ghost use Rattle.harness.specs.Calls.{Translates, Labels, Names};
 use diagram::Diagram;
 use diagram::Kind;
@@ -218,7 +219,7 @@ fn number_of(kind: Kind) -> u64
 
 // A replicator's size; 0 for any other node.
 fn size_of(kind: Kind) -> u64
-    ensures { λ r. ⌜ r ≡ kind-size kind ⌝ }
+    ensures { λ r. ⌜ r ≡ size-number kind ⌝ }
 {
     match kind {
         Kind::Flow => 0,

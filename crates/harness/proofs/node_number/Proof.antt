@@ -1,6 +1,7 @@
 -- `harness::node_number` meets its contract: what its parts answer, side by side.
 use mathlib.Core.Bool.{cond}
-use Rattle.harness.specs.Nodes.{kind-number, kind-size}
+use Rattle.expansion.specs.Columns.{size-number}
+use Rattle.harness.specs.Nodes.{kind-number}
 use Rattle.harness.proofs.Packs.{five}
 use borrow.Author.Needs.{needs}
 use Rattle.harness.proofs.node_number.Statement.{statement}
@@ -45,7 +46,7 @@ add-result-4 c = search needs
 returns : tie.Need-returns
 returns c =
     let n = c .before .before .before .before .args .node in
-    five (kind-number (n .kind)) (kind-size (n .kind)) (cond (n .solid) 1 0) (cond (n .strong) 1 0) (n .depth) (c .before .before .before .number-of .ensures)
+    five (kind-number (n .kind)) (size-number (n .kind)) (cond (n .solid) 1 0) (cond (n .strong) 1 0) (n .depth) (c .before .before .before .number-of .ensures)
     (c .before .before .size-of .ensures) (c .before .mark-of .ensures) (c .mark-of2 .ensures)
 
 pub node-number-spec : {M : Type 1} → statement M
