@@ -21,17 +21,17 @@ use Rattle.process.proofs.Theorem.{whole-iff-complete, next-iff-enabled}
 use Rattle.record.specs.Bits.{bit-at}
 use Rattle.record.specs.Blank.{blank-record}
 use Rattle.record.specs.declared.Record.{Record}
-use Rattle.record.proofs.Back.{same-bits}
-use Rattle.record.proofs.Beyond.{clear-each}
+use Rattle.record.proofs.RoundTrip.{same-bits}
+use Rattle.record.proofs.PastEvents.{clear-each}
 use Rattle.table.specs.Fields.{events}
 use Rattle.table.specs.Values.{values-of, allows, ended}
 use Rattle.table.specs.Steps.{step-of, finished-of}
-use Rattle.table.specs.Bounds.{Ready, Away, unsound, bit-past, Step-answer, event-taken, step-away, past-events, guard-says-no, Finish-answer, run-finished, run-open, finished-away}
+use Rattle.table.specs.Bounds.{Ready, NotReady, unsound, bit-past, Step-answer, event-taken, step-not-ready, past-events, guard-says-no, Finish-answer, run-finished, run-open, finished-not-ready}
 use Rattle.table.specs.declared.Answer.the-variants.{Done}
 use Rattle.table.specs.declared.Stepped.{Stepped}
 use Rattle.table.proofs.Bounds.{refused-as, step-answered, finished-answered}
 use Rattle.table.proofs.Laws.{done-exactly, step-bit, step-words}
-use Rattle.book.specs.Calls.{Call, step, finished, stepped, told}
+use Rattle.book.specs.Calls.{Call, step, finished, stepped, reported}
 use Rattle.book.specs.Marked.{marked, marked-all, record-after}
 use Rattle.book.specs.Book.{Step-entry, begins, past, below, Finish-entry, whole, part, Admits}
 use Rattle.book.specs.Plays.{play, Plays-by-book}
@@ -50,9 +50,9 @@ module _ (d : Flow) (k : Keeps d) (few : flow-events d ≤ 512) (t : List ℕ) (
           ap not (clear-each (record-after d book .bits) (events t) 512 (λ i l p. record-past d k book h i (rw (T .its-events) at p)));
     }
 
-    never-away : (r : Report) → Away t (record-after d book .bits) r → ⊥
-    never-away r (unsound q s) = clash (T .its-sound) s
-    never-away r (bit-past q s y) = clash y (record-ready .its-bits)
+    never-not-ready : (r : Report) → NotReady t (record-after d book .bits) r → ⊥
+    never-not-ready r (unsound q s) = clash (T .its-sound) s
+    never-not-ready r (bit-past q s y) = clash y (record-ready .its-bits)
 
   -- Its bits are those after the events of the book, so what the rows say of it is what the process says of them.
   record-agrees : (book : List ℕ) → Agree (owns (expand d)) (bit-at (record-after d book .bits)) (after (expand d) book)
@@ -95,7 +95,7 @@ module _ (d : Flow) (k : Keeps d) (few : flow-events d ≤ 512) (t : List ℕ) (
         begins (next-iff-enabled d k book e h .1 (l, rw (guard-says book e l) at (y .allowed))) (ap stepped done) refl,
         step-next book e done,
       )
-  step-goes book h e (step-away away kept) = absurd (never-away book h _ away)
+  step-goes book h e (step-not-ready not-ready kept) = absurd (never-not-ready book h _ not-ready)
   step-goes book h e (past-events q kept r l) =
       let l′ = rw (T .its-events) at l in (
         book,
@@ -111,11 +111,11 @@ module _ (d : Flow) (k : Keeps d) (few : flow-events d ≤ 512) (t : List ℕ) (
 
   -- So is what finished answers.
   finish-goes : (book : List ℕ) → Begins (expand d) book → Finish-answer t (record-after d book) (finished-of t (record-after d book))
-      → Finish-entry d book (told (finished-of t (record-after d book))) book
+      → Finish-entry d book (reported (finished-of t (record-after d book))) book
   finish-goes book h (run-finished q y) =
-      whole (whole-iff-complete d k book h .1 (rw (end-says book) at (y .says-so))) (ap told q) refl
-  finish-goes book h (run-open q r y) = part (λ w. clash (end-says book ∙ whole-iff-complete d k book h .0 w) y) (ap told q) refl
-  finish-goes book h (finished-away away) = absurd (never-away book h _ away)
+      whole (whole-iff-complete d k book h .1 (rw (end-says book) at (y .says-so))) (ap reported q) refl
+  finish-goes book h (run-open q r y) = part (λ w. clash (end-says book ∙ whole-iff-complete d k book h .0 w) y) (ap reported q) refl
+  finish-goes book h (finished-not-ready not-ready) = absurd (never-not-ready book h _ not-ready)
 
   -- ---- all calls
   plays-on : (calls : List Call) (book : List ℕ) → Begins (expand d) book → Admits d book calls (play t (record-after d book) calls)
@@ -132,7 +132,7 @@ module _ (d : Flow) (k : Keeps d) (few : flow-events d ≤ 512) (t : List ℕ) (
         ap (λ (r : Record). record { reply = reply; after = r } ∷ play t r calls) q,
       )
   plays-on (finished ∷ calls) book h = (
-    told (finished-of t (record-after d book)),
+    reported (finished-of t (record-after d book)),
     book,
     play t (record-after d book) calls,
     finish-goes book h (finished-answered t (record-after d book)),

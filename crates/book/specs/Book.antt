@@ -9,7 +9,7 @@ use Rattle.process.specs.Expand.{expand}
 use Rattle.process.specs.Runs.{Whole, Begins}
 use Rattle.table.specs.declared.Answer.the-variants.{Done, Refused}
 use Rattle.table.specs.declared.Finish.the-variants.{No, Yes}
-use Rattle.book.specs.Calls.{Call, step, finished, Reply, stepped, told, Line}
+use Rattle.book.specs.Calls.{Call, step, finished, Reply, stepped, reported, Line}
 use Rattle.book.specs.Marked.{record-after}
 
 -- "Step with e: if the book followed by e begins a whole run, e is put at its end and the answer is done. Otherwise the book stays, and the answer is 14 if e
@@ -21,8 +21,8 @@ pub data Step-entry (d : Flow) (book : List ℕ) (e : ℕ) (reply : Reply) (next
 
 -- "Finished: yes exactly when the book is a whole run; it stays."
 pub data Finish-entry (d : Flow) (book : List ℕ) (reply : Reply) (next : List ℕ) : Type 0 where
-  whole : Whole (expand d) book → reply ≡ told Yes → next ≡ book → Finish-entry d book reply next
-  part : (Whole (expand d) book → ⊥) → reply ≡ told No → next ≡ book → Finish-entry d book reply next
+  whole : Whole (expand d) book → reply ≡ reported Yes → next ≡ book → Finish-entry d book reply next
+  part : (Whole (expand d) book → ⊥) → reply ≡ reported No → next ≡ book → Finish-entry d book reply next
 
 -- What the book says to a call, and the book after it.
 abbrev pub Entry : Flow → List ℕ → Call → Reply → List ℕ → Type 0

@@ -10,7 +10,7 @@ pub data Call : Type 0 where
 
 pub data Reply : Type 0 where
   stepped : Answer → Reply
-  told : Finish → Reply
+  reported : Finish → Reply
 
 -- What a call answers, and the record after it.
 pub record Line : Type 0 where

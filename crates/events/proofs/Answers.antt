@@ -20,7 +20,7 @@ use Rattle.lexer.proofs.Front.{front-le}
 use Rattle.reader.specs.Answers.{read-of}
 use Rattle.reader.specs.Accepted.{Accepted}
 use Rattle.reader.specs.declared.Answer.the-variants.{Done, Refused as Unread}
-use Rattle.reader.specs.declared.Out.{Out}
+use Rattle.reader.specs.declared.ReadResult.{ReadResult}
 use Rattle.reader.proofs.Exact.{accepted-exactly, refused-exactly}
 use Rattle.reader.proofs.Shown.{accepted-shown}
 use Rattle.process.specs.Process.{Event, event-of, events}
@@ -97,16 +97,16 @@ module _ (d : Diagram) (e : ℕ) where
   labelled-leaf s h q b = rw (lt-ltb e (d .events) h, ← q, b)
 
 -- A text that was read is a drawing.
-pub record Drawn (text : List ℕ) (o : Out) : Type 0 where
+pub record Drawn (text : List ℕ) (o : ReadResult) : Type 0 where
   pub tree : Flow
   pub its-limits : Accepted text tree
   pub its-events : o .diagram .events ≡ flow-events tree
   pub its-copies : o .diagram .copies ≡ flow-copies tree
   pub its-labels : (e : ℕ) → e < flow-events tree → Labels (Stands text) (event-of (expand tree) e) (spot-of (o .diagram) e)
 
-pub drawn : (text : List ℕ) (o : Out) → o ≡ read-of text → o .answer ≡ Done → Drawn text o
+pub drawn : (text : List ℕ) (o : ReadResult) → o ≡ read-of text → o .answer ≡ Done → Drawn text o
 drawn text o q h =
-    let a = accepted-exactly text .0 (sym (ap (λ (x : Out). x .answer) q) ∙ h) in
+    let a = accepted-exactly text .0 (sym (ap (λ (x : ReadResult). x .answer) q) ∙ h) in
     let s = accepted-shown text (a .0) (a .1) in
     subst (Drawn text) (sym q)
     record {
@@ -133,7 +133,7 @@ label-told g d e n f =
     rw (t, lt-ltb e (g .events) (omega arith)) (same-label (event-of (expand d) e) (spot-of g e) (l .mark) (l .its-values)))
     (λ t. let h = ltb-false e (flow-events d) t in rw (t, le-ltb e (g .events) (omega arith)))
 
-pub valued-drawn : (text : List ℕ) (o : Out) (e : ℕ) (r : Label) → o ≡ read-of text → o .answer ≡ Done → r ≡ spot-label (o .diagram) e → Valued text e r
+pub valued-drawn : (text : List ℕ) (o : ReadResult) (e : ℕ) (r : Label) → o ≡ read-of text → o .answer ≡ Done → r ≡ spot-label (o .diagram) e → Valued text e r
 unfolding label-of
 valued-drawn text o e r q h g =
     let d = drawn text o q h in
@@ -143,14 +143,14 @@ valued-drawn text o e r q h g =
     }
 
 -- A text that was turned away, by what reading answered.
-abbrev turned-reading : (text : List ℕ) (o : Out) (number place : ℕ) → o ≡ read-of text → o .answer ≡ Unread number place → Reading text
-turned-reading text o number place q h = away number place (refused-exactly text number place .0 (sym (ap (λ (x : Out). x .answer) q) ∙ h))
+abbrev refused-at-reading : (text : List ℕ) (o : ReadResult) (number place : ℕ) → o ≡ read-of text → o .answer ≡ Unread number place → Reading text
+refused-at-reading text o number place q h = away number place (refused-exactly text number place .0 (sym (ap (λ (x : ReadResult). x .answer) q) ∙ h))
 
-pub valued-away : (text : List ℕ) (o : Out) (e number place : ℕ) (r : Label) → o ≡ read-of text → o .answer ≡ Unread number place → r ≡ passed-on (o .answer)
+pub valued-away : (text : List ℕ) (o : ReadResult) (e number place : ℕ) (r : Label) → o ≡ read-of text → o .answer ≡ Unread number place → r ≡ passed-on (o .answer)
     → Valued text e r
 unfolding label-of
 valued-away text o e number place r q h g =
-    record { reading = turned-reading text o number place q h; its-label = g ∙ ap passed-on h }
+    record { reading = refused-at-reading text o number place q h; its-label = g ∙ ap passed-on h }
 
 -- The name call. A name is not empty, so it stands inside the text.
 pub short-at : (text : List ℕ) (d : Flow) → Accepted text d → (e : ℕ) → e < flow-events d → Short (event-of (expand d) e)
@@ -164,13 +164,13 @@ named-inside text at n q h =
     (λ t. let z = ap length (sym q ∙ no-word text at (ltb-true (length text) at t)) in omega arith)
     (λ t. ltb-false (length text) at t)
 
-pub named-away : (text r : RefT (List ℕ)) (o : Out) (e number place : ℕ) → o ≡ read-of (now text) → o .answer ≡ Unread number place → Part text r 0 0 → now r ≡ []
+pub named-away : (text r : RefT (List ℕ)) (o : ReadResult) (e number place : ℕ) → o ≡ read-of (now text) → o .answer ≡ Unread number place → Part text r 0 0 → now r ≡ []
     → Named text e r
 unfolding name-of Placed
 named-away text r o e number place q h p n =
-    record { reading = turned-reading (now text) o number place q h; its-name = n; place = 0; its-place = refl; its-part = p }
+    record { reading = refused-at-reading (now text) o number place q h; its-name = n; place = 0; its-place = refl; its-part = p }
 
-pub named-past : (text r : RefT (List ℕ)) (o : Out) (e : ℕ) → o ≡ read-of (now text) → o .answer ≡ Done → o .diagram .events ≤ e → Part text r 0 0 → now r ≡ []
+pub named-past : (text r : RefT (List ℕ)) (o : ReadResult) (e : ℕ) → o ≡ read-of (now text) → o .answer ≡ Done → o .diagram .events ≤ e → Part text r 0 0 → now r ≡ []
     → Named text e r
 unfolding name-of Placed
 named-past text r o e q h l p n =
@@ -185,7 +185,7 @@ named-past text r o e q h l p n =
       its-part = rw none p;
     }
 
-pub named-some : (text r : RefT (List ℕ)) (o : Out) (e : ℕ) (s : Spot) → o ≡ read-of (now text) → o .answer ≡ Done → e < o .diagram .events → s ≡ spot-of (o .diagram) e
+pub named-some : (text r : RefT (List ℕ)) (o : ReadResult) (e : ℕ) (s : Spot) → o ≡ read-of (now text) → o .answer ≡ Done → e < o .diagram .events → s ≡ spot-of (o .diagram) e
     → Word text (s .place) r → Named text e r
 unfolding name-of Placed
 named-some text r o e s q h l g w =
@@ -228,7 +228,7 @@ lines-told text g ls e zero h f = rw (drop-of-length-le ls {i = e} (omega arith)
 lines-told text g ls e (suc n) h f =
     rw (drop-cons ls e nothing (omega arith), f e (omega arith), lines-told text g ls (suc e) n (omega arith) f)
 
-listing-told : (text : List ℕ) (o : Out) (d : Drawn text o) → spot-listing text (o .diagram) ≡ listing (drawing (d .tree) (d .its-limits))
+listing-told : (text : List ℕ) (o : ReadResult) (d : Drawn text o) → spot-listing text (o .diagram) ≡ listing (drawing (d .tree) (d .its-limits))
 unfolding spot-listing listing
 listing-told text o d =
     let t = d .tree in
@@ -253,14 +253,14 @@ listed text lent left w bs r e m h =
       its-bytes = ap (λ (b : Buffer). b .bytes) q ∙ ap (fill lent) e;
     }
 
-pub listed-drawn : (text lent left : List ℕ) (o : Out) (r : ℕ) → o ≡ read-of text → o .answer ≡ Done → length lent ≡ 32768
+pub listed-drawn : (text lent left : List ℕ) (o : ReadResult) (r : ℕ) → o ≡ read-of text → o .answer ≡ Done → length lent ≡ 32768
     → buffer r left ≡ put-all (spot-listing text (o .diagram)) (buffer 0 lent) → Listed text lent r left
 listed-drawn text lent left o r q h m w =
     let d = drawn text o q h in
     listed text lent left (drawing (d .tree) (d .its-limits)) (spot-listing text (o .diagram)) r (listing-told text o d) m w
 
-pub listed-away : (text lent left : List ℕ) (o : Out) (number place r : ℕ) → o ≡ read-of text → o .answer ≡ Unread number place → length lent ≡ 32768
+pub listed-away : (text lent left : List ℕ) (o : ReadResult) (number place r : ℕ) → o ≡ read-of text → o .answer ≡ Unread number place → length lent ≡ 32768
     → buffer r left ≡ put-all (away-line (o .answer)) (buffer 0 lent) → Listed text lent r left
 unfolding listing
 listed-away text lent left o number place r q h m w =
-    listed text lent left (turned-reading text o number place q h) (away-line (o .answer)) r (ap away-line h) m w
+    listed text lent left (refused-at-reading text o number place q h) (away-line (o .answer)) r (ap away-line h) m w

@@ -10,8 +10,8 @@ use Rattle.output.proofs.Decimals.{decimal-short}
 use Rattle.reader.specs.Answers.{read-of}
 use Rattle.reader.specs.Bounds.{Bounded, result, refusal}
 use Rattle.reader.specs.declared.Answer.the-variants.{Refused}
-use Rattle.reader.specs.declared.Out.{Out}
-use Rattle.reader.specs.Refused.{Turned}
+use Rattle.reader.specs.declared.ReadResult.{ReadResult}
+use Rattle.reader.specs.Refused.{RefusedAt}
 use Rattle.reader.proofs.Exact.{done-refused, refused-exactly}
 use Rattle.reader.proofs.Bounds.{read-bounded}
 use Rattle.process.specs.Process.{Event, events}
@@ -52,7 +52,7 @@ unfolding refused-line
 refused-short n p h k = simp length-append (omega (arith, decimal-short 1 n h, decimal-short 4 p k))
 
 -- The number and the place with which a text is turned away are small.
-pub near : (text : List ℕ) (number place : ℕ) → Turned text number place → (2 ≤ number) × (number ≤ 11) × (place ≤ 16384)
+pub near : (text : List ℕ) (number place : ℕ) → RefusedAt text number place → (2 ≤ number) × (number ≤ 11) × (place ≤ 16384)
 near text n p t = go (read-bounded text)
   where
     e : read-of text .answer ≡ Refused n p
@@ -61,7 +61,7 @@ near text n p t = go (read-bounded text)
     go : Bounded text (read-of text) → (2 ≤ n) × (n ≤ 11) × (p ≤ 16384)
     go (result r) = done-refused (sym (r .done) ∙ e)
     go (refusal r) =
-        let q : Refused (r .number) (r .place) ≡ Refused n p = sym (ap (λ (o : Out). o .answer) (r .is)) ∙ e in
+        let q : Refused (r .number) (r .place) ≡ Refused n p = sym (ap (λ (o : ReadResult). o .answer) (r .is)) ∙ e in
         let x : r .number ≡ n = cc in
         let y : r .place ≡ p = cc in
         omega (arith, r .low, r .high, r .near)

@@ -4,8 +4,8 @@ use mathlib.Core.List.{List}
 use Prim.Native.Nat.{ℕ}
 use Rattle.diagram.specs.Tree.{Flow}
 use Rattle.reader.specs.Accepted.{Accepted}
-use Rattle.reader.specs.Refused.{Turned}
-use Rattle.reader.proofs.Exact.{Fate, taken, turned, fate, accepted-exactly, refused-exactly, accepted-once, done-refused}
+use Rattle.reader.specs.Refused.{RefusedAt}
+use Rattle.reader.proofs.Exact.{Fate, taken, refused-at, fate, accepted-exactly, refused-exactly, accepted-once, done-refused}
 use Rattle.events.specs.Reading.{Reading, drawing, away}
 use Rattle.events.specs.Listing.{listing}
 
@@ -14,15 +14,15 @@ reading text = go (fate text)
   where
     go : Fate text → Reading text
     go (taken d a) = drawing d a
-    go (turned number place t) = away number place t
+    go (refused-at number place t) = away number place t
 
 -- Two readings that say the same: only their proofs may differ, at which no answer looks.
 pub data Same {text : List ℕ} : Reading text → Reading text → Type 0 where
   same-drawing : (d : Flow) (a b : Accepted text d) → Same (drawing d a) (drawing d b)
-  same-away : (number place : ℕ) (r s : Turned text number place) → Same (away number place r) (away number place s)
+  same-away : (number place : ℕ) (r s : RefusedAt text number place) → Same (away number place r) (away number place s)
 
 -- No text is accepted and refused.
-not-both : {A : Type 0} (text : List ℕ) (d : Flow) (number place : ℕ) → Accepted text d → Turned text number place → A
+not-both : {A : Type 0} (text : List ℕ) (d : Flow) (number place : ℕ) → Accepted text d → RefusedAt text number place → A
 not-both text d number place a t = done-refused (sym (accepted-exactly text .1 (d, a)) ∙ refused-exactly text number place .1 t)
 
 pub one-reading : {text : List ℕ} (v w : Reading text) → Same v w
@@ -35,7 +35,7 @@ one-reading {text} (away n p r) (away m q s) =
     let b = refused-exactly text m q .1 s in
     let x : n ≡ m = cc in
     let y : p ≡ q = cc in
-    subst₂ (λ (k l : ℕ). (t : Turned text k l) → Same (away n p r) (away k l t)) x y (same-away n p r) s
+    subst₂ (λ (k l : ℕ). (t : RefusedAt text k l) → Same (away n p r) (away k l t)) x y (same-away n p r) s
 
 -- So a text has one listing.
 same-listing : {text : List ℕ} {v w : Reading text} → Same v w → listing v ≡ listing w

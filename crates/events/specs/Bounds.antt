@@ -10,7 +10,7 @@ use Rattle.base.specs.Reports.{result as told-result, refusal as told-refusal}
 use Rattle.diagram.specs.Tree.{Flow}
 use Rattle.diagram.specs.Count.{flow-events}
 use Rattle.reader.specs.Accepted.{Accepted}
-use Rattle.reader.specs.Refused.{Turned}
+use Rattle.reader.specs.Refused.{RefusedAt}
 use Rattle.process.specs.Process.{event-of}
 use Rattle.process.specs.Expand.{expand}
 use Rattle.labels.specs.Values.{packed}
@@ -44,7 +44,7 @@ pub record Values-result (text : List ℕ) (e : ℕ) (r : Label) : Type 0 where
 
 -- Reading's number and place, each by its own sentence; then 14 at 0, "number at or past E".
 pub data Reason (text : List ℕ) (e number place : ℕ) : Type 0 where
-  unread : Turned text number place → Reason text e number place
+  unread : RefusedAt text number place → Reason text e number place
   no-event : (d : Flow) → Accepted text d → flow-events d ≤ e → number ≡ 14 → place ≡ 0 → Reason text e number place
 
 -- One of the numbers 2 to 11 and 14, with a place in a text within the limits or at its end.

@@ -4,8 +4,8 @@ use mathlib.Core.List.{List}
 use Prim.Native.Nat.{ℕ}
 use Rattle.diagram.specs.Tree.{Flow}
 use Rattle.reader.specs.Accepted.{Accepted}
-use Rattle.reader.specs.Refused.{Turned}
+use Rattle.reader.specs.Refused.{RefusedAt}
 
 pub data Reading (text : List ℕ) : Type 0 where
   drawing : (d : Flow) → Accepted text d → Reading text
-  away : (number place : ℕ) → Turned text number place → Reading text
+  away : (number place : ℕ) → RefusedAt text number place → Reading text

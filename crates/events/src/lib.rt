@@ -223,7 +223,7 @@ fn drawn(text: &[u8], d: Diagram, out: &mut [u8]) -> usize
 }
 
 // The line of a text that was not read.
-fn turned_away(answer: Answer, out: &mut [u8]) -> usize
+fn write_refusal(answer: Answer, out: &mut [u8]) -> usize
     ensures { λ r. ⌜ buffer r (now (out .exit)) ≡ put-all (away-line answer) (buffer 0 (now (out .entry))) ⌝ }
 {
     match answer {
@@ -240,7 +240,7 @@ pub fn list(text: &[u8], out: &mut [u8; 32768]) -> usize
     let o = reader::read(text);
     let answer = o.answer;
     let Answer::Done = answer else {
-        return turned_away(answer, out);
+        return write_refusal(answer, out);
     };
     let d = o.diagram;
     drawn(text, d, out)

@@ -7,7 +7,7 @@ use native.Mathlib.Omega.{arith}
 use lib.Dec.{eqb}
 use lib.ListN.{length, getD, drop, length-append, length-map}
 use borrow.Author.Tests.{lt-ltb, lt-leb, le-leb, ne-eqb}
-use Rattle.reader.specs.Views.{View}
+use Rattle.reader.specs.ShownNodes.{ShownNode}
 use Rattle.process.specs.Process.{Event, Joint, seq, and, or, xor, Process, event, join, again, rounds}
 use Rattle.process.specs.Expand.{copies}
 use Rattle.expansion.specs.Columns.{Columns}
@@ -25,7 +25,7 @@ pub record Here (c : Columns) (i kind size depth : ℕ) : Type 0 where
   pub size-is : getD (c .sizes) i 0 ≡ size
   pub depth-is : getD (c .depths) i 0 ≡ depth
 
-pub here : (vs : List View) (i : ℕ) (v : View) (rest : List View) → drop i vs ≡ v ∷ rest
+pub here : (vs : List ShownNode) (i : ℕ) (v : ShownNode) (rest : List ShownNode) → drop i vs ≡ v ∷ rest
     → Here (seen vs) i (kind-seen v) (size-seen v) (depth-seen v)
 here vs i v rest h =
     record {

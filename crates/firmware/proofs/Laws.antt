@@ -17,13 +17,13 @@ use Rattle.record.specs.Bytes.{Bytes, field, words-of, bytes-of}
 use Rattle.record.specs.Blank.{blank-record}
 use Rattle.record.specs.declared.Record.{Record}
 use Rattle.record.proofs.Bytes.{bytes-length, byte-at}
-use Rattle.record.proofs.Back.{bytes-words, words-back}
+use Rattle.record.proofs.RoundTrip.{bytes-words, words-back}
 use Rattle.table.specs.Steps.{step-of, finished-of, offer-of}
 use Rattle.table.specs.Reports.{report}
 use Rattle.table.specs.declared.Answer.{Answer}
 use Rattle.table.specs.declared.Answer.the-variants.{Done, Refused}
 use Rattle.table.specs.declared.Stepped.{Stepped}
-use Rattle.table.specs.Bounds.{Away, unsound, bit-past, Step-answer, event-taken, step-away, past-events, guard-says-no, Offer-answer, offer-made, buffer-short, offer-away}
+use Rattle.table.specs.Bounds.{NotReady, unsound, bit-past, Step-answer, event-taken, step-not-ready, past-events, guard-says-no, Offer-answer, offer-made, buffer-short, offer-not-ready}
 use Rattle.table.proofs.Bounds.{step-answered, offer-answered}
 use Rattle.table.proofs.Laws.{step-refused, step-words, offer-exactly}
 use Rattle.firmware.specs.Calls.{number, finish-number, record-of, left-bytes, step-number, step-bytes, finished-number, offer-number, offer-bytes}
@@ -43,20 +43,20 @@ blank-bytes = refl
 abbrev told-number : Report → ℕ
 told-number r = r .number
 
-away-number : (t bits : List ℕ) (r : Report) → Away t bits r → r .number ≡ 0 → ⊥
-away-number t bits r (unsound q s) z = let n : _≡_ {A = ℕ} 12 0 = sym (ap told-number q) ∙ z in omega (arith, n)
-away-number t bits r (bit-past q s p) z = let n : _≡_ {A = ℕ} 13 0 = sym (ap told-number q) ∙ z in omega (arith, n)
+not-ready-number : (t bits : List ℕ) (r : Report) → NotReady t bits r → r .number ≡ 0 → ⊥
+not-ready-number t bits r (unsound q s) z = let n : _≡_ {A = ℕ} 12 0 = sym (ap told-number q) ∙ z in omega (arith, n)
+not-ready-number t bits r (bit-past q s p) z = let n : _≡_ {A = ℕ} 13 0 = sym (ap told-number q) ∙ z in omega (arith, n)
 
 step-zero : (t : List ℕ) (before : Record) (e : ℕ) (s : Stepped) → Step-answer t before e s → number (s .answer) ≡ 0 → s .answer ≡ Done
 step-zero t before e s (event-taken q k) z = ap (λ (x : Stepped). x .answer) q
-step-zero t before e s (step-away w k) z = absurd (away-number t (before .bits) (report (s .answer)) w z)
+step-zero t before e s (step-not-ready w k) z = absurd (not-ready-number t (before .bits) (report (s .answer)) w z)
 step-zero t before e s (past-events q k r h) z = let n : _≡_ {A = ℕ} 14 0 = sym (ap told-number q) ∙ z in absurd (omega (arith, n))
 step-zero t before e s (guard-says-no q k r h y) z = let n : _≡_ {A = ℕ} 15 0 = sym (ap told-number q) ∙ z in absurd (omega (arith, n))
 
 offer-zero : (t : List ℕ) (before : Record) (lent : List ℕ) (a : Answer) (left : List ℕ) → Offer-answer t before lent a left → number a ≡ 0 → a ≡ Done
 offer-zero t before lent a left (offer-made q h r l) z = q
 offer-zero t before lent a left (buffer-short q h l) z = let n : _≡_ {A = ℕ} 1 0 = sym (ap told-number q) ∙ z in absurd (omega (arith, n))
-offer-zero t before lent a left (offer-away h w l) z = absurd (away-number t (before .bits) (report a) w z)
+offer-zero t before lent a left (offer-not-ready h w l) z = absurd (not-ready-number t (before .bits) (report a) w z)
 
 module _ (t s : List ℕ) (e : ℕ) (b : Bytes s) where
   -- The number of a step is that of the step by value of the record that the bytes hold.

@@ -157,10 +157,10 @@ mutual
 
   flow-sound : (f : Flow) {ts : List Name} → flow-named f ≡ true → flow-sized f ≡ true → Sound ts → Sound (flow-tokens f ts)
   flow-sound (flow n ps sw c r cs) h z s =
-      let heads = and-l (named n && all-named ps) (child-named c && children-named cs) h in
+      let token-nodes = and-l (named n && all-named ps) (child-named c && children-named cs) h in
       let parts = and-r (named n && all-named ps) (child-named c && children-named cs) h in
       keyed 0 (omega arith)
-      (pars-sound ps n (and-r (named n) (all-named ps) heads) (fine-name n (and-l (named n) (all-named ps) heads))
+      (pars-sound ps n (and-r (named n) (all-named ps) token-nodes) (fine-name n (and-l (named n) (all-named ps) token-nodes))
       (comma-more
       (closed (bit sw) (fine-bit sw)
       (opening-more

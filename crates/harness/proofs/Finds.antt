@@ -11,7 +11,7 @@ use Rattle.reader.specs.Answers.{read-of}
 use Rattle.reader.specs.Bounds.{Bounded, result, refusal}
 use Rattle.reader.specs.declared.Answer.{Answer}
 use Rattle.reader.specs.declared.Answer.the-variants.{Done, Refused as Unread}
-use Rattle.reader.specs.declared.Out.{Out}
+use Rattle.reader.specs.declared.ReadResult.{ReadResult}
 use Rattle.reader.proofs.Bounds.{read-bounded}
 use Rattle.reader.proofs.Exact.{done-refused}
 use Rattle.harness.specs.Nodes.{found-in, found-at, unread}
@@ -30,11 +30,11 @@ few-nodes text e = go (read-bounded text)
   where
     go : Bounded text (read-of text) → read-of text .diagram .count ≤ 256
     go (result r) = omega (arith, r .shown .count, r .limits .nodes)
-    go (refusal r) = done-refused (sym e ∙ ap (λ (o : Out). o .answer) (r .is))
+    go (refusal r) = done-refused (sym e ∙ ap (λ (o : ReadResult). o .answer) (r .is))
 
-module _ (text : List ℕ) (i : ℕ) {o : Out} (is : o ≡ read-of text) where
+module _ (text : List ℕ) (i : ℕ) {o : ReadResult} (is : o ≡ read-of text) where
   said : (a : Answer) → o .answer ≡ a → found-in (o .diagram) i a ≡ found-at (read-of text) i
-  said a e = ap (found-in (o .diagram) i) (sym e) ∙ ap (λ (u : Out). found-at u i) is
+  said a e = ap (found-in (o .diagram) i) (sym e) ∙ ap (λ (u : ReadResult). found-at u i) is
 
   pub found-away : (number place : ℕ) → o .answer ≡ Unread number place → {r : Found} → r ≡ unread (o .answer) → r ≡ found-at (read-of text) i
   found-away number place e q = q ∙ (ap unread e ∙ said (Unread number place) e)
@@ -47,6 +47,6 @@ module _ (text : List ℕ) (i : ℕ) {o : Out} (is : o ≡ read-of text) where
 
   pub below : o .answer ≡ Done → i < o .diagram .count → i < 256
   below e h =
-      let few = few-nodes text (ap (λ (u : Out). u .answer) (sym is) ∙ e) in
-      let same = ap (λ (u : Out). u .diagram .count) is in
+      let few = few-nodes text (ap (λ (u : ReadResult). u .answer) (sym is) ∙ e) in
+      let same = ap (λ (u : ReadResult). u .diagram .count) is in
       omega (arith, few, same)

@@ -12,7 +12,7 @@ use Rattle.diagram.specs.declared.Kind.the-variants.{Flow, Leaf, And, Or, Xor, 
 use Rattle.diagram.specs.declared.Node.{Node}
 use Rattle.reader.specs.declared.Answer.{Answer}
 use Rattle.reader.specs.declared.Answer.the-variants.{Done, Refused as Unread}
-use Rattle.reader.specs.declared.Out.{Out}
+use Rattle.reader.specs.declared.ReadResult.{ReadResult}
 use Rattle.expansion.specs.Columns.{size-number}
 use Rattle.harness.specs.declared.Found.{Found}
 use Rattle.harness.specs.declared.Found.the-variants.{At, Refused}
@@ -50,7 +50,7 @@ abbrev pub unread : Answer → Found
 unread Done = Refused 255 0
 unread (Unread number place) = Refused number place
 
-abbrev pub found-at : Out → ℕ → Found
+abbrev pub found-at : ReadResult → ℕ → Found
 found-at o i = found-in (o .diagram) i (o .answer)
 
 -- What is told of a node that is found: these values of it; or number and place.

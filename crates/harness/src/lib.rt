@@ -13,7 +13,7 @@ ghost use Rattle.reader.specs.Reports.{report as read-report};
 ghost use Rattle.printer.specs.Prints.{print-of, left-by};
 ghost use Rattle.printer.specs.Reports.{report as print-report};
 ghost use Rattle.table.specs.Reports.{report as step-report};
-ghost use Rattle.update.specs.Updates.{answer-of, left-of};
+ghost use Rattle.inplace.specs.Updates.{answer-of, left-of};
 ghost use Rattle.translator.specs.Reports.{report as translate-report};
 ghost use Rattle.events.specs.Listing.{Listed};
 ghost use Rattle.events.specs.Reports.{marked as marked-values, report as label-report};
@@ -28,7 +28,7 @@ use events::Label;
 use labels::Values;
 use printer::Printed;
 use reader::Answer;
-use reader::Out;
+use reader::ReadResult;
 use record::Record;
 use translator::Translated;
 
@@ -40,7 +40,7 @@ fn refusal(number: u8, place: usize) -> u64
 }
 
 // Nodes, node copies and events, of 10 bits each.
-fn read_number(o: Out) -> u64
+fn read_number(o: ReadResult) -> u64
     ensures { λ r. ⌜ r ≡ packed 10 (read-report o) ⌝ }
 {
     let answer = o.answer;
@@ -302,6 +302,6 @@ pub extern "C" fn adl_test_update(table: &[u8], lent: &mut Record, event: u64) -
     ensures { λ r. ⌜ r ≡ packed 32 (step-report (answer-of (now (table .entry)) (now (lent .entry)) event)) ⌝ }
     ensures { λ r. ⌜ now (lent .exit) ≡ left-of (now (table .entry)) (now (lent .entry)) event ⌝ }
 {
-    let answer = update::step(table, lent, event);
+    let answer = inplace::step(table, lent, event);
     step_number(answer)
 }

@@ -14,13 +14,13 @@ use Rattle.diagram.specs.Count.{flow-copies, flow-events}
 use Rattle.diagram.specs.Stored.{blank-node}
 use Rattle.lexer.specs.Spans.{codes, places}
 use Rattle.grammar.specs.Limits.{keyed}
-use Rattle.rules.specs.Heads.{Head, flowing, leafy, copying, head, heads, name-in, opened}
-use Rattle.rules.proofs.Trees.{flow-heads}
+use Rattle.rules.specs.TokenNodes.{TokenNode, flowing, leafy, copying, token-node, token-nodes, name-in, opened}
+use Rattle.rules.proofs.Trees.{flow-token-nodes}
 use Rattle.reader.specs.Nodes.{name-place, node-of, stored}
 use Rattle.reader.specs.Answers.{read-of}
 use Rattle.reader.specs.Accepted.{Accepted}
-use Rattle.reader.specs.declared.Out.{Out}
-use Rattle.reader.proofs.Told.{derived-heads}
+use Rattle.reader.specs.declared.ReadResult.{ReadResult}
+use Rattle.reader.proofs.Told.{derived-token-nodes}
 use Rattle.reader.proofs.Exact.{accepted-read}
 use Rattle.process.specs.Process.{event-of}
 use Rattle.process.specs.Expand.{expand}
@@ -29,7 +29,7 @@ use Rattle.labels.specs.Stands.{Stands}
 use Rattle.labels.specs.Rows.{Row, node-row}
 use Rattle.labels.specs.Weights.{weigh}
 use Rattle.labels.specs.Seeks.{begin, seek, spot-of}
-use Rattle.labels.proofs.Weighed.{head-row}
+use Rattle.labels.proofs.Weighed.{token-node-row}
 use Rattle.labels.proofs.Sought.{Labels, Known, nothing, flow-found}
 
 -- A leaf or flow has a name.
@@ -49,10 +49,10 @@ tokens-on cs rest k c h = ap (λ (n : ℕ). drop n cs) (sym (add-one k)) ∙ (sy
 
 -- The name of each leaf and flow that the tokens of a text tell stands where its token does.
 module _ (text : List ℕ) where
-  head-known : (p k c : ℕ) (cs : List ℕ) → drop k (codes text) ≡ c ∷ cs → (flowing c || leafy c) ≡ true
-      → Stands text (head (name-in text (places text)) p k (c ∷ cs) .name) (head-row (places text) (head (name-in text (places text)) p k (c ∷ cs)) .place)
-  unfolding head head-row node-of name-place
-  head-known p k c cs h t =
+  token-node-known : (p k c : ℕ) (cs : List ℕ) → drop k (codes text) ≡ c ∷ cs → (flowing c || leafy c) ≡ true
+      → Stands text (token-node (name-in text (places text)) p k (c ∷ cs) .name) (token-node-row (places text) (token-node (name-in text (places text)) p k (c ∷ cs)) .place)
+  unfolding token-node token-node-row node-of name-place
+  token-node-known p k c cs h t =
       let here = titled (flowing c) (leafy c) (copying c) t in
       record {
         keyword = k;
@@ -61,22 +61,22 @@ module _ (text : List ℕ) where
         its-name = rw here;
       }
 
-  heads-known : (p k : ℕ) (cs : List ℕ) → drop k (codes text) ≡ cs → Known (places text) (Stands text) (heads (name-in text (places text)) p k cs)
-  unfolding heads Known head
-  heads-known p k [] h = tt
-  heads-known p k (c ∷ cs) h =
+  token-nodes-known : (p k : ℕ) (cs : List ℕ) → drop k (codes text) ≡ cs → Known (places text) (Stands text) (token-nodes (name-in text (places text)) p k cs)
+  unfolding token-nodes Known token-node
+  token-nodes-known p k [] h = tt
+  token-nodes-known p k (c ∷ cs) h =
       ⊎-elim
-      (λ e. rw e (head-known (suc p) k c cs h, heads-known p (suc k) cs (tokens-on (codes text) cs k c h)))
-      (λ e. rw e (heads-known (opened p c) (suc k) cs (tokens-on (codes text) cs k c h)))
+      (λ e. rw e (token-node-known (suc p) k c cs h, token-nodes-known p (suc k) cs (tokens-on (codes text) cs k c h)))
+      (λ e. rw e (token-nodes-known (opened p c) (suc k) cs (tokens-on (codes text) cs k c h)))
       (cases (keyed c))
 
 -- The nodes that the diagram by value holds.
-stored-rows : (ps : List ℕ) (hs : List Head) → map node-row (map (node-of ps) hs) ≡ map (head-row ps) hs
-unfolding head-row
+stored-rows : (ps : List ℕ) (hs : List TokenNode) → map node-row (map (node-of ps) hs) ≡ map (token-node-row ps) hs
+unfolding token-node-row
 stored-rows ps [] = refl
-stored-rows ps (h ∷ hs) = ap (λ (rs : List Row). head-row ps h ∷ rs) (stored-rows ps hs)
+stored-rows ps (h ∷ hs) = ap (λ (rs : List Row). token-node-row ps h ∷ rs) (stored-rows ps hs)
 
-stored-spot : (ps : List ℕ) (hs : List Head) (x y e : ℕ) → spot-of (stored ps hs x y) e ≡ seek (weigh (map (head-row ps) hs)) (begin e)
+stored-spot : (ps : List ℕ) (hs : List TokenNode) (x y e : ℕ) → spot-of (stored ps hs x y) e ≡ seek (weigh (map (token-node-row ps) hs)) (begin e)
 unfolding spot-of stored
 stored-spot ps hs x y e =
     ap (λ (rs : List Row). seek (weigh rs) (begin e))
@@ -86,10 +86,10 @@ pub labelled : (text : List ℕ) (d : Flow) → Accepted text d → (e : ℕ) �
     → Labels (Stands text) (event-of (expand d) e) (spot-of (read-of text .diagram) e)
 labelled text d a e l =
     let ps = places text in
-    let hs = flow-heads d false 1 0 [] in
+    let hs = flow-token-nodes d false 1 0 [] in
     let keeps = a .keeps in
     let few = a .events in
-    let known = subst (Known ps (Stands text)) (derived-heads text d (a .derived)) (heads-known text 0 0 (codes text) refl) in
+    let known = subst (Known ps (Stands text)) (derived-token-nodes text d (a .derived)) (token-nodes-known text 0 0 (codes text) refl) in
     let found = flow-found ps (Stands text) d false 0 0 [] (omega arith) (keeps .sizes) (omega arith) known [] [] refl (keeps .parameters) 0 e l in
-    let same = ap (λ (o : Out). spot-of (o .diagram) e) (accepted-read text d a) ∙ stored-spot ps hs (flow-copies d) (flow-events d) e in
+    let same = ap (λ (o : ReadResult). spot-of (o .diagram) e) (accepted-read text d a) ∙ stored-spot ps hs (flow-copies d) (flow-events d) e in
     rw (same, event-in-order d (keeps .sizes) e nothing l) found

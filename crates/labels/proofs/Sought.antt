@@ -16,9 +16,9 @@ use Rattle.diagram.specs.Count.{flow-events, children-events, child-events, loo
 use Rattle.diagram.specs.Sizes.{flow-sized, children-sized, child-sized, member-sized, members-sized}
 use Rattle.diagram.specs.Parameters.{surrounded, flow-parameters, children-parameters, child-parameters, member-parameters, members-parameters}
 use Rattle.grammar.specs.Tokens.{child-tokens, member-tokens}
-use Rattle.rules.specs.Heads.{Head, flowing, leafy}
-use Rattle.rules.proofs.Headed.{flow-node, copy-node}
-use Rattle.rules.proofs.Trees.{group-code, replicator-code, simple, flow-heads, children-heads, child-heads, member-heads, members-heads}
+use Rattle.rules.specs.TokenNodes.{TokenNode, flowing, leafy}
+use Rattle.rules.proofs.NodesRead.{flow-node, copy-node}
+use Rattle.rules.proofs.Trees.{group-code, replicator-code, simple, flow-token-nodes, children-token-nodes, child-token-nodes, member-token-nodes, members-token-nodes}
 use Rattle.reader.specs.Nodes.{kind-of, node-of}
 use Rattle.process.specs.Process.{Event, Joint, seq, Process, join, events}
 use Rattle.process.specs.Expand.{leaf-copy, reset-of, joint, copies, flow-process, children-process, child-process, loop-process, member-process, members-process}
@@ -29,7 +29,7 @@ use Rattle.labels.specs.Values.{packed}
 use Rattle.labels.specs.Weights.{weight, weigh}
 use Rattle.labels.specs.Seeks.{next as after}
 use Rattle.labels.proofs.Deep.{Deep, done, deeper, tree-deep, first-depth, tree-first, child-tree, member-tree, children-first, members-first}
-use Rattle.labels.proofs.Weighed.{first-weight, head-row, copies-more, flow-row, group-row, replicator-row, flow-weighed, child-weighed, member-weighed}
+use Rattle.labels.proofs.Weighed.{first-weight, token-node-row, copies-more, flow-row, group-row, replicator-row, flow-weighed, child-weighed, member-weighed}
 use Rattle.labels.proofs.Ordered.{flow-count, child-count, member-count, join-first, join-second, join-count, children-begin, members-begin, copies-at}
 use Rattle.labels.proofs.Turned.{search, sought, seek-past, seek-leaf, seek-reset, seek-body, seek-parts, seek-copy}
 
@@ -59,11 +59,11 @@ member-some m h =
 
 module _ (ps : List ℕ) (ok : Name → ℕ → Type 0) where
   -- The name of each leaf and flow among some nodes stands at its place.
-  unfoldable pub Known : List Head → Type 0
+  unfoldable pub Known : List TokenNode → Type 0
   Known [] = Unit {0}
-  Known (h ∷ hs) = ((flowing (h .code) || leafy (h .code)) ≡ true → ok (h .name) (head-row ps h .place)) × Known hs
+  Known (h ∷ hs) = ((flowing (h .code) || leafy (h .code)) ≡ true → ok (h .name) (token-node-row ps h .place)) × Known hs
 
-  known-more : {d : ℕ} {hs more : List Head} → Deep d hs more → Known hs → Known more
+  known-more : {d : ℕ} {hs more : List TokenNode} → Deep d hs more → Known hs → Known more
   unfolding Known
   known-more done k = k
   known-more (deeper l p) k = known-more p (k .1)
@@ -85,29 +85,29 @@ module _ (ps : List ℕ) (ok : Name → ℕ → Type 0) where
   one-event x (suc i) h = let z : ⊥ = omega arith in absurd z
 
   -- A reset has the name of its body's flow.
-  reset-named : (f : Flow) (d k : ℕ) (more : List Head) → Known (flow-heads f false d k more) → (vs : List ℕ)
-      → Labels ok (reset-of f vs) (record { reset = true; place = after (weigh (map (head-row ps) (flow-heads f false d k more))) .place; values = packed vs })
-  unfolding flow-heads Known weigh
+  reset-named : (f : Flow) (d k : ℕ) (more : List TokenNode) → Known (flow-token-nodes f false d k more) → (vs : List ℕ)
+      → Labels ok (reset-of f vs) (record { reset = true; place = after (weigh (map (token-node-row ps) (flow-token-nodes f false d k more))) .place; values = packed vs })
+  unfolding flow-token-nodes Known weigh
   reset-named (flow n p sw c r cs) d k more known vs = record { mark = refl; its-values = refl; named = known .0 refl }
 
   -- A tree whose first node is searched in for its event number `rest`, from a search in the node around it, at depth d.
   mutual
-    unfolding flow-heads flow-process flow-events flow-sized flow-parameters Known events head-row node-of kind-of weigh weight
+    unfolding flow-token-nodes flow-process flow-events flow-sized flow-parameters Known events token-node-row node-of kind-of weigh weight
 
-    pub flow-found : (f : Flow) (b : Bool) (d k : ℕ) (more : List Head) → first-depth more ≤ suc d → flow-sized f ≡ true → flow-events f < 1024
-        → Known (flow-heads f b (suc d) k more) → (around : List Name) (vs : List ℕ) → length around ≡ length vs → flow-parameters f around ≡ true
-        → (e rest : ℕ) → rest < flow-events f → At (flow-process f vs e) rest (sought ps (flow-heads f b (suc d) k more) (search d rest vs))
+    pub flow-found : (f : Flow) (b : Bool) (d k : ℕ) (more : List TokenNode) → first-depth more ≤ suc d → flow-sized f ≡ true → flow-events f < 1024
+        → Known (flow-token-nodes f b (suc d) k more) → (around : List Name) (vs : List ℕ) → length around ≡ length vs → flow-parameters f around ≡ true
+        → (e rest : ℕ) → rest < flow-events f → At (flow-process f vs e) rest (sought ps (flow-token-nodes f b (suc d) k more) (search d rest vs))
     flow-found (flow n p sw c r cs) b d k more stop sized few known around vs long kept e rest l =
         let k1 = k + (7 + 2 * length p) in
         let k2 = k1 + (length (child-tokens c []) + 3) in
-        let tail = children-heads cs (suc (suc d)) k2 more in
+        let tail = children-token-nodes cs (suc (suc d)) k2 more in
         let q = child-process c vs e in
         let sized1 = and-l (child-sized c) (children-sized cs) sized in
         let sized2 = and-r (child-sized c) (children-sized cs) sized in
         let kepts = and-r (surrounded around && equal same p around) (child-parameters c around && children-parameters cs around) kept in
         let first = children-first cs (suc (suc d)) k2 more (omega arith) in
         let count = child-count vs e c sized1 in
-        let in-it = seek-parts ps (flow-node k (suc d) n (reverse p) sw b) (child-heads c r (suc (suc d)) k1 tail) d rest vs _ refl (flow-weighed ps (flow n p sw c r cs) b (suc d) k more stop sized few) l
+        let in-it = seek-parts ps (flow-node k (suc d) n (reverse p) sw b) (child-token-nodes c r (suc (suc d)) k1 tail) d rest vs _ refl (flow-weighed ps (flow n p sw c r cs) b (suc d) k more stop sized few) l
         (flow-row ps n (reverse p) sw b (suc d) k) in
         part-or-past rest (child-events c)
         (λ m. moved
@@ -120,14 +120,14 @@ module _ (ps : List ℕ) (ok : Name → ℕ → Type 0) where
         (sym (in-it ∙ seek-past ps (suc d) rest vs (child-events c) (child-tree c r (suc (suc d)) k1 tail)
         (child-weighed ps c r (suc (suc d)) k1 tail first sized1 (omega arith)) m)))
 
-    children-found : (cs : Children) (d k : ℕ) (more : List Head) → first-depth more ≤ d → children-sized cs ≡ true → children-events cs < 1024
-        → Known (children-heads cs (suc d) k more) → (around : List Name) (vs : List ℕ) → length around ≡ length vs → children-parameters cs around ≡ true
+    children-found : (cs : Children) (d k : ℕ) (more : List TokenNode) → first-depth more ≤ d → children-sized cs ≡ true → children-events cs < 1024
+        → Known (children-token-nodes cs (suc d) k more) → (around : List Name) (vs : List ℕ) → length around ≡ length vs → children-parameters cs around ≡ true
         → (p : Process) (e rest : ℕ) → rest < children-events cs
-        → At (children-process cs vs p e) (length (events p) + rest) (sought ps (children-heads cs (suc d) k more) (search d rest vs))
+        → At (children-process cs vs p e) (length (events p) + rest) (sought ps (children-token-nodes cs (suc d) k more) (search d rest vs))
     children-found none d k more stop sized few known around vs long kept p e rest l = let z : ⊥ = omega arith in absurd z
     children-found (next c r cs) d k more stop sized few known around vs long kept p e rest l =
         let k2 = k + (length (child-tokens c []) + 3) in
-        let tail = children-heads cs (suc d) k2 more in
+        let tail = children-token-nodes cs (suc d) k2 more in
         let q = child-process c vs e in
         let sized1 = and-l (child-sized c) (children-sized cs) sized in
         let first = children-first cs (suc d) k2 more (omega arith) in
@@ -144,17 +144,17 @@ module _ (ps : List ℕ) (ok : Name → ℕ → Type 0) where
         (ap (λ (i : ℕ). getD (events (children-process cs vs (join seq p q) (e + child-events c))) i nothing) (omega arith))
         (sym (seek-past ps d rest vs (child-events c) (child-tree c r (suc d) k tail) (child-weighed ps c r (suc d) k tail first sized1 (omega arith)) m)))
 
-    child-found : (c : Child) (b : Bool) (d k : ℕ) (more : List Head) → first-depth more ≤ suc d → child-sized c ≡ true → child-events c < 1024
-        → Known (child-heads c b (suc d) k more) → (around : List Name) (vs : List ℕ) → length around ≡ length vs → child-parameters c around ≡ true
-        → (e rest : ℕ) → rest < child-events c → At (child-process c vs e) rest (sought ps (child-heads c b (suc d) k more) (search d rest vs))
+    child-found : (c : Child) (b : Bool) (d k : ℕ) (more : List TokenNode) → first-depth more ≤ suc d → child-sized c ≡ true → child-events c < 1024
+        → Known (child-token-nodes c b (suc d) k more) → (around : List Name) (vs : List ℕ) → length around ≡ length vs → child-parameters c around ≡ true
+        → (e rest : ℕ) → rest < child-events c → At (child-process c vs e) rest (sought ps (child-token-nodes c b (suc d) k more) (search d rest vs))
     child-found (plain m) b d k more stop sized few known around vs long kept e rest l = member-found m b d k more stop sized few known around vs long kept e rest l
     child-found (loop m) b d k more stop sized few known around vs long kept e rest l =
         loop-found m b d k more stop sized few (known .1) around vs long (and-r (surrounded around) (member-parameters m around) kept) e rest l
     child-found (group y m w ms) b d k more stop sized few known around vs long kept e rest l =
         let k2 = k + 2 + length (member-tokens m []) in
         let k3 = k2 + length (member-tokens w []) in
-        let tail = members-heads ms (suc (suc d)) k3 more in
-        let rests = member-heads w false (suc (suc d)) k2 tail in
+        let tail = members-token-nodes ms (suc (suc d)) k3 more in
+        let rests = member-token-nodes w false (suc (suc d)) k2 tail in
         let j = joint y in
         let p = member-process m vs e in
         let q = member-process w vs (e + member-events m) in
@@ -170,7 +170,7 @@ module _ (ps : List ℕ) (ok : Name → ℕ → Type 0) where
         let count1 = member-count vs e m sized1 in
         let count2 = member-count vs (e + member-events m) w sized2 in
         let both = join-count j p q nothing in
-        let in-it = seek-parts ps (simple k (suc d) (group-code y) [] b) (member-heads m false (suc (suc d)) (k + 2) rests) d rest vs _ refl
+        let in-it = seek-parts ps (simple k (suc d) (group-code y) [] b) (member-token-nodes m false (suc (suc d)) (k + 2) rests) d rest vs _ refl
         (child-weighed ps (group y m w ms) b (suc d) k more stop sized few) l (group-row ps y b (suc d) k) in
         part-or-past rest (member-events m)
         (λ u. moved
@@ -194,7 +194,7 @@ module _ (ps : List ℕ) (ok : Name → ℕ → Type 0) where
         (sym (past ∙ seek-past ps (suc d) (rest - member-events m) vs (member-events w) (member-tree w false (suc (suc d)) k2 tail)
         (member-weighed ps w false (suc (suc d)) k2 tail first2 sized2 (omega arith)) v))))
     child-found (replicator y par size m) b d k more stop sized few known around vs long kept e rest l =
-        let body = member-heads m false (suc (suc d)) (k + 7) more in
+        let body = member-token-nodes m false (suc (suc d)) (k + 7) more in
         let n = member-events m in
         let v = rest / n in
         let sizes = and-l (leb 1 size && leb size 16) (member-sized m) sized in
@@ -205,7 +205,7 @@ module _ (ps : List ℕ) (ok : Name → ℕ → Type 0) where
         let one : 1 ≤ n = member-some m sized1 in
         let longer : length (around ++ (par ∷ [])) ≡ length (vs ++ (v ∷ [])) = simp length-append (omega arith) in
         let room : length vs < 3 = omega (arith, member-surrounded m (around ++ (par ∷ [])) kept1, length-append around (par ∷ [])) in
-        let weighed : first-weight (map (head-row ps) body) ≡ n = member-weighed ps m false (suc (suc d)) (k + 7) more (omega arith) sized1 (omega arith) in
+        let weighed : first-weight (map (token-node-row ps) body) ≡ n = member-weighed ps m false (suc (suc d)) (k + 7) more (omega arith) sized1 (omega arith) in
         let copy : ℕ → Process = λ x. member-process m (vs ++ (x ∷ [])) (e + x * n) in
         let in-it = seek-copy ps (copy-node k (suc d) (replicator-code y) par size b) body d rest vs _ refl
         (child-weighed ps (replicator y par size m) b (suc d) k more stop sized few) l (replicator-row ps y par size b (suc d) k) some (omega arith) room in
@@ -217,10 +217,10 @@ module _ (ps : List ℕ) (ok : Name → ℕ → Type 0) where
         ∙ ap (λ (i : ℕ). getD (events (copies (joint y) copy (size - 1))) i nothing) (div-add-mod' rest n))
         (sym (in-it ∙ ap (λ (x : ℕ). sought ps body (search (suc d) (rest % x) (vs ++ ((rest / x) ∷ [])))) weighed))
 
-    loop-found : (m : Member) (b : Bool) (d k : ℕ) (more : List Head) → first-depth more ≤ suc d → member-sized m ≡ true → loop-events m < 1024
-        → Known (member-heads m false (suc (suc d)) (k + 2) more) → (around : List Name) (vs : List ℕ) → length around ≡ length vs → member-parameters m around ≡ true
+    loop-found : (m : Member) (b : Bool) (d k : ℕ) (more : List TokenNode) → first-depth more ≤ suc d → member-sized m ≡ true → loop-events m < 1024
+        → Known (member-token-nodes m false (suc (suc d)) (k + 2) more) → (around : List Name) (vs : List ℕ) → length around ≡ length vs → member-parameters m around ≡ true
         → (e rest : ℕ) → rest < loop-events m
-        → At (loop-process m vs e) rest (sought ps (simple k (suc d) 15 [] b ∷ member-heads m false (suc (suc d)) (k + 2) more) (search d rest vs))
+        → At (loop-process m vs e) rest (sought ps (simple k (suc d) 15 [] b ∷ member-token-nodes m false (suc (suc d)) (k + 2) more) (search d rest vs))
     loop-found (leaf n) b d k more stop sized few known around vs long kept e rest l =
         let in-it = seek-body ps (simple k (suc d) 15 [] b) (simple (k + 2) (suc (suc d)) 8 n false ∷ more) d rest vs 1 refl
         (child-weighed ps (loop (leaf n)) b (suc d) k more stop sized few) l refl l refl in
@@ -228,7 +228,7 @@ module _ (ps : List ℕ) (ok : Name → ℕ → Type 0) where
         (sym (in-it ∙ seek-leaf ps (simple (k + 2) (suc (suc d)) 8 n false) more (suc d) rest vs 1 refl
         (member-weighed ps (leaf n) false (suc (suc d)) (k + 2) more (omega arith) sized few) l refl))
     loop-found (inner f) b d k more stop sized few known around vs long kept e rest l =
-        let body = flow-heads f false (suc (suc d)) (k + 2) more in
+        let body = flow-token-nodes f false (suc (suc d)) (k + 2) more in
         let p = flow-process f vs e in
         let weighed = flow-weighed ps f false (suc (suc d)) (k + 2) more (omega arith) sized (omega arith) in
         let whole = child-weighed ps (loop (inner f)) b (suc d) k more stop sized few in
@@ -241,22 +241,22 @@ module _ (ps : List ℕ) (ok : Name → ℕ → Type 0) where
         (sym (getD-append-seam (events p) (reset-of f vs) [] nothing) ∙ ap (λ (i : ℕ). getD (events p ++ (reset-of f vs ∷ [])) i nothing) (omega arith))
         (sym (seek-reset ps (simple k (suc d) 15 [] b) body d rest vs _ refl whole l refl (omega arith))))
 
-    member-found : (m : Member) (b : Bool) (d k : ℕ) (more : List Head) → first-depth more ≤ suc d → member-sized m ≡ true → member-events m < 1024
-        → Known (member-heads m b (suc d) k more) → (around : List Name) (vs : List ℕ) → length around ≡ length vs → member-parameters m around ≡ true
-        → (e rest : ℕ) → rest < member-events m → At (member-process m vs e) rest (sought ps (member-heads m b (suc d) k more) (search d rest vs))
+    member-found : (m : Member) (b : Bool) (d k : ℕ) (more : List TokenNode) → first-depth more ≤ suc d → member-sized m ≡ true → member-events m < 1024
+        → Known (member-token-nodes m b (suc d) k more) → (around : List Name) (vs : List ℕ) → length around ≡ length vs → member-parameters m around ≡ true
+        → (e rest : ℕ) → rest < member-events m → At (member-process m vs e) rest (sought ps (member-token-nodes m b (suc d) k more) (search d rest vs))
     member-found (leaf n) b d k more stop sized few known around vs long kept e rest l =
         moved (record { mark = refl; its-values = refl; named = known .0 refl }) (one-event (leaf-copy n vs) rest l)
         (sym (seek-leaf ps (simple k (suc d) 8 n b) more d rest vs 1 refl (member-weighed ps (leaf n) b (suc d) k more stop sized few) l refl))
     member-found (inner f) b d k more stop sized few known around vs long kept e rest l = flow-found f b d k more stop sized few known around vs long kept e rest l
 
-    members-found : (ms : Members) (j : Joint) (d k : ℕ) (more : List Head) → first-depth more ≤ d → members-sized ms ≡ true → members-events ms < 1024
-        → Known (members-heads ms (suc d) k more) → (around : List Name) (vs : List ℕ) → length around ≡ length vs → members-parameters ms around ≡ true
+    members-found : (ms : Members) (j : Joint) (d k : ℕ) (more : List TokenNode) → first-depth more ≤ d → members-sized ms ≡ true → members-events ms < 1024
+        → Known (members-token-nodes ms (suc d) k more) → (around : List Name) (vs : List ℕ) → length around ≡ length vs → members-parameters ms around ≡ true
         → (p : Process) (e rest : ℕ) → rest < members-events ms
-        → At (members-process ms j vs p e) (length (events p) + rest) (sought ps (members-heads ms (suc d) k more) (search d rest vs))
+        → At (members-process ms j vs p e) (length (events p) + rest) (sought ps (members-token-nodes ms (suc d) k more) (search d rest vs))
     members-found end j d k more stop sized few known around vs long kept p e rest l = let z : ⊥ = omega arith in absurd z
     members-found (also m ms) j d k more stop sized few known around vs long kept p e rest l =
         let k2 = k + length (member-tokens m []) in
-        let tail = members-heads ms (suc d) k2 more in
+        let tail = members-token-nodes ms (suc d) k2 more in
         let q = member-process m vs e in
         let sized1 = and-l (member-sized m) (members-sized ms) sized in
         let first = members-first ms (suc d) k2 more (omega arith) in

@@ -15,14 +15,14 @@ use Rattle.diagram.proofs.Equal.{same-decides}
 use Rattle.lexer.specs.Words.{word-at}
 use Rattle.lexer.specs.Spans.{codes, places}
 use Rattle.grammar.specs.Limits.{keyed}
-use Rattle.rules.specs.Heads.{Head, flowing, leafy, copying, head, heads, name-in, opened}
+use Rattle.rules.specs.TokenNodes.{TokenNode, flowing, leafy, copying, token-node, token-nodes, name-in, opened}
 use Rattle.rules.specs.Kept.{unheard, names-kept, fault}
 use Rattle.rules.specs.declared.Found.{Found}
 use Rattle.rules.specs.declared.Found.the-variants.{At, Nothing}
 use Rattle.rules.proofs.NamesPlaced.{names-placed}
 use Rattle.rules.proofs.NamesKept.{names-kept-iff}
 use Rattle.reader.specs.Accepted.{Accepted}
-use Rattle.reader.proofs.Told.{derived-heads}
+use Rattle.reader.proofs.Told.{derived-token-nodes}
 use Rattle.labels.specs.Stands.{Stands}
 use Rattle.labels.proofs.Labelled.{titled}
 
@@ -45,7 +45,7 @@ passed : (t : Bool) (x : Found) (k : ℕ) → cond t x (At k) ≡ Nothing → (t
 passed true x k h = (refl, h)
 passed false x k h = absurd (true≢false (ap found h))
 
-nodes-past : (before after : List Head) (h : Head) → fault names-kept before (h ∷ after) ≡ Nothing
+nodes-past : (before after : List TokenNode) (h : TokenNode) → fault names-kept before (h ∷ after) ≡ Nothing
     → (names-kept before h after ≡ true) × (fault names-kept (h ∷ before) after ≡ Nothing)
 unfolding fault
 nodes-past before after h f = passed (names-kept before h after) (fault names-kept (h ∷ before) after) (h .key) f
@@ -55,56 +55,56 @@ and-false : (x y : Bool) → y ≡ false → (x && y) ≡ false
 and-false true y h = h
 and-false false y h = refl
 
-still-heard : (m : Name) (before : List Head) (h : Head) → unheard m before ≡ false → unheard m (h ∷ before) ≡ false
+still-heard : (m : Name) (before : List TokenNode) (h : TokenNode) → unheard m before ≡ false → unheard m (h ∷ before) ≡ false
 still-heard m before h u = and-false (not ((flowing (h .code) || leafy (h .code)) && same m (h .name))) (unheard m before) u
 
 module _ (nm : ℕ → Name) where
   -- The first of some tokens, which begins a leaf or flow: its node has the name two tokens on.
-  own-heard : (p k c : ℕ) (cs : List ℕ) (before : List Head) → Titled c → unheard (nm (k + 2)) (head nm (suc p) k (c ∷ cs) ∷ before) ≡ false
-  unfolding head
+  own-heard : (p k c : ℕ) (cs : List ℕ) (before : List TokenNode) → Titled c → unheard (nm (k + 2)) (token-node nm (suc p) k (c ∷ cs) ∷ before) ≡ false
+  unfolding token-node
   own-heard p k c cs before t = rw (t, titled (flowing c) (leafy c) (copying c) t, same-decides (nm (k + 2)) (nm (k + 2)) .1 refl)
 
-  own-kept : (p k c : ℕ) (cs : List ℕ) (before after : List Head) → Titled c → names-kept before (head nm (suc p) k (c ∷ cs)) after ≡ true
+  own-kept : (p k c : ℕ) (cs : List ℕ) (before after : List TokenNode) → Titled c → names-kept before (token-node nm (suc p) k (c ∷ cs)) after ≡ true
       → unheard (nm (k + 2)) before ≡ true
-  unfolding head
+  unfolding token-node
   own-kept p k c cs before after t h = rw (t, titled (flowing c) (leafy c) (copying c) t) at h
 
   -- The nodes after a first token, where there is no fault.
-  first-past : (p k c : ℕ) (cs : List ℕ) (before : List Head) → keyed c ≡ true → fault names-kept before (heads nm p k (c ∷ cs)) ≡ Nothing
-      → (names-kept before (head nm (suc p) k (c ∷ cs)) (heads nm p (suc k) cs) ≡ true)
-      × (fault names-kept (head nm (suc p) k (c ∷ cs) ∷ before) (heads nm p (suc k) cs) ≡ Nothing)
-  unfolding heads
-  first-past p k c cs before e h = nodes-past before (heads nm p (suc k) cs) (head nm (suc p) k (c ∷ cs)) (rw e at h)
+  first-past : (p k c : ℕ) (cs : List ℕ) (before : List TokenNode) → keyed c ≡ true → fault names-kept before (token-nodes nm p k (c ∷ cs)) ≡ Nothing
+      → (names-kept before (token-node nm (suc p) k (c ∷ cs)) (token-nodes nm p (suc k) cs) ≡ true)
+      × (fault names-kept (token-node nm (suc p) k (c ∷ cs) ∷ before) (token-nodes nm p (suc k) cs) ≡ Nothing)
+  unfolding token-nodes
+  first-past p k c cs before e h = nodes-past before (token-nodes nm p (suc k) cs) (token-node nm (suc p) k (c ∷ cs)) (rw e at h)
 
-  none-past : (p k c : ℕ) (cs : List ℕ) (before : List Head) → keyed c ≡ false → fault names-kept before (heads nm p k (c ∷ cs)) ≡ Nothing
-      → fault names-kept before (heads nm (opened p c) (suc k) cs) ≡ Nothing
-  unfolding heads
+  none-past : (p k c : ℕ) (cs : List ℕ) (before : List TokenNode) → keyed c ≡ false → fault names-kept before (token-nodes nm p k (c ∷ cs)) ≡ Nothing
+      → fault names-kept before (token-nodes nm (opened p c) (suc k) cs) ≡ Nothing
+  unfolding token-nodes
   none-past p k c cs before e h = rw e at h
 
   -- A name that was heard is not that of a later leaf or flow, the one at the token j.
-  later : (m : Name) (before : List Head) (p k i j : ℕ) (cs : List ℕ) → unheard m before ≡ false → fault names-kept before (heads nm p k cs) ≡ Nothing
+  later : (m : Name) (before : List TokenNode) (p k i j : ℕ) (cs : List ℕ) → unheard m before ≡ false → fault names-kept before (token-nodes nm p k cs) ≡ Nothing
       → Titled (getD cs i 0) → j ≡ k + i → nm (j + 2) ≡ m → ⊥
   later m before p k i j [] u f t e q = false≢true t
   later m before p k zero j (c ∷ cs) u f t e q =
       let here : j ≡ k = omega arith in
-      let new = own-kept p k c cs before (heads nm p (suc k) cs) t (first-past p k c cs before (titled-keyed c t) f .0) in
+      let new = own-kept p k c cs before (token-nodes nm p (suc k) cs) t (first-past p k c cs before (titled-keyed c t) f .0) in
       let name : nm (k + 2) ≡ m = ap (λ (x : ℕ). nm (x + 2)) (sym here) ∙ q in
       false≢true (sym u ∙ (ap (λ (x : Name). unheard x before) (sym name) ∙ new))
   later m before p k (suc i) j (c ∷ cs) u f t e q =
       ⊎-elim
-      (λ y. later m (head nm (suc p) k (c ∷ cs) ∷ before) p (suc k) i j cs (still-heard m before (head nm (suc p) k (c ∷ cs)) u) (first-past p k c cs before y f .1) t (omega arith) q)
+      (λ y. later m (token-node nm (suc p) k (c ∷ cs) ∷ before) p (suc k) i j cs (still-heard m before (token-node nm (suc p) k (c ∷ cs)) u) (first-past p k c cs before y f .1) t (omega arith) q)
       (λ y. later m before (opened p c) (suc k) i j cs u (none-past p k c cs before y f) t (omega arith) q)
       (cases (keyed c))
 
   -- So is that of the first token.
-  first-later : (before : List Head) (p k i j c : ℕ) (cs : List ℕ) → fault names-kept before (heads nm p k (c ∷ cs)) ≡ Nothing → Titled c
+  first-later : (before : List TokenNode) (p k i j c : ℕ) (cs : List ℕ) → fault names-kept before (token-nodes nm p k (c ∷ cs)) ≡ Nothing → Titled c
       → Titled (getD cs i 0) → j ≡ suc k + i → nm (j + 2) ≡ nm (k + 2) → ⊥
   first-later before p k i j c cs f s t e q =
-      later (nm (k + 2)) (head nm (suc p) k (c ∷ cs) ∷ before) p (suc k) i j cs (own-heard p k c cs before s)
+      later (nm (k + 2)) (token-node nm (suc p) k (c ∷ cs) ∷ before) p (suc k) i j cs (own-heard p k c cs before s)
       (first-past p k c cs before (titled-keyed c s) f .1) t e q
 
   -- Two leaves or flows of one name are one.
-  once : (before : List Head) (p k i j x y : ℕ) (cs : List ℕ) → fault names-kept before (heads nm p k cs) ≡ Nothing → Titled (getD cs i 0)
+  once : (before : List TokenNode) (p k i j x y : ℕ) (cs : List ℕ) → fault names-kept before (token-nodes nm p k cs) ≡ Nothing → Titled (getD cs i 0)
       → Titled (getD cs j 0) → x ≡ k + i → y ≡ k + j → nm (x + 2) ≡ nm (y + 2) → x ≡ y
   once before p k i j x y [] f s t a b q = absurd (false≢true s)
   once before p k zero zero x y (c ∷ cs) f s t a b q = a ∙ sym b
@@ -116,7 +116,7 @@ module _ (nm : ℕ → Name) where
       absurd (first-later before p k i x c cs f t s (omega arith) (q ∙ ap (λ (z : ℕ). nm (z + 2)) here))
   once before p k (suc i) (suc j) x y (c ∷ cs) f s t a b q =
       ⊎-elim
-      (λ e. once (head nm (suc p) k (c ∷ cs) ∷ before) p (suc k) i j x y cs (first-past p k c cs before e f .1) s t (omega arith) (omega arith) q)
+      (λ e. once (token-node nm (suc p) k (c ∷ cs) ∷ before) p (suc k) i j x y cs (first-past p k c cs before e f .1) s t (omega arith) (omega arith) q)
       (λ e. once before (opened p c) (suc k) i j x y cs (none-past p k c cs before e f) s t (omega arith) (omega arith) q)
       (cases (keyed c))
 
@@ -124,8 +124,8 @@ pub one-place : (text : List ℕ) (d : Flow) → Accepted text d → (n : Name) 
 one-place text d a n p q s t =
     let i = s .keyword in
     let j = t .keyword in
-    let none : fault names-kept [] (heads (name-in text (places text)) 0 0 (codes text)) ≡ Nothing =
-    rw (derived-heads text d (a .derived)) (names-placed d ∙ names-kept-iff d .1 (a .keeps .names)) in
+    let none : fault names-kept [] (token-nodes (name-in text (places text)) 0 0 (codes text)) ≡ Nothing =
+    rw (derived-token-nodes text d (a .derived)) (names-placed d ∙ names-kept-iff d .1 (a .keeps .names)) in
     let name : name-in text (places text) (i + 2) ≡ name-in text (places text) (j + 2) =
     ap (word-at text) (sym (s .its-place)) ∙ (s .its-name ∙ (sym (t .its-name) ∙ ap (word-at text) (t .its-place))) in
     let one = once (name-in text (places text)) [] 0 0 i j i j (codes text) none (s .its-kind) (t .its-kind) (omega arith) (omega arith) name in

@@ -6,7 +6,7 @@ use Prim.Native.Nat.{ℕ, suc, _-_, _/_, _%_, _≤_, _<_}
 use native.Mathlib.Omega.{arith}
 use lib.ListN.{length}
 use borrow.Author.Tests.{le-leb, lt-leb, eq-eqb, ne-eqb}
-use Rattle.rules.specs.Heads.{Head}
+use Rattle.rules.specs.TokenNodes.{TokenNode}
 use Rattle.reader.specs.Nodes.{node-of}
 use Rattle.labels.specs.declared.Spot.{Spot}
 use Rattle.labels.specs.declared.Search.{Search}
@@ -18,7 +18,7 @@ use Rattle.labels.specs.Weights.{weight, with-weight, weigh}
 use Rattle.labels.specs.Seeks.{next, entered, inside, turn, onward, seek}
 use Rattle.labels.proofs.Deep.{Deep, done, deeper, Tree, tree}
 use Rattle.labels.proofs.Pushed.{packed-more}
-use Rattle.labels.proofs.Weighed.{head-row, first-weight, Joins}
+use Rattle.labels.proofs.Weighed.{token-node-row, first-weight, Joins}
 
 -- A search in a node of depth a, for the event after `rest` others, with the values so far.
 abbrev pub search : ℕ → ℕ → List ℕ → Search
@@ -71,59 +71,59 @@ unfolding seek
 seek-turn r rs s t e = rw e
 
 module _ (ps : List ℕ) where
-  abbrev rows-of : List Head → List Row
-  rows-of hs = map (head-row ps) hs
+  abbrev rows-of : List TokenNode → List Row
+  rows-of hs = map (token-node-row ps) hs
 
-  abbrev pub sought : List Head → Search → Spot
+  abbrev pub sought : List TokenNode → Search → Spot
   sought hs s = seek (weigh (rows-of hs)) s
 
   -- What is deeper than the parts of the node searched in is passed.
-  seek-below : (a rest : ℕ) (vs : List ℕ) {hs more : List Head} → Deep (suc (suc a)) hs more → sought hs (search a rest vs) ≡ sought more (search a rest vs)
-  unfolding weigh head-row node-of
+  seek-below : (a rest : ℕ) (vs : List ℕ) {hs more : List TokenNode} → Deep (suc (suc a)) hs more → sought hs (search a rest vs) ≡ sought more (search a rest vs)
+  unfolding weigh token-node-row node-of
   seek-below a rest vs done = refl
   seek-below a rest vs (deeper {h = h} {hs = hs} l p) =
       seek-turn _ (weigh (rows-of hs)) (search a rest vs) _ (turn-other _ _ (search a rest vs) (λ e. omega arith)) ∙ seek-below a rest vs p
 
   -- Past a part, with those below it.
-  pub seek-past : (a rest : ℕ) (vs : List ℕ) (w : ℕ) {hs more : List Head} → Tree (suc a) hs more → first-weight (rows-of hs) ≡ w → w ≤ rest
+  pub seek-past : (a rest : ℕ) (vs : List ℕ) (w : ℕ) {hs more : List TokenNode} → Tree (suc a) hs more → first-weight (rows-of hs) ≡ w → w ≤ rest
       → sought hs (search a rest vs) ≡ sought more (search a (rest - w) vs)
-  unfolding weigh head-row node-of
+  unfolding weigh token-node-row node-of
   seek-past a rest vs w (tree {h = h} {hs = hs} d p) e l =
       seek-turn _ (weigh (rows-of hs)) (search a rest vs) _ (turn-past _ _ (search a rest vs) d (omega arith))
       ∙ (rw e (seek-below a (rest - w) vs p))
 
   -- The event is one of this node's.
-  module _ (h : Head) (hs : List Head) (a rest : ℕ) (vs : List ℕ) (w : ℕ) (d : h .depth ≡ suc a) (e : first-weight (rows-of (h ∷ hs)) ≡ w) (l : rest < w) where
+  module _ (h : TokenNode) (hs : List TokenNode) (a rest : ℕ) (vs : List ℕ) (w : ℕ) (d : h .depth ≡ suc a) (e : first-weight (rows-of (h ∷ hs)) ≡ w) (l : rest < w) where
     abbrev first : Row
-    first = with-weight (head-row ps h) (weight (head-row ps h) (weigh (rows-of hs)))
+    first = with-weight (token-node-row ps h) (weight (token-node-row ps h) (weigh (rows-of hs)))
 
     abbrev second : Row
     second = next (weigh (rows-of hs))
 
     turned : (t : Step) → inside first second (search a rest vs) ≡ t → sought (h ∷ hs) (search a rest vs) ≡ onward t (λ u. sought hs u)
-    unfolding weigh head-row node-of
+    unfolding weigh token-node-row node-of
     turned t q = seek-turn first (weigh (rows-of hs)) (search a rest vs) t (turn-inside first second (search a rest vs) d (omega arith) ∙ q)
 
-    pub seek-leaf : head-row ps h .kind ≡ 0 → sought (h ∷ hs) (search a rest vs) ≡ record { reset = false; place = head-row ps h .place; values = packed vs }
+    pub seek-leaf : token-node-row ps h .kind ≡ 0 → sought (h ∷ hs) (search a rest vs) ≡ record { reset = false; place = token-node-row ps h .place; values = packed vs }
     seek-leaf k = turned _ (inside-leaf first second (search a rest vs) k)
 
-    pub seek-reset : head-row ps h .kind ≡ 1 → second .weight ≤ rest → sought (h ∷ hs) (search a rest vs) ≡ record { reset = true; place = second .place; values = packed vs }
+    pub seek-reset : token-node-row ps h .kind ≡ 1 → second .weight ≤ rest → sought (h ∷ hs) (search a rest vs) ≡ record { reset = true; place = second .place; values = packed vs }
     seek-reset k m = turned _ (inside-reset first second (search a rest vs) k m)
 
-    into : inside first second (search a rest vs) ≡ Go (entered (first .depth) (first .size) (second .weight) (search a rest vs)) → head-row ps h .size ≡ 0
+    into : inside first second (search a rest vs) ≡ Go (entered (first .depth) (first .size) (second .weight) (search a rest vs)) → token-node-row ps h .size ≡ 0
         → sought (h ∷ hs) (search a rest vs) ≡ sought hs (search (suc a) rest vs)
-    unfolding head-row node-of
+    unfolding token-node-row node-of
     into q z = turned _ q ∙ ap (sought hs) (entered-plain first second a rest vs d z)
 
-    pub seek-body : head-row ps h .kind ≡ 1 → rest < second .weight → head-row ps h .size ≡ 0 → sought (h ∷ hs) (search a rest vs) ≡ sought hs (search (suc a) rest vs)
+    pub seek-body : token-node-row ps h .kind ≡ 1 → rest < second .weight → token-node-row ps h .size ≡ 0 → sought (h ∷ hs) (search a rest vs) ≡ sought hs (search (suc a) rest vs)
     seek-body k m z = into (inside-body first second (search a rest vs) k m) z
 
-    pub seek-parts : Joins (head-row ps h) 0 → sought (h ∷ hs) (search a rest vs) ≡ sought hs (search (suc a) rest vs)
+    pub seek-parts : Joins (token-node-row ps h) 0 → sought (h ∷ hs) (search a rest vs) ≡ sought hs (search (suc a) rest vs)
     seek-parts j = into (inside-parts first second (search a rest vs) (record { parted = j .parted; sized = j .sized })) (j .sized)
 
-    pub seek-copy : {size : ℕ} → Joins (head-row ps h) size → 1 ≤ size → 1 ≤ second .weight → length vs < 3
+    pub seek-copy : {size : ℕ} → Joins (token-node-row ps h) size → 1 ≤ size → 1 ≤ second .weight → length vs < 3
         → sought (h ∷ hs) (search a rest vs) ≡ sought hs (search (suc a) (rest % second .weight) (vs ++ ((rest / second .weight) ∷ [])))
-    unfolding head-row node-of
+    unfolding token-node-row node-of
     seek-copy j s m n =
         let q = j .sized in
         turned _ (inside-parts first second (search a rest vs) (record { parted = j .parted; sized = j .sized }))

@@ -7,7 +7,7 @@ use lib.ListN.{getD}
 use Rattle.diagram.specs.Tree.{Name}
 use Rattle.lexer.specs.Words.{word-at}
 use Rattle.lexer.specs.Spans.{codes, places}
-use Rattle.rules.specs.Heads.{flowing, leafy}
+use Rattle.rules.specs.TokenNodes.{flowing, leafy}
 
 -- The token two after a keyword `leaf` or `flow`, the `(` being between them, begins at this place, and is this name.
 pub record Stands (text : List ℕ) (name : Name) (place : ℕ) : Type 0 where

@@ -9,7 +9,7 @@ use Rattle.grammar.specs.Printed.{printed}
 use Rattle.reader.specs.Answers.{read-of}
 use Rattle.reader.specs.declared.Answer.{Answer}
 use Rattle.reader.specs.declared.Answer.the-variants.{Done, Refused as Unread}
-use Rattle.reader.specs.declared.Out.{Out}
+use Rattle.reader.specs.declared.ReadResult.{ReadResult}
 use Rattle.printer.specs.Prints.{passed-on, print-answer, print-of, left-by}
 use Rattle.printer.specs.declared.Printed.{Printed}
 use Rattle.printer.specs.declared.Printed.the-variants.{Bytes, Refused}
@@ -30,8 +30,8 @@ pub short-answers : (text lent : List ℕ) → length lent < 16384 → Answers t
 unfolding print-of
 short-answers text lent h = rw (lt-ltb (length lent) 16384 h) (refl, refl)
 
-pub long-answers : (text lent out : List ℕ) (o : Out) (p : Printed) → 16384 ≤ length lent → o ≡ read-of text
+pub long-answers : (text lent out : List ℕ) (o : ReadResult) (p : Printed) → 16384 ≤ length lent → o ≡ read-of text
     → Answers text lent (print-answer text (o .answer)) out p → Answers text lent (print-of text lent) out p
 unfolding print-of
 long-answers text lent out o p h e k =
-    rw (le-ltb (length lent) 16384 h) (subst (λ (q : Out). Answers text lent (print-answer text (q .answer)) out p) e k)
+    rw (le-ltb (length lent) 16384 h) (subst (λ (q : ReadResult). Answers text lent (print-answer text (q .answer)) out p) e k)

@@ -20,7 +20,7 @@ use Rattle.reader.specs.Accepted.{Accepted}
 use Rattle.reader.specs.Bounds.{Bounded as Answered, result as read-result, refusal as read-refusal}
 use Rattle.reader.specs.declared.Answer.{Answer}
 use Rattle.reader.specs.declared.Answer.the-variants.{Done, Refused as Unread}
-use Rattle.reader.specs.declared.Out.{Out}
+use Rattle.reader.specs.declared.ReadResult.{ReadResult}
 use Rattle.reader.proofs.Bounds.{read-bounded}
 use Rattle.reader.proofs.Exact.{accepted-exactly, refused-exactly}
 use Rattle.printer.specs.Prints.{print-answer, print-of, left-by}
@@ -90,7 +90,7 @@ module _ (text lent : List ℕ) where
       by-reading h (read-result r) = written-result (r .tree) h (r .limits)
       by-reading h (read-refusal r) =
           refused-refusal (r .number) (r .place) (unread h (r .why)) (omega (arith, r .low)) (r .high) (r .near)
-          (long-enough text lent h (Unread (r .number) (r .place)) (ap (λ (o : Out). o .answer) (r .is)))
+          (long-enough text lent h (Unread (r .number) (r .place)) (ap (λ (o : ReadResult). o .answer) (r .is)))
 
       enough : ltb (length lent) 16384 ≡ false → Bounded text lent (print-of text lent) (left-by text lent (print-of text lent))
       enough q = by-reading (ltb-false (length lent) 16384 q) (read-bounded text)

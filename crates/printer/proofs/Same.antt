@@ -11,12 +11,12 @@ use Rattle.diagram.specs.Stored.{blank-node}
 use Rattle.diagram.specs.declared.Node.{Node}
 use Rattle.diagram.specs.declared.Diagram.{Diagram}
 use Rattle.lexer.specs.Spans.{places}
-use Rattle.rules.specs.Heads.{Head}
+use Rattle.rules.specs.TokenNodes.{TokenNode}
 use Rattle.grammar.specs.Printed.{printed}
 use Rattle.reader.specs.Nodes.{node-of, stored}
 use Rattle.reader.specs.Answers.{read-of}
 use Rattle.reader.specs.Accepted.{Accepted}
-use Rattle.reader.specs.declared.Out.{Out}
+use Rattle.reader.specs.declared.ReadResult.{ReadResult}
 use Rattle.reader.proofs.Exact.{accepted-read, accepted-exactly}
 use Rattle.reader.proofs.Shown.{accepted-shown}
 use Rattle.printer.specs.Prints.{left-by}
@@ -27,12 +27,12 @@ use Rattle.printer.proofs.Alike.{printed-shorter, printed-accepted, pri
 use Rattle.printer.proofs.Bounds.{accepted-prints}
 
 -- "Places aside": but for its places a node does not depend on the places of the tokens.
-nodes-unplaced : (ps qs : List ℕ) (hs : List Head) → map unplaced-node (map (node-of ps) hs) ≡ map unplaced-node (map (node-of qs) hs)
+nodes-unplaced : (ps qs : List ℕ) (hs : List TokenNode) → map unplaced-node (map (node-of ps) hs) ≡ map unplaced-node (map (node-of qs) hs)
 unfolding node-of
 nodes-unplaced ps qs [] = refl
 nodes-unplaced ps qs (h ∷ hs) = ap (λ (ns : List Node). unplaced-node (node-of ps h) ∷ ns) (nodes-unplaced ps qs hs)
 
-stored-unplaced : (ps qs : List ℕ) (hs : List Head) (x y : ℕ) → unplaced (stored ps hs x y) ≡ unplaced (stored qs hs x y)
+stored-unplaced : (ps qs : List ℕ) (hs : List TokenNode) (x y : ℕ) → unplaced (stored ps hs x y) ≡ unplaced (stored qs hs x y)
 unfolding unplaced stored
 stored-unplaced ps qs hs x y =
     rw (
@@ -72,8 +72,8 @@ only-places g h e p q =
 pub same-diagram : (s t : List ℕ) (d : Flow) → Accepted s d → Accepted t d → Same s (read-of s .diagram) t (read-of t .diagram)
 same-diagram s t d a b = record {
   nodes =
-      ap (λ (o : Out). unplaced (o .diagram)) (accepted-read s d a)
-      ∙ (stored-unplaced (places s) (places t) _ _ _ ∙ sym (ap (λ (o : Out). unplaced (o .diagram)) (accepted-read t d b)));
+      ap (λ (o : ReadResult). unplaced (o .diagram)) (accepted-read s d a)
+      ∙ (stored-unplaced (places s) (places t) _ _ _ ∙ sym (ap (λ (o : ReadResult). unplaced (o .diagram)) (accepted-read t d b)));
   names = accepted-shown s d a .nodes ∙ sym (accepted-shown t d b .nodes);
 }
 

@@ -8,7 +8,7 @@ use Rattle.base.specs.Reports.{result as told-result, refusal as told-refusal}
 use Rattle.diagram.specs.Tree.{Flow}
 use Rattle.grammar.specs.Printed.{printed}
 use Rattle.reader.specs.Accepted.{Accepted}
-use Rattle.reader.specs.Refused.{Turned}
+use Rattle.reader.specs.Refused.{RefusedAt}
 use Rattle.printer.specs.Reports.{report}
 use Rattle.printer.specs.declared.Printed.{Printed}
 
@@ -28,7 +28,7 @@ pub record Result (text lent : List ℕ) (p : Printed) (left : List ℕ) : Type 
 -- Number 1 at place 0, "printing lent under 16,384 bytes", before all others; then reading's, each by its own sentence.
 pub data Reason (text lent : List ℕ) (number place : ℕ) : Type 0 where
   short-sheet : length lent < 16384 → number ≡ 1 → place ≡ 0 → Reason text lent number place
-  unread : 16384 ≤ length lent → Turned text number place → Reason text lent number place
+  unread : 16384 ≤ length lent → RefusedAt text number place → Reason text lent number place
 
 -- One of the numbers 1 to 11, and every lent byte as it was.
 pub record Refusal (text lent : List ℕ) (p : Printed) (left : List ℕ) : Type 0 where

@@ -11,7 +11,7 @@ use Rattle.diagram.specs.declared.Node.{Node}
 use Rattle.diagram.specs.declared.Diagram.{Diagram}
 use Rattle.reader.specs.Answers.{read-of}
 use Rattle.reader.specs.Accepted.{Accepted}
-use Rattle.reader.specs.Views.{views, Shows}
+use Rattle.reader.specs.ShownNodes.{shown-nodes, Shows}
 use Rattle.reader.specs.declared.Answer.the-variants.{Done}
 use Rattle.printer.specs.Prints.{print-of, left-by}
 use Rattle.printer.specs.Reports.{report}
@@ -29,7 +29,7 @@ unplaced g = record { nodes = map unplaced-node (g .nodes); count = g .count; co
 -- Two texts have the same diagram, places aside: nodes and counts are equal but for the places, and so are the names that stand at those places.
 pub record Same (s : List ℕ) (g : Diagram) (t : List ℕ) (h : Diagram) : Type 0 where
   pub nodes : unplaced g ≡ unplaced h
-  pub names : views s g ≡ views t h
+  pub names : shown-nodes s g ≡ shown-nodes t h
 
 -- The bytes that an answer says were written: the front of those that the call left.
 abbrev pub written : Printed → List ℕ → List ℕ

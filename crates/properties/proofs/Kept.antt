@@ -10,15 +10,15 @@ use Rattle.table.specs.declared.Answer.{Answer}
 use Rattle.table.specs.declared.Finish.{Finish}
 use Rattle.table.specs.declared.Stepped.{Stepped}
 use Rattle.table.proofs.Promised as table
-use Rattle.update.specs.Updates.{answer-of, left-of}
-use Rattle.update.proofs.Promised as thin
+use Rattle.inplace.specs.Updates.{answer-of, left-of}
+use Rattle.inplace.proofs.Promised as thin
 use Rattle.firmware.specs.Calls.{check-number, step-number, step-bytes, finished-number, offer-number, offer-bytes}
 use Rattle.firmware.proofs.Promised as c
 use Rattle.translator.specs.Translates.{Translation}
 use Rattle.translator.specs.declared.Translated.{Translated}
 use Rattle.translator.proofs.Promised as translator
 use Rattle.reader.specs.Answers.{read-of}
-use Rattle.reader.specs.declared.Out.{Out}
+use Rattle.reader.specs.declared.ReadResult.{ReadResult}
 use Rattle.reader.proofs.Promised as reader
 use Rattle.printer.specs.Prints.{print-of, left-by}
 use Rattle.printer.specs.declared.Printed.{Printed}
@@ -66,7 +66,7 @@ translates-met text lent r left m =
     let p = translator.translate-promised (m .lifetimes) (m .args) (m .result) (m .exit) (m .promised) in
     rw (← x, ← y, ← q, ← k) p
 
-pub reads-met : (text : List ℕ) (o : Out) → Reads text o → o ≡ read-of text
+pub reads-met : (text : List ℕ) (o : ReadResult) → Reads text o → o ≡ read-of text
 reads-met text o m =
     let (x, q) = m .said in
     let p = reader.read-promised (m .lifetimes) (m .args) (m .result) (m .exit) (m .promised) in

@@ -38,7 +38,7 @@ updated t lent e a left m = let (x, y) = updates-met t lent e a left m in rw (x,
 
 pub property-1 : Property-1
 property-1 = record {
-  unasked = nothing-asked;
+  as-finish = nothing-asked;
   read = λ text o m. rw (reads-met text o m) (read-bounded text);
   print = λ text lent p left m. let (x, y) = prints-met text lent p left m in rw (x, y) (print-bounded text lent);
   translate = λ text lent r left m. translate-bounded text lent r left (translates-met text lent r left m);

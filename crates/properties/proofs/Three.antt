@@ -10,7 +10,7 @@ use Rattle.table.specs.Steps.{step-of, finished-of}
 use Rattle.table.specs.declared.Answer.{Answer}
 use Rattle.table.specs.declared.Finish.{Finish}
 use Rattle.table.specs.declared.Stepped.{Stepped}
-use Rattle.book.specs.Calls.{Call, step, finished, stepped, told, Line}
+use Rattle.book.specs.Calls.{Call, step, finished, stepped, reported, Line}
 use Rattle.book.specs.Plays.{play}
 use Rattle.book.proofs.Once.{admits-once}
 use Rattle.runs.specs.InC.{C-line, play-in-c}
@@ -22,13 +22,13 @@ use Rattle.properties.proofs.Kept.{steps-met, finishes-met, updates-met
 -- The line of one call, as `play` has it.
 abbrev line-of : List ℕ → Call → Record → Line
 line-of t (step e) before = record { reply = stepped (step-of t before e .answer); after = step-of t before e .after }
-line-of t finished before = record { reply = told (finished-of t before); after = before }
+line-of t finished before = record { reply = reported (finished-of t before); after = before }
 
 one-line : (t : List ℕ) (c : Call) (before : Record) (l : Line) → Makes t c before l → l ≡ line-of t c before
 one-line t (step e) before l (inl (r, m, q)) = q ∙ ap (λ (s : Stepped). record { reply = stepped (s .answer); after = s .after }) (steps-met t before e r m)
 one-line t (step e) before l (inr (a, r, m, q)) =
     let (x, y) = updates-met t before e a r m in q ∙ ap₂ (λ (a : Answer) (r : Record). record { reply = stepped a; after = r }) x y
-one-line t finished before l (f, m, q) = q ∙ ap (λ (f : Finish). record { reply = told f; after = before }) (finishes-met t before f m)
+one-line t finished before l (f, m, q) = q ∙ ap (λ (f : Finish). record { reply = reported f; after = before }) (finishes-met t before f m)
 
 -- A list of calls, whatever each of them answered and left.
 made-played : (t : List ℕ) (before : Record) (calls : List Call) (made : List Line) → Played (Makes t) (λ (l : Line). l .after) before calls made → made ≡ play t before calls

@@ -7,8 +7,8 @@ use Rattle.diagram.specs.Tree.{Flow}
 use Rattle.diagram.specs.declared.Diagram.{Diagram}
 use Rattle.reader.specs.Answers.{read-of}
 use Rattle.reader.specs.Accepted.{Accepted}
-use Rattle.reader.specs.Views.{Shows}
-use Rattle.reader.specs.declared.Out.{Out}
+use Rattle.reader.specs.ShownNodes.{Shows}
+use Rattle.reader.specs.declared.ReadResult.{ReadResult}
 use Rattle.reader.proofs.Exact as exact
 use Rattle.reader.proofs.Once.{accepted-shows-only}
 use Rattle.reader.proofs.Placed.{accepted-placed}
@@ -24,7 +24,7 @@ wrote-is : (text : List ℕ) (d : Flow) (p : Printed) (left : List ℕ) (k : Pri
 wrote-is text d p left k = let (x, y) = prints-met text (k .lent) p left (k .printing) in rw (x, y)
 
 again : (text : List ℕ) (d : Flow) (p : Printed) (left : List ℕ) → Printing text d p left
-    → (o q : Out) → Reads text o → Reads (written p left) q → Again text d p left o q
+    → (o q : ReadResult) → Reads text o → Reads (written p left) q → Again text d p left o q
 again text d p left k o q m n =
     let a = print-then-read text (k .lent) d (k .enough) (k .accepted) in
     let w = wrote-is text d p left k in

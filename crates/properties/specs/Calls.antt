@@ -8,7 +8,7 @@ use Rattle.record.specs.declared.Record.{Record}
 use Rattle.table.specs.declared.Answer.{Answer}
 use Rattle.table.specs.declared.Finish.{Finish}
 use Rattle.table.specs.declared.Stepped.{Stepped}
-use Rattle.reader.specs.declared.Out.{Out}
+use Rattle.reader.specs.declared.ReadResult.{ReadResult}
 use Rattle.printer.specs.declared.Printed.{Printed}
 use Rattle.translator.specs.declared.Translated.{Translated}
 use Rattle.events.specs.declared.Label.{Label}
@@ -22,7 +22,7 @@ use Rattle.table.proofs.check.Reads as check-reads
 use Rattle.table.proofs.step.Reads as step-reads
 use Rattle.table.proofs.finished.Reads as finished-reads
 use Rattle.table.proofs.offer.Reads as offer-reads
-use Rattle.update.proofs.Contract as thin
+use Rattle.inplace.proofs.Contract as thin
 use Rattle.firmware.proofs.adl_check.Reads as adl-check-reads
 use Rattle.firmware.proofs.adl_step.Reads as adl-step-reads
 use Rattle.firmware.proofs.adl_finished.Reads as adl-finished-reads
@@ -40,7 +40,7 @@ pub record Made {Lifetimes : Type 0} {Args Result Exit : Lifetimes → Type 0}
   pub promised : contract lifetimes args result exit
 
 -- `reader::read`, of a text: what it answers.
-abbrev pub Reads : List ℕ → Out → Type 0
+abbrev pub Reads : List ℕ → ReadResult → Type 0
 Reads text o = Made read-reads.Post (λ κs a r s. (a .0 .now ≡ text) × (r ≡ o))
 
 -- `printer::print`, of a text and a lent buffer: what it answers, and the buffer after it. So with `translator::translate`.
@@ -79,8 +79,8 @@ Offers t before lent answer left =
     Made offer-reads.Post
     (λ κs a r s. (a .0 .now ≡ t) × (a .1 .0 ≡ before) × (a .1 .1 .0 .now ≡ lent) × (r ≡ answer) × (s .1 .1 .0 .now ≡ left))
 
--- `update::step`, the thin call: a table, a lent record and an event number; what it answers, and the record after it. It is proved by hand, so what its `ensures`
--- says is read off by `update.proofs.Contract.Post`.
+-- `inplace::step`, the thin call: a table, a lent record and an event number; what it answers, and the record after it. It is proved by hand, so what its `ensures`
+-- says is read off by `inplace.proofs.Contract.Post`.
 abbrev pub Updates : List ℕ → Record → ℕ → Answer → Record → Type 0
 Updates t lent e answer left =
     Made thin.Post (λ κs a r s. (a .0 .now ≡ t) × (a .1 .0 .now ≡ lent) × (a .1 .1 .0 ≡ e) × (r ≡ answer) × (s .1 .0 .now ≡ left))

@@ -10,7 +10,7 @@ use Rattle.table.specs.declared.Finish.{Finish}
 use Rattle.table.specs.declared.Stepped.{Stepped}
 use Rattle.firmware.specs.Bounds.{Check-told, Step-told, Finish-told, Offer-told}
 use Rattle.reader.specs.Bounds as reader
-use Rattle.reader.specs.declared.Out.{Out}
+use Rattle.reader.specs.declared.ReadResult.{ReadResult}
 use Rattle.printer.specs.Bounds as printer
 use Rattle.printer.specs.declared.Printed.{Printed}
 use Rattle.translator.specs.Bounds as translator
@@ -29,7 +29,7 @@ use Rattle.table.proofs.check.Reads as check-reads
 use Rattle.table.proofs.step.Reads as step-reads
 use Rattle.table.proofs.finished.Reads as finished-reads
 use Rattle.table.proofs.offer.Reads as offer-reads
-use Rattle.update.proofs.Contract as thin
+use Rattle.inplace.proofs.Contract as thin
 use Rattle.firmware.proofs.adl_check.Reads as adl-check-reads
 use Rattle.firmware.proofs.adl_step.Reads as adl-step-reads
 use Rattle.firmware.proofs.adl_finished.Reads as adl-finished-reads
@@ -60,8 +60,8 @@ pub record Unasked : Type 0 where
 
 -- Each relation on the right gives the result, or the refusal by its own condition with every lent byte as it was, and admits one answer only.
 pub record Property-1 : Type 0 where
-  pub unasked : Unasked
-  pub read : (text : List ℕ) (o : Out) → Reads text o → reader.Bounded text o
+  pub as-finish : Unasked
+  pub read : (text : List ℕ) (o : ReadResult) → Reads text o → reader.Bounded text o
   pub print : (text lent : List ℕ) (p : Printed) (left : List ℕ) → Prints text lent p left → printer.Bounded text lent p left
   pub translate : (text lent : List ℕ) (r : Translated) (left : List ℕ) → Translates text lent r left → translator.Bounded text lent r left
   pub name : (text : RefT (List ℕ)) (e : ℕ) (part : RefT (List ℕ)) → Names text e part → Named text e part × Name-bounded text part

@@ -15,7 +15,7 @@ use Rattle.table.specs.declared.Stepped.{Stepped}
 use Rattle.reader.specs.Accepted.{Accepted}
 use Rattle.translator.specs.declared.Translated.{Translated}
 use Rattle.translator.specs.declared.Translated.the-variants.{Bytes}
-use Rattle.book.specs.Calls.{Call, step, finished, stepped, told, Line}
+use Rattle.book.specs.Calls.{Call, step, finished, stepped, reported, Line}
 use Rattle.book.specs.Book.{Admits}
 use Rattle.runs.specs.InC.{C-line, in-c}
 use Rattle.properties.specs.Calls.{Translates, Steps, Finishes, Updates, C-steps, C-finishes}
@@ -37,7 +37,7 @@ Stepped-in-place t e before l = (a : Answer) × (r : Record) × Updates t before
 -- "The calls are step, with any event number, and finished."
 abbrev pub Makes : List ℕ → Call → Record → Line → Type 0
 Makes t (step e) before l = Stepped-by-value t e before l ⊎ Stepped-in-place t e before l
-Makes t finished before l = (f : Finish) × Finishes t before f × (l ≡ record { reply = told f; after = before })
+Makes t finished before l = (f : Finish) × Finishes t before f × (l ≡ record { reply = reported f; after = before })
 
 -- The same through the C calls step and finished, on a record's bytes.
 abbrev pub C-makes : List ℕ → Call → List ℕ → C-line → Type 0

@@ -8,11 +8,11 @@ use lib.ListN.{length}
 use Rattle.base.specs.Reports.{result}
 use Rattle.diagram.specs.Tree.{Flow}
 use Rattle.reader.specs.Accepted.{Accepted}
-use Rattle.reader.specs.Refused.{Turned}
-use Rattle.reader.specs.Views.{Shows, Shows-only}
+use Rattle.reader.specs.Refused.{RefusedAt}
+use Rattle.reader.specs.ShownNodes.{Shows, Shows-only}
 use Rattle.reader.specs.Places.{Placed}
 use Rattle.reader.specs.declared.Answer.the-variants.{Done, Refused}
-use Rattle.reader.specs.declared.Out.{Out}
+use Rattle.reader.specs.declared.ReadResult.{ReadResult}
 use Rattle.printer.specs.Reports.{report}
 use Rattle.printer.specs.Same.{Same, written}
 use Rattle.printer.specs.declared.Printed.{Printed}
@@ -27,7 +27,7 @@ pub record Printing (text : List ℕ) (d : Flow) (p : Printed) (left : List ℕ)
 
 -- What was written, read again, is done, with the same diagram: the same nodes and counts, places aside, and the same names at those places; both show the one
 -- tree.
-pub record Again (text : List ℕ) (d : Flow) (p : Printed) (left : List ℕ) (o again : Out) : Type 0 where
+pub record Again (text : List ℕ) (d : Flow) (p : Printed) (left : List ℕ) (o again : ReadResult) : Type 0 where
   pub told : report p ≡ result (length (written p left) ∷ [])
   pub done : again .answer ≡ Done
   pub same : Same (written p left) (again .diagram) text (o .diagram)
@@ -35,16 +35,16 @@ pub record Again (text : List ℕ) (d : Flow) (p : Printed) (left : List ℕ) (o
   pub shows-again : Shows (written p left) d (again .diagram)
 
 pub record Property-2 : Type 0 where
-  pub accepted-exactly : (text : List ℕ) (o : Out) → Reads text o → (o .answer ≡ Done) ↔ ((d : Flow) × Accepted text d)
+  pub accepted-exactly : (text : List ℕ) (o : ReadResult) → Reads text o → (o .answer ≡ Done) ↔ ((d : Flow) × Accepted text d)
   -- and else it is turned away, by the sentence of one number
-  pub refused-exactly : (text : List ℕ) (o : Out) → Reads text o → (number place : ℕ) → (o .answer ≡ Refused number place) ↔ Turned text number place
+  pub refused-exactly : (text : List ℕ) (o : ReadResult) → Reads text o → (number place : ℕ) → (o .answer ≡ Refused number place) ↔ RefusedAt text number place
   -- with the places of its nodes in the text
-  pub the-one-derived : (text : List ℕ) (o : Out) → Reads text o → (d : Flow) → Accepted text d
+  pub the-one-derived : (text : List ℕ) (o : ReadResult) → Reads text o → (d : Flow) → Accepted text d
       → Shows-only text d (o .diagram) × Placed text d (o .diagram)
   pub read-again : (text : List ℕ) (d : Flow) (p : Printed) (left : List ℕ) → Printing text d p left
-      → (o again : Out) → Reads text o → Reads (written p left) again → Again text d p left o again
+      → (o again : ReadResult) → Reads text o → Reads (written p left) again → Again text d p left o again
   pub print-alike : (s t : List ℕ) (d e : Flow) (p q : Printed) (left other : List ℕ) → Printing s d p left → Printing t e q other
       → (written p left ≡ written q other) ↔ (d ≡ e)
   -- "their diagrams are equal", of what reading answered: the same, places aside, exactly if the trees are
-  pub same-exactly : (s t : List ℕ) (d e : Flow) (o q : Out) → Accepted s d → Accepted t e → Reads s o → Reads t q
+  pub same-exactly : (s t : List ℕ) (d e : Flow) (o q : ReadResult) → Accepted s d → Accepted t e → Reads s o → Reads t q
       → Same s (o .diagram) t (q .diagram) ↔ (d ≡ e)

@@ -18,14 +18,14 @@ use Rattle.lexer.proofs.Spans.{tokens-length, places-length, places-below}
 use Rattle.reader.specs.Accepted.{Accepted}
 use Rattle.reader.specs.Answers.{read-of}
 use Rattle.reader.specs.Reports.{report}
-use Rattle.reader.specs.Views.{Shows}
+use Rattle.reader.specs.ShownNodes.{Shows}
 use Rattle.reader.specs.declared.Answer.{Answer}
 use Rattle.reader.specs.declared.Answer.the-variants.{Done}
-use Rattle.reader.specs.declared.Out.{Out}
-use Rattle.reader.specs.Refused.{Derived, Turned, by-size, by-byte, by-word, by-token, by-limit, by-name, by-parameter, by-solid, by-strong, by-count}
+use Rattle.reader.specs.declared.ReadResult.{ReadResult}
+use Rattle.reader.specs.Refused.{Derived, RefusedAt, by-size, by-byte, by-word, by-token, by-limit, by-name, by-parameter, by-solid, by-strong, by-count}
 use Rattle.reader.specs.Bounds.{Bounded, result, refusal}
 use Rattle.reader.proofs.Laws.{same-inside}
-use Rattle.reader.proofs.Exact.{accepted-read, turned-read, Fate, taken, turned, fate}
+use Rattle.reader.proofs.Exact.{accepted-read, refused-at-read, Fate, taken, refused-at, fate}
 use Rattle.reader.proofs.Shown.{accepted-shown}
 use Rattle.reader.proofs.Placed.{accepted-placed, one-diagram}
 
@@ -54,20 +54,20 @@ near text c at n e l h k = record { low = omega arith; high = omega arith; close
 derived-near : (text : List ℕ) (d : Flow) (at k : ℕ) → Derived text d → at ≡ getD (places text) k 0 → at ≤ 16384
 derived-near text d at k g e = omega (arith, g .size, place-near text k 0 (omega arith))
 
-turned-near : (text : List ℕ) (c at : ℕ) → Turned text c at → Near text c at
-turned-near text c at (by-size e h) = near text c at 2 e (omega arith) (omega arith) (omega (arith, h .place))
-turned-near text c at (by-byte e h) = near text c at 3 e (omega arith) (omega arith) (omega (arith, h .inside, h .size))
-turned-near text c at (by-word e h) =
+refused-at-near : (text : List ℕ) (c at : ℕ) → RefusedAt text c at → Near text c at
+refused-at-near text c at (by-size e h) = near text c at 2 e (omega arith) (omega arith) (omega (arith, h .place))
+refused-at-near text c at (by-byte e h) = near text c at 3 e (omega arith) (omega arith) (omega (arith, h .inside, h .size))
+refused-at-near text c at (by-word e h) =
     near text c at 4 e (omega arith) (omega arith) (omega (arith, h .place, h .size, place-near text (h .token) 0 (omega arith)))
-turned-near text c at (by-token e h) =
+refused-at-near text c at (by-token e h) =
     near text c at 5 e (omega arith) (omega arith) (omega (arith, h .place, h .clean .size, place-near text (h .token) (length text) (omega arith)))
-turned-near text c at (by-limit e h) =
+refused-at-near text c at (by-limit e h) =
     near text c at 6 e (omega arith) (omega arith) (omega (arith, h .place, h .clean .size, place-near text (h .token) (length text) (omega arith)))
-turned-near text c at (by-name e d h) = near text c at 7 e (omega arith) (omega arith) (derived-near text d at (h .token + 2) (h .derived) (h .place))
-turned-near text c at (by-parameter e d h) = near text c at 8 e (omega arith) (omega arith) (derived-near text d at (h .token) (h .derived) (h .place))
-turned-near text c at (by-solid e d h) = near text c at 9 e (omega arith) (omega arith) (derived-near text d at (h .token) (h .derived) (h .place))
-turned-near text c at (by-strong e d h) = near text c at 10 e (omega arith) (omega arith) (derived-near text d at (h .token) (h .derived) (h .place))
-turned-near text c at (by-count e d h) = near text c at 11 e (omega arith) (omega arith) (omega (arith, h .place))
+refused-at-near text c at (by-name e d h) = near text c at 7 e (omega arith) (omega arith) (derived-near text d at (h .token + 2) (h .derived) (h .place))
+refused-at-near text c at (by-parameter e d h) = near text c at 8 e (omega arith) (omega arith) (derived-near text d at (h .token) (h .derived) (h .place))
+refused-at-near text c at (by-solid e d h) = near text c at 9 e (omega arith) (omega arith) (derived-near text d at (h .token) (h .derived) (h .place))
+refused-at-near text c at (by-strong e d h) = near text c at 10 e (omega arith) (omega arith) (derived-near text d at (h .token) (h .derived) (h .place))
+refused-at-near text c at (by-count e d h) = near text c at 11 e (omega arith) (omega arith) (omega (arith, h .place))
 
 -- "Every answer is a result within the limits or one numbered refusal with its place."
 pub read-bounded : (text : List ℕ) → Bounded text (read-of text)
@@ -81,7 +81,7 @@ read-bounded text = go (fate text)
     go (taken d a) =
         let e = accepted-read text d a in
         let s = accepted-shown text d a in
-        let done = ap (λ (o : Out). o .answer) e in
+        let done = ap (λ (o : ReadResult). o .answer) e in
         result
         record {
           tree = d;
@@ -91,17 +91,17 @@ read-bounded text = go (fate text)
           shown = s;
           placed = accepted-placed text d a;
         }
-    go (turned c at t) =
-        let n = turned-near text c at t in
-        let e = turned-read text c at t in
+    go (refused-at c at t) =
+        let n = refused-at-near text c at t in
+        let e = refused-at-read text c at t in
         refusal record { number = c; place = at; why = t; told = ap report e; is = e; low = n .low; high = n .high; near = n .close }
 
 -- And there is no other: the text alone says whether it is read, with which diagram, and else the number and the place.
-pub one-answer : (text : List ℕ) (o : Out) → Bounded text o → o ≡ read-of text
+pub one-answer : (text : List ℕ) (o : ReadResult) → Bounded text o → o ≡ read-of text
 one-answer text o (result r) =
     let d = r .tree in
     let a = r .limits in
     ap₂ (λ (a : Answer) (g : Diagram). record { answer = a; diagram = g })
-    (r .done ∙ sym (ap (λ (o : Out). o .answer) (accepted-read text d a)))
+    (r .done ∙ sym (ap (λ (o : ReadResult). o .answer) (accepted-read text d a)))
     (one-diagram text d (o .diagram) (read-of text .diagram) (r .shown) (r .placed) (accepted-shown text d a) (accepted-placed text d a))
-one-answer text o (refusal r) = r .is ∙ sym (turned-read text (r .number) (r .place) (r .why))
+one-answer text o (refusal r) = r .is ∙ sym (refused-at-read text (r .number) (r .place) (r .why))

@@ -27,12 +27,12 @@ use Rattle.grammar.proofs.Lexed.{text-tokens}
 use Rattle.grammar.proofs.Grammar.{Answered, read, strayed, outgrown, answered, off-viable, off-token, off-end, off-only, big-viable, shorter, derived-once}
 use Rattle.grammar.proofs.LimitedFrom.{over-limit-begun}
 use Rattle.grammar.proofs.Limited.{big-over-limit, off-none-big, whole-none-big}
-use Rattle.rules.specs.Sites.{flow-sites, too-big}
+use Rattle.rules.specs.PlacedNodes.{flow-placed-nodes, too-big}
 use Rattle.rules.specs.declared.Found.{Found}
 use Rattle.rules.specs.declared.Found.the-variants.{At, Nothing}
 use Rattle.rules.specs.declared.Verdict.{Verdict}
 use Rattle.rules.specs.declared.Verdict.the-variants.{Kept, Refused as Unkept}
-use Rattle.rules.proofs.Trees.{flow-heads}
+use Rattle.rules.proofs.Trees.{flow-token-nodes}
 use Rattle.rules.proofs.LimitsPlaced.{limits-placed}
 use Rattle.rules.proofs.NamesKept.{names-kept-iff}
 use Rattle.rules.proofs.ParametersKept.{parameters-kept-iff}
@@ -41,21 +41,21 @@ use Rattle.rules.proofs.StrongsKept.{strongs-kept-iff}
 use Rattle.reader.specs.Nodes.{stored}
 use Rattle.reader.specs.Answers.{refused, place-of, judged, scanned, read-of}
 use Rattle.reader.specs.Accepted.{Accepted}
-use Rattle.reader.specs.Refused.{Clean, Off, Big, Derived, Turned, by-size, by-byte, by-word, by-token, by-limit, by-name, by-parameter, by-solid, by-strong, by-count}
+use Rattle.reader.specs.Refused.{Clean, Off, Big, Derived, RefusedAt, by-size, by-byte, by-word, by-token, by-limit, by-name, by-parameter, by-solid, by-strong, by-count}
 use Rattle.reader.specs.declared.Answer.{Answer}
 use Rattle.reader.specs.declared.Answer.the-variants.{Done, Refused}
-use Rattle.reader.specs.declared.Out.{Out}
-use Rattle.reader.proofs.Scans.{scan-turned, scan-clean, long-scan, foreign-scan, wordy-scan, clean-scan}
+use Rattle.reader.specs.declared.ReadResult.{ReadResult}
+use Rattle.reader.proofs.Scans.{scan-refused-at, scan-clean, long-scan, foreign-scan, wordy-scan, clean-scan}
 use Rattle.reader.proofs.Verdicts.{twice, misplaced, unsolid, weak, tree-verdict, counted-few, counted-many, few-or-many}
 use Rattle.reader.proofs.Told.{whole-derived, derived-answer}
 
 -- What reading a derived text answers, by the rules' verdict.
-abbrev done : List ℕ → Flow → Out
-done text d = record { answer = Done; diagram = stored (places text) (flow-heads d false 1 0 []) (flow-copies d) (flow-events d) }
+abbrev done : List ℕ → Flow → ReadResult
+done text d = record { answer = Done; diagram = stored (places text) (flow-token-nodes d false 1 0 []) (flow-copies d) (flow-events d) }
 
 by-verdict : (text : List ℕ) (d : Flow) (v : Verdict) → Derived text d → tree-verdict (places text) d ≡ v
-    → read-of text ≡ judged (places text) (flow-heads d false 1 0 []) v
-by-verdict text d v g e = derived-answer text d g ∙ ap (judged (places text) (flow-heads d false 1 0 [])) e
+    → read-of text ≡ judged (places text) (flow-token-nodes d false 1 0 []) v
+by-verdict text d v g e = derived-answer text d g ∙ ap (judged (places text) (flow-token-nodes d false 1 0 [])) e
 
 -- The texts that are read.
 accepted-derived : (text : List ℕ) (d : Flow) → Accepted text d → Derived text d
@@ -82,7 +82,7 @@ stopped text c k h e = scanned-as text (Tokens (length (spans-of text))) (clean-
 
 -- Number 6 by the tokens and on a tree that derives the tokens before t with some rest.
 limits-alike : (ts rest : List Name) (d : Flow) (t j : ℕ) → Derives (take t ts ++ rest) d → t ≤ length ts → j < t
-    → over-limit (map code ts) j ≡ too-big 0 (flow-sites d [] 1 0 []) j
+    → over-limit (map code ts) j ≡ too-big 0 (flow-placed-nodes d [] 1 0 []) j
 limits-alike ts rest d t j g h l =
     over-limit-begun ts rest t j h l ∙ (ap (λ (us : List Name). over-limit (map code us) j) (g .told) ∙ limits-placed d (g .proper) j)
 
@@ -108,7 +108,7 @@ big-stops text at b = go (answered ts tk)
     cs : List ℕ
     cs = map code (tokens text)
 
-    alike : (j : ℕ) → j < suc (b .token) → over-limit cs j ≡ too-big 0 (flow-sites (b .tree) [] 1 0 []) j
+    alike : (j : ℕ) → j < suc (b .token) → over-limit cs j ≡ too-big 0 (flow-placed-nodes (b .tree) [] 1 0 []) j
     alike j l = limits-alike ts (b .rest) (b .tree) (suc (b .token)) j (b .viable) (b .inside) l
 
     clash : {A : Type 0} → over-limit cs (b .token) ≡ false → A
@@ -135,29 +135,29 @@ big-stops text at b = go (answered ts tk)
 numbered : (text : List ℕ) {c at : ℕ} (n p : ℕ) → c ≡ n → at ≡ p → read-of text ≡ refused n p → read-of text ≡ refused c at
 numbered text n p e q r = rw (e, q) r
 
-pub turned-read : (text : List ℕ) (c at : ℕ) → Turned text c at → read-of text ≡ refused c at
-turned-read text c at (by-size e h) = numbered text 2 at e refl (scanned-as text (Unscanned 2 at) (long-scan text at h))
-turned-read text c at (by-byte e h) = numbered text 3 at e refl (scanned-as text (Unscanned 3 at) (foreign-scan text at h))
-turned-read text c at (by-word e h) = numbered text 4 at e refl (scanned-as text (Unscanned 4 at) (wordy-scan text at h))
-turned-read text c at (by-token e h) =
+pub refused-at-read : (text : List ℕ) (c at : ℕ) → RefusedAt text c at → read-of text ≡ refused c at
+refused-at-read text c at (by-size e h) = numbered text 2 at e refl (scanned-as text (Unscanned 2 at) (long-scan text at h))
+refused-at-read text c at (by-byte e h) = numbered text 3 at e refl (scanned-as text (Unscanned 3 at) (foreign-scan text at h))
+refused-at-read text c at (by-word e h) = numbered text 4 at e refl (scanned-as text (Unscanned 4 at) (wordy-scan text at h))
+refused-at-read text c at (by-token e h) =
     numbered text 5 (place-of text (places text) (h .token)) e (h .place) (stopped text 5 (h .token) (h .clean) (off-stops text at h))
-turned-read text c at (by-limit e h) =
+refused-at-read text c at (by-limit e h) =
     numbered text 6 (place-of text (places text) (h .token)) e (h .place) (stopped text 6 (h .token) (h .clean) (big-stops text at h))
-turned-read text c at (by-name e d h) =
+refused-at-read text c at (by-name e d h) =
     numbered text 7 (getD (places text) (h .token + 2) 0) e (h .place)
     (by-verdict text d (Unkept 7 (getD (places text) (h .token + 2) 0)) (h .derived) (rw (h .here)))
-turned-read text c at (by-parameter e d h) =
+refused-at-read text c at (by-parameter e d h) =
     numbered text 8 (getD (places text) (h .token) 0) e (h .place)
     (by-verdict text d (Unkept 8 (getD (places text) (h .token) 0)) (h .derived) (rw (names-kept-iff d .1 (h .names), h .here, add-zero (h .token))))
-turned-read text c at (by-solid e d h) =
+refused-at-read text c at (by-solid e d h) =
     numbered text 9 (getD (places text) (h .token) 0) e (h .place)
     (by-verdict text d (Unkept 9 (getD (places text) (h .token) 0)) (h .derived)
     (rw (names-kept-iff d .1 (h .names), parameters-kept-iff d .1 (h .parameters), h .here, add-zero (h .token))))
-turned-read text c at (by-strong e d h) =
+refused-at-read text c at (by-strong e d h) =
     numbered text 10 (getD (places text) (h .token) 0) e (h .place)
     (by-verdict text d (Unkept 10 (getD (places text) (h .token) 0)) (h .derived)
     (rw (names-kept-iff d .1 (h .names), parameters-kept-iff d .1 (h .parameters), solids-kept-iff d .1 (h .solids), h .here, add-zero (h .token))))
-turned-read text c at (by-count e d h) =
+refused-at-read text c at (by-count e d h) =
     numbered text 11 0 e (h .place)
     (by-verdict text d (Unkept 11 0) (h .derived)
     (rw (
@@ -171,7 +171,7 @@ turned-read text c at (by-count e d h) =
 -- Every text is read with a diagram, or turned away with one number and place.
 pub data Fate (text : List ℕ) : Type 0 where
   taken : (d : Flow) → Accepted text d → Fate text
-  turned : (c at : ℕ) → Turned text c at → Fate text
+  refused-at : (c at : ℕ) → RefusedAt text c at → Fate text
 
 -- The rules, one after the other, where a diagram within the limits derives the text.
 derived-fate : (text : List ℕ) (d : Flow) → Derived text d → Fate text
@@ -193,23 +193,23 @@ derived-fate text d g = names (twice d) refl
           copies = q .0;
           events = q .1;
         }
-    counts a b c e (inr q) = turned 11 0 (by-count refl d record { derived = g; names = a; parameters = b; solids = c; strongs = e; over = q; place = refl })
+    counts a b c e (inr q) = refused-at 11 0 (by-count refl d record { derived = g; names = a; parameters = b; solids = c; strongs = e; over = q; place = refl })
 
     strongs : differ (flow-names d []) ≡ true → flow-parameters d [] ≡ true → each-flow d solid ≡ true → (f : Found) → weak d ≡ f → Fate text
     strongs a b c (At k) e =
-        turned 10 (getD ps k 0) (by-strong refl d record { derived = g; names = a; parameters = b; solids = c; token = k; here = e; place = refl })
+        refused-at 10 (getD ps k 0) (by-strong refl d record { derived = g; names = a; parameters = b; solids = c; token = k; here = e; place = refl })
     strongs a b c Nothing e = counts a b c (strongs-kept-iff d .0 e) (few-or-many (flow-copies d) (flow-events d))
 
     solids : differ (flow-names d []) ≡ true → flow-parameters d [] ≡ true → (f : Found) → unsolid d ≡ f → Fate text
-    solids a b (At k) e = turned 9 (getD ps k 0) (by-solid refl d record { derived = g; names = a; parameters = b; token = k; here = e; place = refl })
+    solids a b (At k) e = refused-at 9 (getD ps k 0) (by-solid refl d record { derived = g; names = a; parameters = b; token = k; here = e; place = refl })
     solids a b Nothing e = strongs a b (solids-kept-iff d .0 e) (weak d) refl
 
     parameters : differ (flow-names d []) ≡ true → (f : Found) → misplaced d ≡ f → Fate text
-    parameters a (At k) e = turned 8 (getD ps k 0) (by-parameter refl d record { derived = g; names = a; token = k; here = e; place = refl })
+    parameters a (At k) e = refused-at 8 (getD ps k 0) (by-parameter refl d record { derived = g; names = a; token = k; here = e; place = refl })
     parameters a Nothing e = solids a (parameters-kept-iff d .0 e) (unsolid d) refl
 
     names : (f : Found) → twice d ≡ f → Fate text
-    names (At k) e = turned 7 (getD ps (k + 2) 0) (by-name refl d record { derived = g; token = k; here = e; place = refl })
+    names (At k) e = refused-at 7 (getD ps (k + 2) 0) (by-name refl d record { derived = g; token = k; here = e; place = refl })
     names Nothing e = parameters (names-kept-iff d .0 e) (misplaced d) refl
 
 clean-fate : (text : List ℕ) → Clean text → Fate text
@@ -220,7 +220,7 @@ clean-fate text h = go (answered (tokens text) (text-tokens text))
     go (read n e) = let r = whole-derived text n (h .size) e in derived-fate text (r .0) (r .1)
     go (strayed k e) =
         let v = off-viable (tokens text) (text-tokens text) k e in
-        turned 5 (place-of text (places text) k)
+        refused-at 5 (place-of text (places text) k)
         (by-token refl
         record {
           clean = h;
@@ -238,9 +238,9 @@ clean-fate text h = go (answered (tokens text) (text-tokens text))
     go (outgrown k e) =
         let v = big-viable (tokens text) (text-tokens text) k e in
         let b = big-over-limit (map code (tokens text)) k e in
-        let alike : (j : ℕ) → j < suc k → too-big 0 (flow-sites (v .1 .0) [] 1 0 []) j ≡ over-limit (map code (tokens text)) j =
+        let alike : (j : ℕ) → j < suc k → too-big 0 (flow-placed-nodes (v .1 .0) [] 1 0 []) j ≡ over-limit (map code (tokens text)) j =
         λ j l. sym (limits-alike (tokens text) (v .1 .1) (v .1 .0) (suc k) j (v .1 .2) (v .0) l) in
-        turned 6 (place-of text (places text) k)
+        refused-at 6 (place-of text (places text) k)
         (by-limit refl
         record {
           clean = h;
@@ -260,35 +260,35 @@ fate text = go (scan-of text) refl
     go : (s : Scan) → scan-of text ≡ s → Fate text
     go (Tokens n) e = clean-fate text (scan-clean text n e)
     go (Unscanned c at) e =
-        ⊎-elim (λ r. turned c at (by-size (r .0) (r .1)))
-        (λ q. ⊎-elim (λ r. turned c at (by-byte (r .0) (r .1))) (λ r. turned c at (by-word (r .0) (r .1))) q)
-        (scan-turned text c at e)
+        ⊎-elim (λ r. refused-at c at (by-size (r .0) (r .1)))
+        (λ q. ⊎-elim (λ r. refused-at c at (by-byte (r .0) (r .1))) (λ r. refused-at c at (by-word (r .0) (r .1))) q)
+        (scan-refused-at text c at e)
 
 pub done-refused : {A : Type 0} {c at : ℕ} → _≡_ {A = Answer} Done (Refused c at) → A
 done-refused e = let z : _≡_ {A = ℕ} 0 1 = cc in let y : ⊥ = omega arith in absurd y
 
-answer-of : (text : List ℕ) {o : Out} {a : Answer} → read-of text ≡ o → read-of text .answer ≡ a → o .answer ≡ a
-answer-of text e q = sym (ap (λ (o : Out). o .answer) e) ∙ q
+answer-of : (text : List ℕ) {o : ReadResult} {a : Answer} → read-of text ≡ o → read-of text .answer ≡ a → o .answer ≡ a
+answer-of text e q = sym (ap (λ (o : ReadResult). o .answer) e) ∙ q
 
 -- "A text is accepted exactly if the grammar with its rules and limits derives it."
 pub accepted-exactly : (text : List ℕ) → (read-of text .answer ≡ Done) ↔ ((d : Flow) × Accepted text d)
-accepted-exactly text = (λ e. go (fate text) e, λ a. ap (λ (o : Out). o .answer) (accepted-read text (a .0) (a .1)))
+accepted-exactly text = (λ e. go (fate text) e, λ a. ap (λ (o : ReadResult). o .answer) (accepted-read text (a .0) (a .1)))
   where
     go : Fate text → read-of text .answer ≡ Done → (d : Flow) × Accepted text d
     go (taken d a) e = (d, a)
-    go (turned c at t) e = done-refused (sym (answer-of text (turned-read text c at t) e))
+    go (refused-at c at t) e = done-refused (sym (answer-of text (refused-at-read text c at t) e))
 
 -- A text is turned away with a number and a place exactly by the sentence of that number.
-pub refused-exactly : (text : List ℕ) (c at : ℕ) → (read-of text .answer ≡ Refused c at) ↔ Turned text c at
-refused-exactly text c at = (λ e. go (fate text) e, λ t. ap (λ (o : Out). o .answer) (turned-read text c at t))
+pub refused-exactly : (text : List ℕ) (c at : ℕ) → (read-of text .answer ≡ Refused c at) ↔ RefusedAt text c at
+refused-exactly text c at = (λ e. go (fate text) e, λ t. ap (λ (o : ReadResult). o .answer) (refused-at-read text c at t))
   where
-    go : Fate text → read-of text .answer ≡ Refused c at → Turned text c at
+    go : Fate text → read-of text .answer ≡ Refused c at → RefusedAt text c at
     go (taken d a) e = done-refused (answer-of text (accepted-read text d a) e)
-    go (turned b p t) e =
-        let q : Refused b p ≡ Refused c at = answer-of text (turned-read text b p t) e in
+    go (refused-at b p t) e =
+        let q : Refused b p ≡ Refused c at = answer-of text (refused-at-read text b p t) e in
         let x : b ≡ c = cc in
         let y : p ≡ at = cc in
-        subst (λ (n : ℕ). Turned text n at) x (subst (λ (n : ℕ). Turned text b n) y t)
+        subst (λ (n : ℕ). RefusedAt text n at) x (subst (λ (n : ℕ). RefusedAt text b n) y t)
 
 -- "its diagram is the one derived": there is no other.
 pub accepted-once : (text : List ℕ) (d e : Flow) → Accepted text d → Accepted text e → d ≡ e

@@ -11,7 +11,7 @@ use lib.Seq.{getD-drop}
 use borrow.Author.Tests.{eq-eqb, ne-eqb}
 use Rattle.diagram.specs.Tree.{Name}
 use Rattle.diagram.specs.declared.Kind.{Kind}
-use Rattle.rules.specs.Heads.{copying, solid-of, strong-of, head}
+use Rattle.rules.specs.TokenNodes.{copying, solid-of, strong-of, token-node}
 use Rattle.reader.specs.Nodes.{kind-of, size-of, strong-flow, name-place, node-of}
 
 pub name-either : (c : ℕ) (ps : List ℕ) (key : ℕ) → (eqb c 7 || eqb c 8) ≡ true → name-place c ps key ≡ getD ps (key + 2) 0
@@ -78,8 +78,8 @@ name-none cs ps key c a b e q t h u = sym (name-later cs ps key c a b e q t h �
 -- A node by its parts.
 pub node-made : (cs ps : List ℕ) (nm : ℕ → Name) (d key c s at n : ℕ) (k : Kind) (b w : Bool) → c ≡ getD cs (key + 0) 0 → s ≡ size-of (drop key cs) → k ≡ kind-of c s
     → b ≡ solid-of (drop key cs) → w ≡ strong-flow (drop key cs) → at ≡ getD ps (key + 0) 0 → n ≡ name-place (getD (drop key cs) 0 0) ps key
-    → record { kind = k; solid = b; strong = w; depth = d; at = at; name = n } ≡ node-of ps (head nm d key (drop key cs))
-unfolding node-of head size-of strong-flow
+    → record { kind = k; solid = b; strong = w; depth = d; at = at; name = n } ≡ node-of ps (token-node nm d key (drop key cs))
+unfolding node-of token-node size-of strong-flow
 node-made cs ps nm d key c s at n k b w e f g h v i j = rw (g, f, e, h, v, i, j, getD-drop key cs 0 0, add-zero key)
 
 -- A token's place, and the text's length past the last.

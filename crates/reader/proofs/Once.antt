@@ -17,25 +17,25 @@ use Rattle.diagram.proofs.Equal.{all-same-decides}
 use Rattle.base.proofs.Truth.{and-l, and-r}
 use Rattle.reader.specs.Answers.{read-of}
 use Rattle.reader.specs.Accepted.{Accepted}
-use Rattle.reader.specs.Views.{View, Shows, Shows-only, shown, group-kind, replicator-kind, flow-views, children-views, child-views, member-views, members-views}
+use Rattle.reader.specs.ShownNodes.{ShownNode, Shows, Shows-only, shown, group-kind, replicator-kind, flow-shown-nodes, children-shown-nodes, child-shown-nodes, member-shown-nodes, members-shown-nodes}
 use Rattle.reader.proofs.Shown.{accepted-shown}
 
 -- Lists of nodes that are equal and not empty: their first nodes are shown alike, and the rest is equal.
-record Alike (k l : Kind) (b x s t : Bool) (n m : Name) (vs ws : List View) : Type 0 where
+record Alike (k l : Kind) (b x s t : Bool) (n m : Name) (vs ws : List ShownNode) : Type 0 where
   kind : k ≡ l
   solid : b ≡ x
   strong : s ≡ t
   name : n ≡ m
   rest : vs ≡ ws
 
-alike : (k l : Kind) (b x s t : Bool) (d : ℕ) (n m : Name) (vs ws : List View) → shown k b s d n ∷ vs ≡ shown l x t d m ∷ ws → Alike k l b x s t n m vs ws
+alike : (k l : Kind) (b x s t : Bool) (d : ℕ) (n m : Name) (vs ws : List ShownNode) → shown k b s d n ∷ vs ≡ shown l x t d m ∷ ws → Alike k l b x s t n m vs ws
 alike k l b x s t d n m vs ws e =
     let h = head-eq-of-cons-eq e in
     record {
-      kind = ap (λ (v : View). v .kind) h;
-      solid = ap (λ (v : View). v .solid) h;
-      strong = ap (λ (v : View). v .strong) h;
-      name = ap (λ (v : View). v .name) h;
+      kind = ap (λ (v : ShownNode). v .kind) h;
+      solid = ap (λ (v : ShownNode). v .solid) h;
+      strong = ap (λ (v : ShownNode). v .strong) h;
+      name = ap (λ (v : ShownNode). v .name) h;
       rest = tail-eq-of-cons-eq e;
     }
 
@@ -104,12 +104,12 @@ form (group y a b ms) = 1
 form (replicator y par size m) = 2
 form (loop m) = 3
 
-abbrev first-form : List View → ℕ
+abbrev first-form : List ShownNode → ℕ
 first-form [] = 0
 first-form (v ∷ vs) = form-in (v .kind)
 
-form-shown : (c : Child) (b : Bool) (k : ℕ) (vs : List View) → first-form (child-views c b k vs) ≡ form c
-unfolding flow-views
+form-shown : (c : Child) (b : Bool) (k : ℕ) (vs : List ShownNode) → first-form (child-shown-nodes c b k vs) ≡ form c
+unfolding flow-shown-nodes
 form-shown (plain (leaf n)) b k vs = refl
 form-shown (plain (inner (flow n ps sw c r cs))) b k vs = refl
 form-shown (loop m) b k vs = refl
@@ -120,41 +120,41 @@ form-shown (replicator all par size m) b k vs = refl
 form-shown (replicator some par size m) b k vs = refl
 form-shown (replicator one par size m) b k vs = refl
 
-apart : {A : Type 0} (c e : Child) (b x : Bool) (k : ℕ) (vs ws : List View) → child-views c b k vs ≡ child-views e x k ws → (form c ≡ form e → ⊥) → A
+apart : {A : Type 0} (c e : Child) (b x : Bool) (k : ℕ) (vs ws : List ShownNode) → child-shown-nodes c b k vs ≡ child-shown-nodes e x k ws → (form c ≡ form e → ⊥) → A
 apart c e b x k vs ws q f = absurd (f (sym (form-shown c b k vs) ∙ (ap first-form q ∙ form-shown e x k ws)))
 
 -- The list is empty, or its first node's depth is at most k.
-abbrev low : ℕ → List View → Bool
+abbrev low : ℕ → List ShownNode → Bool
 low k [] = true
 low k (v ∷ vs) = leb (v .depth) k
 
-deeper : (k : ℕ) (vs : List View) → low k vs ≡ true → low (suc k) vs ≡ true
+deeper : (k : ℕ) (vs : List ShownNode) → low k vs ≡ true → low (suc k) vs ≡ true
 deeper k [] h = refl
 deeper k (v ∷ vs) h = le-leb (v .depth) (suc k) (omega (arith, leb-true (v .depth) k h))
 
-depth-shown : (c : Child) (b : Bool) (d k : ℕ) (vs : List View) → low k (child-views c b d vs) ≡ leb d k
-unfolding flow-views
+depth-shown : (c : Child) (b : Bool) (d k : ℕ) (vs : List ShownNode) → low k (child-shown-nodes c b d vs) ≡ leb d k
+unfolding flow-shown-nodes
 depth-shown (plain (leaf n)) b d k vs = refl
 depth-shown (plain (inner (flow n ps sw c r cs))) b d k vs = refl
 depth-shown (loop m) b d k vs = refl
 depth-shown (group y m e ms) b d k vs = refl
 depth-shown (replicator y par size m) b d k vs = refl
 
-child-low : (c : Child) (b : Bool) (d : ℕ) (vs : List View) → low d (child-views c b d vs) ≡ true
+child-low : (c : Child) (b : Bool) (d : ℕ) (vs : List ShownNode) → low d (child-shown-nodes c b d vs) ≡ true
 child-low c b d vs = depth-shown c b d d vs ∙ le-leb d d (omega arith)
 
-children-low : (cs : Children) (k : ℕ) (vs : List View) → low k vs ≡ true → low (suc k) (children-views cs (suc k) vs) ≡ true
-unfolding flow-views
+children-low : (cs : Children) (k : ℕ) (vs : List ShownNode) → low k vs ≡ true → low (suc k) (children-shown-nodes cs (suc k) vs) ≡ true
+unfolding flow-shown-nodes
 children-low none k vs h = deeper k vs h
-children-low (next c r cs) k vs h = child-low c r (suc k) (children-views cs (suc k) vs)
+children-low (next c r cs) k vs h = child-low c r (suc k) (children-shown-nodes cs (suc k) vs)
 
-members-low : (ms : Members) (k : ℕ) (vs : List View) → low k vs ≡ true → low (suc k) (members-views ms (suc k) vs) ≡ true
-unfolding flow-views
+members-low : (ms : Members) (k : ℕ) (vs : List ShownNode) → low k vs ≡ true → low (suc k) (members-shown-nodes ms (suc k) vs) ≡ true
+unfolding flow-shown-nodes
 members-low end k vs h = deeper k vs h
-members-low (also m ms) k vs h = child-low (plain m) false (suc k) (members-views ms (suc k) vs)
+members-low (also m ms) k vs h = child-low (plain m) false (suc k) (members-shown-nodes ms (suc k) vs)
 
 -- Where one list of children or members has ended, so has the other.
-ended : {A : Type 0} (c : Child) (b : Bool) (k : ℕ) (vs ws : List View) → low k ws ≡ true → ws ≡ child-views c b (suc k) vs → A
+ended : {A : Type 0} (c : Child) (b : Bool) (k : ℕ) (vs ws : List ShownNode) → low k ws ≡ true → ws ≡ child-shown-nodes c b (suc k) vs → A
 ended c b k vs ws h e =
     let l = leb-true (suc k) k (sym (depth-shown c b (suc k) k vs) ∙ (ap (low k) (sym e) ∙ h)) in
     let z : ⊥ = omega arith in
@@ -184,14 +184,14 @@ kept-group y m e ms a h =
     )
 
 -- Two trees at one depth, under the same replicators, with equal views: they are the same, and so are their marks and what follows them.
-abbrev Once : {A : Type 0} → A → A → Bool → Bool → List View → List View → Type 0
+abbrev Once : {A : Type 0} → A → A → Bool → Bool → List ShownNode → List ShownNode → Type 0
 Once f g b x vs ws = (f ≡ g) × (b ≡ x) × (vs ≡ ws)
 
 mutual
-  unfolding flow-views flow-parameters
+  unfolding flow-shown-nodes flow-parameters
 
-  flow-once : (f g : Flow) (b x : Bool) (k : ℕ) (a : List Name) (vs ws : List View) → low k vs ≡ true → low k ws ≡ true
-      → flow-parameters f a ≡ true → flow-parameters g a ≡ true → flow-views f b k vs ≡ flow-views g x k ws → Once f g b x vs ws
+  flow-once : (f g : Flow) (b x : Bool) (k : ℕ) (a : List Name) (vs ws : List ShownNode) → low k vs ≡ true → low k ws ≡ true
+      → flow-parameters f a ≡ true → flow-parameters g a ≡ true → flow-shown-nodes f b k vs ≡ flow-shown-nodes g x k ws → Once f g b x vs ws
   flow-once (flow n ps sw c r cs) (flow m qs tw e s es) b x k a vs ws h i p q t =
       let u = alike FlowKind FlowKind b x sw tw k n m _ _ t in
       let y = kept-flow n ps sw c r cs a p in
@@ -200,8 +200,8 @@ mutual
       let w = children-once cs es k a vs ws h i (y .2) (z .2) (v .2) in
       (cc (u .name, y .0, z .0, u .strong, v .0, v .1, w .0), u .solid, w .1)
 
-  children-once : (cs es : Children) (k : ℕ) (a : List Name) (vs ws : List View) → low k vs ≡ true → low k ws ≡ true
-      → children-parameters cs a ≡ true → children-parameters es a ≡ true → children-views cs (suc k) vs ≡ children-views es (suc k) ws → (cs ≡ es) × (vs ≡ ws)
+  children-once : (cs es : Children) (k : ℕ) (a : List Name) (vs ws : List ShownNode) → low k vs ≡ true → low k ws ≡ true
+      → children-parameters cs a ≡ true → children-parameters es a ≡ true → children-shown-nodes cs (suc k) vs ≡ children-shown-nodes es (suc k) ws → (cs ≡ es) × (vs ≡ ws)
   children-once none none k a vs ws h i p q t = (refl, t)
   children-once none (next e s es) k a vs ws h i p q t = ended e s k _ vs h t
   children-once (next c r cs) none k a vs ws h i p q t = ended c r k _ ws i (sym t)
@@ -212,8 +212,8 @@ mutual
       (and-r (child-parameters e a) (children-parameters es a) q) (v .2) in
       (cc (v .0, v .1, w .0), w .1)
 
-  child-once : (c e : Child) (b x : Bool) (k : ℕ) (a : List Name) (vs ws : List View) → low k vs ≡ true → low k ws ≡ true
-      → child-parameters c a ≡ true → child-parameters e a ≡ true → child-views c b k vs ≡ child-views e x k ws → Once c e b x vs ws
+  child-once : (c e : Child) (b x : Bool) (k : ℕ) (a : List Name) (vs ws : List ShownNode) → low k vs ≡ true → low k ws ≡ true
+      → child-parameters c a ≡ true → child-parameters e a ≡ true → child-shown-nodes c b k vs ≡ child-shown-nodes e x k ws → Once c e b x vs ws
   child-once (plain m) (plain n) b x k a vs ws h i p q t = let v = member-once m n b x k a vs ws h i p q t in (ap plain (v .0), v .1, v .2)
   child-once (plain m) (loop n) b x k a vs ws h i p q t = apart (plain m) (loop n) b x k vs ws t (λ j. omega arith)
   child-once (plain m) (group z n f ns) b x k a vs ws h i p q t = apart (plain m) (group z n f ns) b x k vs ws t (λ j. omega arith)
@@ -232,8 +232,8 @@ mutual
       let u = alike (group-kind y) (group-kind z) b x false false k [] [] _ _ t in
       let c = kept-group y m e ms a p in
       let d = kept-group z n f ns a q in
-      let v = member-once m n false false (suc k) a _ _ (child-low (plain e) false (suc k) (members-views ms (suc k) vs))
-      (child-low (plain f) false (suc k) (members-views ns (suc k) ws)) (c .0) (d .0) (u .rest) in
+      let v = member-once m n false false (suc k) a _ _ (child-low (plain e) false (suc k) (members-shown-nodes ms (suc k) vs))
+      (child-low (plain f) false (suc k) (members-shown-nodes ns (suc k) ws)) (c .0) (d .0) (u .rest) in
       let w = member-once e f false false (suc k) a _ _ (members-low ms k vs h) (members-low ns k ws i) (c .1) (d .1) (v .2) in
       let r = members-once ms ns k a vs ws h i (c .2) (d .2) (w .2) in
       (cc (group-once y z (u .kind), v .0, w .0, r .0), u .solid, r .1)
@@ -250,8 +250,8 @@ mutual
       let w = replicator-once y z l j (u .kind) in
       (cc (w .0, w .1, u .name, v .0), u .solid, v .2)
 
-  member-once : (m n : Member) (b x : Bool) (k : ℕ) (a : List Name) (vs ws : List View) → low k vs ≡ true → low k ws ≡ true
-      → member-parameters m a ≡ true → member-parameters n a ≡ true → member-views m b k vs ≡ member-views n x k ws → Once m n b x vs ws
+  member-once : (m n : Member) (b x : Bool) (k : ℕ) (a : List Name) (vs ws : List ShownNode) → low k vs ≡ true → low k ws ≡ true
+      → member-parameters m a ≡ true → member-parameters n a ≡ true → member-shown-nodes m b k vs ≡ member-shown-nodes n x k ws → Once m n b x vs ws
   member-once (leaf n) (leaf m) b x k a vs ws h i p q t =
       let u = alike Leaf Leaf b x false false k n m vs ws t in (ap leaf (u .name), u .solid, u .rest)
   member-once (leaf n) (inner (flow m qs tw e s es)) b x k a vs ws h i p q t =
@@ -266,8 +266,8 @@ mutual
       absurd z
   member-once (inner f) (inner g) b x k a vs ws h i p q t = let v = flow-once f g b x k a vs ws h i p q t in (ap inner (v .0), v .1, v .2)
 
-  members-once : (ms ns : Members) (k : ℕ) (a : List Name) (vs ws : List View) → low k vs ≡ true → low k ws ≡ true
-      → members-parameters ms a ≡ true → members-parameters ns a ≡ true → members-views ms (suc k) vs ≡ members-views ns (suc k) ws → (ms ≡ ns) × (vs ≡ ws)
+  members-once : (ms ns : Members) (k : ℕ) (a : List Name) (vs ws : List ShownNode) → low k vs ≡ true → low k ws ≡ true
+      → members-parameters ms a ≡ true → members-parameters ns a ≡ true → members-shown-nodes ms (suc k) vs ≡ members-shown-nodes ns (suc k) ws → (ms ≡ ns) × (vs ≡ ws)
   members-once end end k a vs ws h i p q t = (refl, t)
   members-once end (also n ns) k a vs ws h i p q t = ended (plain n) false k _ vs h t
   members-once (also m ms) end k a vs ws h i p q t = ended (plain m) false k _ ws i (sym t)

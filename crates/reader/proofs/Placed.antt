@@ -11,18 +11,18 @@ use Rattle.diagram.specs.declared.Kind.{Kind}
 use Rattle.diagram.specs.declared.Node.{Node}
 use Rattle.diagram.specs.declared.Diagram.{Diagram}
 use Rattle.lexer.specs.Spans.{places}
-use Rattle.rules.specs.Heads.{Head}
-use Rattle.rules.specs.Sites.{Site, flow-sites}
-use Rattle.rules.proofs.Trees.{flow-heads}
-use Rattle.rules.proofs.KeysPlaced.{head-keys, site-keys, keys-placed}
+use Rattle.rules.specs.TokenNodes.{TokenNode}
+use Rattle.rules.specs.PlacedNodes.{PlacedNode, flow-placed-nodes}
+use Rattle.rules.proofs.Trees.{flow-token-nodes}
+use Rattle.rules.proofs.KeysPlaced.{token-node-keys, placed-node-keys, keys-placed}
 use Rattle.reader.specs.Nodes.{name-place, node-of, stored}
 use Rattle.reader.specs.Answers.{read-of}
 use Rattle.reader.specs.Accepted.{Accepted}
-use Rattle.reader.specs.Views.{View, Shows, view, views}
+use Rattle.reader.specs.ShownNodes.{ShownNode, Shows, shown-node, shown-nodes}
 use Rattle.reader.specs.Places.{Placed, keyword-at, name-at, names-at}
-use Rattle.reader.specs.declared.Out.{Out}
+use Rattle.reader.specs.declared.ReadResult.{ReadResult}
 use Rattle.reader.proofs.Exact.{accepted-read}
-use Rattle.reader.proofs.Shown.{kind-named, head-view, tree-shown}
+use Rattle.reader.proofs.Shown.{kind-named, token-node-shown-node, tree-shown}
 
 abbrev ats : List Node → List ℕ
 ats ns = map (λ (n : Node). n .at) ns
@@ -31,7 +31,7 @@ abbrev names : List Node → List ℕ
 names ns = map (λ (n : Node). n .name) ns
 
 -- Of nodes and sites with the same keywords.
-keywords-along : (text : List ℕ) (hs : List Head) (ss : List Site) → head-keys hs ≡ site-keys ss
+keywords-along : (text : List ℕ) (hs : List TokenNode) (ss : List PlacedNode) → token-node-keys hs ≡ placed-node-keys ss
     → ats (map (node-of (places text)) hs) ≡ map (keyword-at text) ss
 unfolding node-of keyword-at
 keywords-along text [] [] e = refl
@@ -40,12 +40,12 @@ keywords-along text (h ∷ hs) [] e = absurd (cons≢nil e)
 keywords-along text (h ∷ hs) (s ∷ ss) e =
     ap₂ (λ (k : ℕ) (l : List ℕ). getD (places text) k 0 ∷ l) (head-eq-of-cons-eq e) (keywords-along text hs ss (tail-eq-of-cons-eq e))
 
-name-along : (text : List ℕ) (h : Head) (s : Site) → h .key ≡ s .key → node-of (places text) h .name ≡ name-at text (head-view h) s
-unfolding node-of name-place name-at head-view
+name-along : (text : List ℕ) (h : TokenNode) (s : PlacedNode) → h .key ≡ s .key → node-of (places text) h .name ≡ name-at text (token-node-shown-node h) s
+unfolding node-of name-place name-at token-node-shown-node
 name-along text h s e = rw (kind-named (h .code) (h .size), e)
 
-names-along : (text : List ℕ) (hs : List Head) (ss : List Site) → head-keys hs ≡ site-keys ss
-    → names (map (node-of (places text)) hs) ≡ names-at text (map head-view hs) ss
+names-along : (text : List ℕ) (hs : List TokenNode) (ss : List PlacedNode) → token-node-keys hs ≡ placed-node-keys ss
+    → names (map (node-of (places text)) hs) ≡ names-at text (map token-node-shown-node hs) ss
 unfolding names-at
 names-along text [] ss e = refl
 names-along text (h ∷ hs) [] e = absurd (cons≢nil e)
@@ -55,34 +55,34 @@ names-along text (h ∷ hs) (s ∷ ss) e =
 pub accepted-placed : (text : List ℕ) (d : Flow) → Accepted text d → Placed text d (read-of text .diagram)
 unfolding stored
 accepted-placed text d a =
-    let hs = flow-heads d false 1 0 [] in
+    let hs = flow-token-nodes d false 1 0 [] in
     let ns = map (node-of (places text)) hs in
     let more = replicate (256 - length hs) blank-node in
     let l = length-map hs (node-of (places text)) in
     let kept : take (length hs) (ns ++ more) ≡ ns = take-at ns more (length hs) l in
-    subst (λ (o : Out). Placed text d (o .diagram)) (sym (accepted-read text d a))
+    subst (λ (o : ReadResult). Placed text d (o .diagram)) (sym (accepted-read text d a))
     record {
-      keywords = ap ats kept ∙ keywords-along text hs (flow-sites d [] 1 0 []) (keys-placed d);
+      keywords = ap ats kept ∙ keywords-along text hs (flow-placed-nodes d [] 1 0 []) (keys-placed d);
       names =
           ap names kept
-          ∙ (names-along text hs (flow-sites d [] 1 0 []) (keys-placed d)
-          ∙ ap (λ (vs : List View). names-at text vs (flow-sites d [] 1 0 [])) (tree-shown d));
+          ∙ (names-along text hs (flow-placed-nodes d [] 1 0 []) (keys-placed d)
+          ∙ ap (λ (vs : List ShownNode). names-at text vs (flow-placed-nodes d [] 1 0 [])) (tree-shown d));
       blank = drop-at ns more (length hs) l;
     }
 
 -- Nodes with the same views and the same places are the same.
-same-node : (text : List ℕ) (m n : Node) → view text m ≡ view text n → m .at ≡ n .at → m .name ≡ n .name → m ≡ n
-unfolding view
+same-node : (text : List ℕ) (m n : Node) → shown-node text m ≡ shown-node text n → m .at ≡ n .at → m .name ≡ n .name → m ≡ n
+unfolding shown-node
 same-node text m n e p q =
-    let k : m .kind ≡ n .kind = ap (λ (v : View). v .kind) e in
-    let b : m .solid ≡ n .solid = ap (λ (v : View). v .solid) e in
-    let s : m .strong ≡ n .strong = ap (λ (v : View). v .strong) e in
-    let d : m .depth ≡ n .depth = ap (λ (v : View). v .depth) e in
+    let k : m .kind ≡ n .kind = ap (λ (v : ShownNode). v .kind) e in
+    let b : m .solid ≡ n .solid = ap (λ (v : ShownNode). v .solid) e in
+    let s : m .strong ≡ n .strong = ap (λ (v : ShownNode). v .strong) e in
+    let d : m .depth ≡ n .depth = ap (λ (v : ShownNode). v .depth) e in
     ap₂ (λ (k : Kind) (b : Bool). record { kind = k; solid = b; strong = m .strong; depth = m .depth; at = m .at; name = m .name }) k b
     ∙ (ap₂ (λ (s : Bool) (d : ℕ). record { kind = n .kind; solid = n .solid; strong = s; depth = d; at = m .at; name = m .name }) s d
     ∙ ap₂ (λ (a x : ℕ). record { kind = n .kind; solid = n .solid; strong = n .strong; depth = n .depth; at = a; name = x }) p q)
 
-same-nodes : (text : List ℕ) (ms ns : List Node) → map (view text) ms ≡ map (view text) ns → ats ms ≡ ats ns → names ms ≡ names ns → ms ≡ ns
+same-nodes : (text : List ℕ) (ms ns : List Node) → map (shown-node text) ms ≡ map (shown-node text) ns → ats ms ≡ ats ns → names ms ≡ names ns → ms ≡ ns
 same-nodes text [] [] e p q = refl
 same-nodes text [] (n ∷ ns) e p q = absurd (nil≢cons p)
 same-nodes text (m ∷ ms) [] e p q = absurd (cons≢nil p)
@@ -92,7 +92,7 @@ same-nodes text (m ∷ ms) (n ∷ ns) e p q =
 
 -- One diagram at most shows a tree at its places in a text.
 pub one-diagram : (text : List ℕ) (d : Flow) (g h : Diagram) → Shows text d g → Placed text d g → Shows text d h → Placed text d h → g ≡ h
-unfolding views
+unfolding shown-nodes
 one-diagram text d g h s p t q =
     let c : g .count ≡ h .count = s .count ∙ sym (t .count) in
     let front : take (g .count) (g .nodes) ≡ take (h .count) (h .nodes) =

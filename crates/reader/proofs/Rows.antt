@@ -10,21 +10,21 @@ use lib.Seq.{take-all, take-suc, set-at, length-take-le, append-snoc}
 use Rattle.diagram.specs.Tree.{Name}
 use Rattle.diagram.specs.Stored.{blank-node}
 use Rattle.diagram.specs.declared.Node.{Node}
-use Rattle.rules.specs.Heads.{head, by-columns}
+use Rattle.rules.specs.TokenNodes.{token-node, by-columns}
 use Rattle.reader.specs.Nodes.{node-of, stored}
 
 -- The nodes of two columns.
 unfoldable pub rows : List ℕ → List ℕ → List ℕ → List ℕ → List Node
 rows ps cs [] ds = []
 rows ps cs (k ∷ ks) [] = []
-rows ps cs (k ∷ ks) (d ∷ ds) = node-of ps (head (λ x. []) d k (drop k cs)) ∷ rows ps cs ks ds
+rows ps cs (k ∷ ks) (d ∷ ds) = node-of ps (token-node (λ x. []) d k (drop k cs)) ∷ rows ps cs ks ds
 
 -- A node does not depend on its name.
 rows-columns : (nm : ℕ → Name) (ps cs ks ds : List ℕ) → map (node-of ps) (by-columns nm cs ks ds) ≡ rows ps cs ks ds
-unfolding rows by-columns node-of head
+unfolding rows by-columns node-of token-node
 rows-columns nm ps cs [] ds = refl
 rows-columns nm ps cs (k ∷ ks) [] = refl
-rows-columns nm ps cs (k ∷ ks) (d ∷ ds) = ap (λ (l : List Node). node-of ps (head nm d k (drop k cs)) ∷ l) (rows-columns nm ps cs ks ds)
+rows-columns nm ps cs (k ∷ ks) (d ∷ ds) = ap (λ (l : List Node). node-of ps (token-node nm d k (drop k cs)) ∷ l) (rows-columns nm ps cs ks ds)
 
 pub rows-length : (ps cs ks ds : List ℕ) → length ds ≡ length ks → length (rows ps cs ks ds) ≡ length ks
 unfolding rows
@@ -33,7 +33,7 @@ rows-length ps cs (k ∷ ks) [] h = let z : ⊥ = omega arith in absurd z
 rows-length ps cs (k ∷ ks) (d ∷ ds) h = ap suc (rows-length ps cs ks ds (omega arith))
 
 pub rows-at : (ps cs ks ds : List ℕ) (i : ℕ) → length ds ≡ length ks → i < length ks
-    → getD (rows ps cs ks ds) i blank-node ≡ node-of ps (head (λ x. []) (getD ds i 0) (getD ks i 0) (drop (getD ks i 0) cs))
+    → getD (rows ps cs ks ds) i blank-node ≡ node-of ps (token-node (λ x. []) (getD ds i 0) (getD ks i 0) (drop (getD ks i 0) cs))
 unfolding rows
 rows-at ps cs [] ds i h l = let z : ⊥ = omega arith in absurd z
 rows-at ps cs (k ∷ ks) [] i h l = let z : ⊥ = omega arith in absurd z

@@ -194,16 +194,16 @@ same-refusal p q = (cc, cc)
 no-refusal : {r : Scan} {m n i : ℕ} → r ≡ Refused m i → r ≡ Tokens n → ⊥
 no-refusal p q = let z : _≡_ {A = ℕ} 0 1 = cc in omega arith
 
-turned-by : {text : List ℕ} (c at : ℕ) → Sorted text → scan-of text ≡ Refused c at
+refused-at-by : {text : List ℕ} (c at : ℕ) → Sorted text → scan-of text ≡ Refused c at
     → ((c ≡ 2) × Long text at) ⊎ (((c ≡ 3) × Foreign text at) ⊎ ((c ≡ 4) × Wordy text at))
-turned-by {text} c at (long i h) e = let q = same-refusal e (long-scan text i h) in inl (q .0, rw (q .1) h)
-turned-by {text} c at (foreign-byte i h) e = let q = same-refusal e (foreign-scan text i h) in inr (inl (q .0, rw (q .1) h))
-turned-by {text} c at (wordy-text i h) e = let q = same-refusal e (wordy-scan text i h) in inr (inr (q .0, rw (q .1) h))
-turned-by {text} c at (clean h) e = absurd (no-refusal e (clean-scan text h))
+refused-at-by {text} c at (long i h) e = let q = same-refusal e (long-scan text i h) in inl (q .0, rw (q .1) h)
+refused-at-by {text} c at (foreign-byte i h) e = let q = same-refusal e (foreign-scan text i h) in inr (inl (q .0, rw (q .1) h))
+refused-at-by {text} c at (wordy-text i h) e = let q = same-refusal e (wordy-scan text i h) in inr (inr (q .0, rw (q .1) h))
+refused-at-by {text} c at (clean h) e = absurd (no-refusal e (clean-scan text h))
 
-pub scan-turned : (text : List ℕ) (c at : ℕ) → scan-of text ≡ Refused c at
+pub scan-refused-at : (text : List ℕ) (c at : ℕ) → scan-of text ≡ Refused c at
     → ((c ≡ 2) × Long text at) ⊎ (((c ≡ 3) × Foreign text at) ⊎ ((c ≡ 4) × Wordy text at))
-scan-turned text c at e = turned-by c at (sorted text) e
+scan-refused-at text c at e = refused-at-by c at (sorted text) e
 
 clean-by : {text : List ℕ} (n : ℕ) → Sorted text → scan-of text ≡ Tokens n → Clean text
 clean-by {text} n (long i h) e = absurd (no-refusal (long-scan text i h) e)

@@ -21,14 +21,14 @@ use Rattle.grammar.specs.Tokens.{child-tokens, member-tokens}
 use Rattle.grammar.specs.Limits.{keyed, count-of, nodes-in}
 use Rattle.grammar.specs.Derives.{Derives}
 use Rattle.grammar.proofs.LimitedTrees.{nodes-counted}
-use Rattle.rules.specs.Heads.{Head, flowing, leafy, copying, solid-of, strong-of, head, heads, name-in, opened}
-use Rattle.rules.proofs.Trees.{simple, group-code, replicator-code, flow-heads, children-heads, child-heads, member-heads, members-heads}
+use Rattle.rules.specs.TokenNodes.{TokenNode, flowing, leafy, copying, solid-of, strong-of, token-node, token-nodes, name-in, opened}
+use Rattle.rules.proofs.Trees.{simple, group-code, replicator-code, flow-token-nodes, children-token-nodes, child-token-nodes, member-token-nodes, members-token-nodes}
 use Rattle.reader.specs.Nodes.{kind-of, name-place, node-of, stored}
 use Rattle.reader.specs.Answers.{read-of}
 use Rattle.reader.specs.Accepted.{Accepted}
-use Rattle.reader.specs.Views.{View, Shows, shown, has-name, group-kind, replicator-kind, view, views, flow-views, children-views, child-views, member-views, members-views}
-use Rattle.reader.specs.declared.Out.{Out}
-use Rattle.reader.proofs.Told.{derived-heads}
+use Rattle.reader.specs.ShownNodes.{ShownNode, Shows, shown, has-name, group-kind, replicator-kind, shown-node, shown-nodes, flow-shown-nodes, children-shown-nodes, child-shown-nodes, member-shown-nodes, members-shown-nodes}
+use Rattle.reader.specs.declared.ReadResult.{ReadResult}
+use Rattle.reader.proofs.Told.{derived-token-nodes}
 use Rattle.reader.proofs.Exact.{accepted-read}
 
 -- Which kinds have a name, by the keyword's number.
@@ -59,8 +59,8 @@ kind-named c s =
     keyword-or s c 12 refl (λ g. keyword-or s c 13 refl (λ h. keyword-or s c 14 refl (λ i.
     rw (a, b, d, e, f, g, h, i, no-keyword s c (eqb-false c 12 g) (eqb-false c 13 h) (eqb-false c 14 i))))))))))
 
-unfoldable pub head-view : Head → View
-head-view h = shown (kind-of (h .code) (h .size)) (h .solid) (h .strong) (h .depth) (h .name)
+unfoldable pub token-node-shown-node : TokenNode → ShownNode
+token-node-shown-node h = shown (kind-of (h .code) (h .size)) (h .solid) (h .strong) (h .depth) (h .name)
 
 -- A node is told by its place as its tokens have it.
 name-shown : (text ps : List ℕ) (c s k : ℕ) (b : Bool) → titled c ≡ b → has-name (kind-of c s) ≡ b
@@ -68,57 +68,57 @@ name-shown : (text ps : List ℕ) (c s k : ℕ) (b : Bool) → titled c ≡ b �
 name-shown text ps c s k true e f = rw (e, f)
 name-shown text ps c s k false e f = rw (e, f)
 
-head-shown : (text ps : List ℕ) (d k : ℕ) (cs : List ℕ) → view text (node-of ps (head (name-in text ps) d k cs)) ≡ head-view (head (name-in text ps) d k cs)
-unfolding view node-of name-place head head-view
-head-shown text ps d k cs =
+token-node-shown : (text ps : List ℕ) (d k : ℕ) (cs : List ℕ) → shown-node text (node-of ps (token-node (name-in text ps) d k cs)) ≡ token-node-shown-node (token-node (name-in text ps) d k cs)
+unfolding shown-node node-of name-place token-node token-node-shown-node
+token-node-shown text ps d k cs =
     let c = getD cs 0 0 in
     let s = cond (copying c) (getD cs 4 0 - 16) 0 in
     ap (shown (kind-of c s) (solid-of cs) (cond (flowing c) (strong-of (drop 3 cs)) false) d) (name-shown text ps c s k (titled c) refl (kind-named c s))
 
-heads-shown : (text ps : List ℕ) (p k : ℕ) (cs : List ℕ)
-    → map (view text) (map (node-of ps) (heads (name-in text ps) p k cs)) ≡ map head-view (heads (name-in text ps) p k cs)
-unfolding heads
-heads-shown text ps p k [] = refl
-heads-shown text ps p k (c ∷ cs) =
+token-nodes-shown : (text ps : List ℕ) (p k : ℕ) (cs : List ℕ)
+    → map (shown-node text) (map (node-of ps) (token-nodes (name-in text ps) p k cs)) ≡ map token-node-shown-node (token-nodes (name-in text ps) p k cs)
+unfolding token-nodes
+token-nodes-shown text ps p k [] = refl
+token-nodes-shown text ps p k (c ∷ cs) =
     ⊎-elim
-    (λ e. rw e (rw (head-shown text ps (suc p) k (c ∷ cs), heads-shown text ps p (suc k) cs)))
-    (λ e. rw e (heads-shown text ps (opened p c) (suc k) cs))
+    (λ e. rw e (rw (token-node-shown text ps (suc p) k (c ∷ cs), token-nodes-shown text ps p (suc k) cs)))
+    (λ e. rw e (token-nodes-shown text ps (opened p c) (suc k) cs))
     (cases (keyed c))
 
 -- The nodes of a tree as they are shown.
-record Same (hs : List Head) (vs : List View) : Type 0 where
-  law : map head-view hs ≡ vs
+record Same (hs : List TokenNode) (vs : List ShownNode) : Type 0 where
+  law : map token-node-shown-node hs ≡ vs
 
-before : {hs : List Head} {vs : List View} (h : Head) (v : View) → head-view h ≡ v → Same hs vs → Same (h ∷ hs) (v ∷ vs)
+before : {hs : List TokenNode} {vs : List ShownNode} (h : TokenNode) (v : ShownNode) → token-node-shown-node h ≡ v → Same hs vs → Same (h ∷ hs) (v ∷ vs)
 before h v p q = record { law = rw (p, q .law) }
 
-group-shown : (y : Way) (b : Bool) (d k : ℕ) → head-view (simple k d (group-code y) [] b) ≡ shown (group-kind y) b false d []
-unfolding head-view kind-of
+group-shown : (y : Way) (b : Bool) (d k : ℕ) → token-node-shown-node (simple k d (group-code y) [] b) ≡ shown (group-kind y) b false d []
+unfolding token-node-shown-node kind-of
 group-shown all b d k = refl
 group-shown some b d k = refl
 group-shown one b d k = refl
 
 replicator-shown : (y : Way) (b : Bool) (d k : ℕ) (par : Name) (size : ℕ)
-    → head-view (record { key = k; depth = d; code = replicator-code y; name = par; size = size; pars = []; strong = false; solid = b })
+    → token-node-shown-node (record { key = k; depth = d; code = replicator-code y; name = par; size = size; pars = []; strong = false; solid = b })
     ≡ shown (replicator-kind y size) b false d par
-unfolding head-view kind-of
+unfolding token-node-shown-node kind-of
 replicator-shown all b d k par size = refl
 replicator-shown some b d k par size = refl
 replicator-shown one b d k par size = refl
 
 mutual
-  unfolding flow-heads flow-views head-view kind-of
+  unfolding flow-token-nodes flow-shown-nodes token-node-shown-node kind-of
 
-  flow-shown : (f : Flow) (b : Bool) (d k : ℕ) {hs : List Head} {vs : List View} → Same hs vs → Same (flow-heads f b d k hs) (flow-views f b d vs)
+  flow-shown : (f : Flow) (b : Bool) (d k : ℕ) {hs : List TokenNode} {vs : List ShownNode} → Same hs vs → Same (flow-token-nodes f b d k hs) (flow-shown-nodes f b d vs)
   flow-shown (flow n ps sw c r cs) b d k h =
       before (record { key = k; depth = d; code = 7; name = n; size = 0; pars = reverse ps; strong = sw; solid = b }) (shown FlowKind b sw d n) refl
       (child-shown c r (suc d) (k + (7 + 2 * length ps)) (children-shown cs (suc d) (k + (7 + 2 * length ps) + (length (child-tokens c []) + 3)) h))
 
-  children-shown : (cs : Children) (d k : ℕ) {hs : List Head} {vs : List View} → Same hs vs → Same (children-heads cs d k hs) (children-views cs d vs)
+  children-shown : (cs : Children) (d k : ℕ) {hs : List TokenNode} {vs : List ShownNode} → Same hs vs → Same (children-token-nodes cs d k hs) (children-shown-nodes cs d vs)
   children-shown none d k h = h
   children-shown (next c r cs) d k h = child-shown c r d k (children-shown cs d (k + (length (child-tokens c []) + 3)) h)
 
-  child-shown : (c : Child) (b : Bool) (d k : ℕ) {hs : List Head} {vs : List View} → Same hs vs → Same (child-heads c b d k hs) (child-views c b d vs)
+  child-shown : (c : Child) (b : Bool) (d k : ℕ) {hs : List TokenNode} {vs : List ShownNode} → Same hs vs → Same (child-token-nodes c b d k hs) (child-shown-nodes c b d vs)
   child-shown (plain m) b d k h = member-shown m b d k h
   child-shown (loop m) b d k h = before (simple k d 15 [] b) (shown Loop b false d []) refl (member-shown m false (suc d) (k + 2) h)
   child-shown (group y m e ms) b d k h =
@@ -130,51 +130,51 @@ mutual
       before (record { key = k; depth = d; code = replicator-code y; name = par; size = size; pars = []; strong = false; solid = b })
       (shown (replicator-kind y size) b false d par) (replicator-shown y b d k par size) (member-shown m false (suc d) (k + 7) h)
 
-  member-shown : (m : Member) (b : Bool) (d k : ℕ) {hs : List Head} {vs : List View} → Same hs vs → Same (member-heads m b d k hs) (member-views m b d vs)
+  member-shown : (m : Member) (b : Bool) (d k : ℕ) {hs : List TokenNode} {vs : List ShownNode} → Same hs vs → Same (member-token-nodes m b d k hs) (member-shown-nodes m b d vs)
   member-shown (leaf n) b d k h = before (simple k d 8 n b) (shown Leaf b false d n) refl h
   member-shown (inner f) b d k h = flow-shown f b d k h
 
-  members-shown : (ms : Members) (d k : ℕ) {hs : List Head} {vs : List View} → Same hs vs → Same (members-heads ms d k hs) (members-views ms d vs)
+  members-shown : (ms : Members) (d k : ℕ) {hs : List TokenNode} {vs : List ShownNode} → Same hs vs → Same (members-token-nodes ms d k hs) (members-shown-nodes ms d vs)
   members-shown end d k h = h
   members-shown (also m ms) d k h = member-shown m false d k (members-shown ms d (k + length (member-tokens m [])) h)
 
-stored-shown : (text : List ℕ) (hs : List Head) (x y : ℕ) → views text (stored (places text) hs x y) ≡ map (view text) (map (node-of (places text)) hs)
-unfolding views stored
+stored-shown : (text : List ℕ) (hs : List TokenNode) (x y : ℕ) → shown-nodes text (stored (places text) hs x y) ≡ map (shown-node text) (map (node-of (places text)) hs)
+unfolding shown-nodes stored
 stored-shown text hs x y =
-    ap (map (view text))
+    ap (map (shown-node text))
     (take-at (map (node-of (places text)) hs) (replicate (256 - length hs) blank-node) (length hs) (length-map hs (node-of (places text))))
 
 nothing : Same [] []
 nothing = record { law = refl }
 
-pub tree-shown : (d : Flow) → map head-view (flow-heads d false 1 0 []) ≡ flow-views d false 1 []
+pub tree-shown : (d : Flow) → map token-node-shown-node (flow-token-nodes d false 1 0 []) ≡ flow-shown-nodes d false 1 []
 tree-shown d = flow-shown d false 1 0 nothing .law
 
 -- A node for each keyword.
-heads-count : (nm : ℕ → Name) (p k : ℕ) (cs : List ℕ) → length (heads nm p k cs) ≡ nodes-in cs
-unfolding heads count-of
-heads-count nm p k [] = refl
-heads-count nm p k (c ∷ cs) =
-    ⊎-elim (λ e. rw e (ap suc (heads-count nm p (suc k) cs))) (λ e. rw e (heads-count nm (opened p c) (suc k) cs)) (cases (keyed c))
+token-nodes-count : (nm : ℕ → Name) (p k : ℕ) (cs : List ℕ) → length (token-nodes nm p k cs) ≡ nodes-in cs
+unfolding token-nodes count-of
+token-nodes-count nm p k [] = refl
+token-nodes-count nm p k (c ∷ cs) =
+    ⊎-elim (λ e. rw e (ap suc (token-nodes-count nm p (suc k) cs))) (λ e. rw e (token-nodes-count nm (opened p c) (suc k) cs)) (cases (keyed c))
 
-nodes-held : (text : List ℕ) (d : Flow) → Derives (tokens text) d → length (flow-heads d false 1 0 []) ≡ flow-nodes d
+nodes-held : (text : List ℕ) (d : Flow) → Derives (tokens text) d → length (flow-token-nodes d false 1 0 []) ≡ flow-nodes d
 unfolding codes
 nodes-held text d g =
-    ap length (sym (derived-heads text d g))
-    ∙ (heads-count (name-in text (places text)) 0 0 (codes text)
+    ap length (sym (derived-token-nodes text d g))
+    ∙ (token-nodes-count (name-in text (places text)) 0 0 (codes text)
     ∙ (ap (λ (ts : List Name). nodes-in (map code ts)) (g .told) ∙ nodes-counted d (g .proper)))
 
 pub accepted-shown : (text : List ℕ) (d : Flow) → Accepted text d → Shows text d (read-of text .diagram)
 unfolding stored
 accepted-shown text d a =
     let e = accepted-read text d a in
-    let hs = flow-heads d false 1 0 [] in
-    subst (λ (o : Out). Shows text d (o .diagram)) (sym e)
+    let hs = flow-token-nodes d false 1 0 [] in
+    subst (λ (o : ReadResult). Shows text d (o .diagram)) (sym e)
     record {
       nodes =
           stored-shown text hs (flow-copies d) (flow-events d)
-          ∙ (subst (λ (l : List Head). map (view text) (map (node-of (places text)) l) ≡ map head-view l) (derived-heads text d (a .derived))
-          (heads-shown text (places text) 0 0 (codes text))
+          ∙ (subst (λ (l : List TokenNode). map (shown-node text) (map (node-of (places text)) l) ≡ map token-node-shown-node l) (derived-token-nodes text d (a .derived))
+          (token-nodes-shown text (places text) 0 0 (codes text))
           ∙ tree-shown d);
       count = nodes-held text d (a .derived);
       copies = refl;

@@ -18,16 +18,16 @@ use Rattle.grammar.proofs.Few.{whole-few}
 use Rattle.parser.specs.declared.Step.{Step}
 use Rattle.parser.specs.declared.Step.the-variants.{Go, Stop}
 use Rattle.parser.specs.Parsed.{parsed as step-of}
-use Rattle.rules.specs.Heads.{Head, heads, keys, depths, by-columns, name-in}
+use Rattle.rules.specs.TokenNodes.{TokenNode, token-nodes, keys, depths, by-columns, name-in}
 use Rattle.rules.specs.Judged.{verdict}
 use Rattle.rules.specs.declared.Verdict.{Verdict}
 use Rattle.rules.specs.declared.Verdict.the-variants.{Kept, Refused as Unkept}
 use Rattle.diagram.specs.declared.Diagram.{Diagram}
 use Rattle.reader.specs.Nodes.{stored}
 use Rattle.reader.specs.declared.Answer.the-variants.{Done}
-use Rattle.rules.proofs.HeadedColumns.{columns-heads, keys-count, depths-count}
-use Rattle.reader.specs.Answers.{away, scan-answer, parse-answer, verdict-answer, judged, parsed, scanned, read-of}
-use Rattle.reader.specs.declared.Out.{Out}
+use Rattle.rules.proofs.NodesByColumns.{columns-token-nodes, keys-count, depths-count}
+use Rattle.reader.specs.Answers.{no-diagram, scan-answer, parse-answer, verdict-answer, judged, parsed, scanned, read-of}
+use Rattle.reader.specs.declared.ReadResult.{ReadResult}
 use Rattle.reader.proofs.Scans.{scan-clean, clean-scan}
 
 -- A list of m numbers over whose front the first n are known to be vs.
@@ -68,24 +68,24 @@ columns cs ks ds lent owed n len r x y e g l o q a b =
       second = front 256 n owed ds (depths 0 cs) o (omega (arith, keys-count 0 cs, depths-count 0 cs)) h b;
     }
 
-pub stopped-away : (text ps : List ℕ) (hs : List Head) (len : ℕ) (o : Outcome) (r : Step) (c k : ℕ) → r ≡ step-of len o → r ≡ Stop c k
-    → away (parse-answer text ps r) ≡ parsed text ps hs o
-stopped-away text ps hs len (whole n) r c k e g = let z : _≡_ {A = ℕ} 0 1 = cc in let w : ⊥ = omega arith in absurd w
-stopped-away text ps hs len (stop d j) r c k e g = rw e
+pub stopped-no-diagram : (text ps : List ℕ) (hs : List TokenNode) (len : ℕ) (o : Outcome) (r : Step) (c k : ℕ) → r ≡ step-of len o → r ≡ Stop c k
+    → no-diagram (parse-answer text ps r) ≡ parsed text ps hs o
+stopped-no-diagram text ps hs len (whole n) r c k e g = let z : _≡_ {A = ℕ} 0 1 = cc in let w : ⊥ = omega arith in absurd w
+stopped-no-diagram text ps hs len (stop d j) r c k e g = rw e
 
-pub whole-judged : (text ps cs ks ds : List ℕ) (n m : ℕ) (o : Out) → Columns cs ks ds n m
+pub whole-judged : (text ps cs ks ds : List ℕ) (n m : ℕ) (o : ReadResult) → Columns cs ks ds n m
     → o ≡ judged ps (by-columns (name-in text ps) cs (take n ks) (take n ds)) (verdict ps (by-columns (name-in text ps) cs (take n ks) (take n ds)))
-    → o ≡ parsed text ps (heads (name-in text ps) 0 0 cs) (outcome cs)
+    → o ≡ parsed text ps (token-nodes (name-in text ps) 0 0 cs) (outcome cs)
 whole-judged text ps cs ks ds n m o w e =
-    let h = ap₂ (by-columns (name-in text ps) cs) (w .first .is) (w .second .is) ∙ columns-heads (name-in text ps) cs in
-    e ∙ (ap (λ (l : List Head). judged ps l (verdict ps l)) h ∙ sym (ap (parsed text ps (heads (name-in text ps) 0 0 cs)) (w .read)))
+    let h = ap₂ (by-columns (name-in text ps) cs) (w .first .is) (w .second .is) ∙ columns-token-nodes (name-in text ps) cs in
+    e ∙ (ap (λ (l : List TokenNode). judged ps l (verdict ps l)) h ∙ sym (ap (parsed text ps (token-nodes (name-in text ps) 0 0 cs)) (w .read)))
 
 -- From the columns to the diagram.
-pub verdict-away : (ps : List ℕ) (hs : List Head) (w v : Verdict) (c k : ℕ) → v ≡ w → v ≡ Unkept c k → away (verdict-answer v) ≡ judged ps hs w
-verdict-away ps hs (Kept x y) v c k e g = let z : _≡_ {A = ℕ} 0 1 = cc in let w : ⊥ = omega arith in absurd w
-verdict-away ps hs (Unkept d j) v c k e g = rw e
+pub verdict-no-diagram : (ps : List ℕ) (hs : List TokenNode) (w v : Verdict) (c k : ℕ) → v ≡ w → v ≡ Unkept c k → no-diagram (verdict-answer v) ≡ judged ps hs w
+verdict-no-diagram ps hs (Kept x y) v c k e g = let z : _≡_ {A = ℕ} 0 1 = cc in let w : ⊥ = omega arith in absurd w
+verdict-no-diagram ps hs (Unkept d j) v c k e g = rw e
 
-pub kept-done : (ps : List ℕ) (hs : List Head) (w v : Verdict) (x y : ℕ) (d : Diagram) → v ≡ w → v ≡ Kept x y → d ≡ stored ps hs x y
+pub kept-done : (ps : List ℕ) (hs : List TokenNode) (w v : Verdict) (x y : ℕ) (d : Diagram) → v ≡ w → v ≡ Kept x y → d ≡ stored ps hs x y
     → record { answer = Done; diagram = d } ≡ judged ps hs w
 kept-done ps hs (Kept a b) v x y d e g q = let p : x ≡ a = cc in let r : y ≡ b = cc in rw (q, p, r)
 kept-done ps hs (Unkept c k) v x y d e g q = let z : _≡_ {A = ℕ} 0 1 = cc in let w : ⊥ = omega arith in absurd w
@@ -110,17 +110,17 @@ tokened text cs ps lent owed n r e g l o a b =
       second = front 16384 n owed ps (places text) o (omega (arith, places-length text)) h (rw s at b);
     }
 
-pub scanned-away : (text : List ℕ) (s r : Scan) (c k : ℕ) → r ≡ s → r ≡ Unscanned c k → away (scan-answer r) ≡ scanned text (codes text) (places text) s
-scanned-away text (Tokens n) r c k e g = let z : _≡_ {A = ℕ} 0 1 = cc in let w : ⊥ = omega arith in absurd w
-scanned-away text (Unscanned d j) r c k e g = rw e
+pub scanned-no-diagram : (text : List ℕ) (s r : Scan) (c k : ℕ) → r ≡ s → r ≡ Unscanned c k → no-diagram (scan-answer r) ≡ scanned text (codes text) (places text) s
+scanned-no-diagram text (Tokens n) r c k e g = let z : _≡_ {A = ℕ} 0 1 = cc in let w : ⊥ = omega arith in absurd w
+scanned-no-diagram text (Unscanned d j) r c k e g = rw e
 
-pub unscanned : (text : List ℕ) (r : Scan) (c k : ℕ) → r ≡ scan-of text → r ≡ Unscanned c k → away (scan-answer r) ≡ read-of text
+pub unscanned : (text : List ℕ) (r : Scan) (c k : ℕ) → r ≡ scan-of text → r ≡ Unscanned c k → no-diagram (scan-answer r) ≡ read-of text
 unfolding read-of
-unscanned text r c k e g = scanned-away text (scan-of text) r c k e g
+unscanned text r c k e g = scanned-no-diagram text (scan-of text) r c k e g
 
-pub tokened-read : (text cs ps : List ℕ) (n : ℕ) (o : Out) → Tokened text cs ps n
-    → o ≡ parsed text (take n ps) (heads (name-in text (take n ps)) 0 0 (take n cs)) (outcome (take n cs)) → o ≡ read-of text
+pub tokened-read : (text cs ps : List ℕ) (n : ℕ) (o : ReadResult) → Tokened text cs ps n
+    → o ≡ parsed text (take n ps) (token-nodes (name-in text (take n ps)) 0 0 (take n cs)) (outcome (take n cs)) → o ≡ read-of text
 unfolding read-of
 tokened-read text cs ps n o w e =
-    e ∙ (ap₂ (λ (c p : List ℕ). parsed text p (heads (name-in text p) 0 0 c) (outcome c)) (w .first .is) (w .second .is)
+    e ∙ (ap₂ (λ (c p : List ℕ). parsed text p (token-nodes (name-in text p) 0 0 c) (outcome c)) (w .first .is) (w .second .is)
     ∙ sym (ap (scanned text (codes text) (places text)) (w .scanned)))

@@ -24,9 +24,9 @@ use Rattle.grammar.proofs.Printing.{proper-usual}
 use Rattle.grammar.proofs.Grammar.{read-derives, derived-read}
 use Rattle.grammar.proofs.Limited.{big-over-limit, whole-none-big}
 use Rattle.grammar.proofs.LimitedTrees.{fits-none-big, none-big-fits}
-use Rattle.rules.specs.Heads.{heads, name-in}
-use Rattle.rules.proofs.Trees.{flow-heads}
-use Rattle.rules.proofs.Headed.{Agrees, tree-heads}
+use Rattle.rules.specs.TokenNodes.{token-nodes, name-in}
+use Rattle.rules.proofs.Trees.{flow-token-nodes}
+use Rattle.rules.proofs.NodesRead.{Agrees, tree-token-nodes}
 use Rattle.reader.specs.Answers.{judged, read-of}
 use Rattle.reader.specs.Refused.{Clean, Derived}
 use Rattle.reader.proofs.Scans.{clean-scan}
@@ -89,15 +89,15 @@ name-agrees text j e = rw (zero-add j) (⊎-elim inside outside (cases (ltb j (l
     outside : ltb j (length (tokens text)) ≡ false → name-in text (places text) j ≡ getD (tokens text) j []
     outside q = absurd (nothing-worded (rw (List·getD-eq-default (tokens text) [] (ltb-false j (length (tokens text)) q)) at here))
 
-pub derived-heads : (text : List ℕ) (d : Flow) → Derives (tokens text) d → heads (name-in text (places text)) 0 0 (codes text) ≡ flow-heads d false 1 0 []
+pub derived-token-nodes : (text : List ℕ) (d : Flow) → Derives (tokens text) d → token-nodes (name-in text (places text)) 0 0 (codes text) ≡ flow-token-nodes d false 1 0 []
 unfolding codes
-derived-heads text d g =
-    ap (λ (ts : List Name). heads (name-in text (places text)) 0 0 (map code ts)) (g .told)
-    ∙ tree-heads d (g .proper) (name-in text (places text)) (subst (Agrees (name-in text (places text)) 0) (g .told) (name-agrees text))
+derived-token-nodes text d g =
+    ap (λ (ts : List Name). token-nodes (name-in text (places text)) 0 0 (map code ts)) (g .told)
+    ∙ tree-token-nodes d (g .proper) (name-in text (places text)) (subst (Agrees (name-in text (places text)) 0) (g .told) (name-agrees text))
 
 -- What reading answers where a diagram within the limits derives the text.
-pub derived-answer : (text : List ℕ) (d : Flow) → Derived text d → read-of text ≡ judged (places text) (flow-heads d false 1 0 []) (tree-verdict (places text) d)
+pub derived-answer : (text : List ℕ) (d : Flow) → Derived text d → read-of text ≡ judged (places text) (flow-token-nodes d false 1 0 []) (tree-verdict (places text) d)
 unfolding read-of
 derived-answer text d g =
     let n = derived-outcome text d g in
-    rw (clean-scan text (derived-clean text d g), n .1, derived-heads text d (g .derives), tree-judged (places text) d)
+    rw (clean-scan text (derived-clean text d g), n .1, derived-token-nodes text d (g .derives), tree-judged (places text) d)

@@ -12,11 +12,11 @@ use Rattle.diagram.specs.Count.{flow-copies, flow-events}
 use Rattle.base.proofs.Truth.{cases}
 use Rattle.rules.specs.Counted.{capped}
 use Rattle.rules.specs.Judged.{refuse, counted, verdict}
-use Rattle.rules.specs.Sites.{Site, flow-sites, first-twice, first-broken}
+use Rattle.rules.specs.PlacedNodes.{PlacedNode, flow-placed-nodes, first-twice, first-broken}
 use Rattle.rules.specs.declared.Found.{Found}
 use Rattle.rules.specs.declared.Verdict.{Verdict}
 use Rattle.rules.specs.declared.Verdict.the-variants.{Kept, Refused}
-use Rattle.rules.proofs.Trees.{flow-heads}
+use Rattle.rules.proofs.Trees.{flow-token-nodes}
 use Rattle.rules.proofs.NamesPlaced.{names-placed}
 use Rattle.rules.proofs.ParametersPlaced.{parameters-placed}
 use Rattle.rules.proofs.SolidsPlaced.{solids-placed}
@@ -24,20 +24,20 @@ use Rattle.rules.proofs.StrongsPlaced.{strongs-placed}
 use Rattle.rules.proofs.Totals.{copies-counted, events-counted}
 
 -- Where each rule is broken first.
-abbrev pub sites : Flow → List Site
-sites d = flow-sites d [] 1 0 []
+abbrev pub placed-nodes : Flow → List PlacedNode
+placed-nodes d = flow-placed-nodes d [] 1 0 []
 
 abbrev pub twice : Flow → Found
-twice d = first-twice [] (sites d)
+twice d = first-twice [] (placed-nodes d)
 
 abbrev pub misplaced : Flow → Found
-misplaced d = first-broken (λ s. s .parameters) (sites d)
+misplaced d = first-broken (λ s. s .parameters) (placed-nodes d)
 
 abbrev pub unsolid : Flow → Found
-unsolid d = first-broken (λ s. s .solids) (sites d)
+unsolid d = first-broken (λ s. s .solids) (placed-nodes d)
 
 abbrev pub weak : Flow → Found
-weak d = first-broken (λ s. s .strongs) (sites d)
+weak d = first-broken (λ s. s .strongs) (placed-nodes d)
 
 abbrev pub tree-verdict : List ℕ → Flow → Verdict
 tree-verdict places d =
@@ -46,7 +46,7 @@ tree-verdict places d =
     (refuse 9 0 places (unsolid d)
     (refuse 10 0 places (weak d) (counted (capped (flow-copies d)) (capped (flow-events d))))))
 
-pub tree-judged : (places : List ℕ) (d : Flow) → verdict places (flow-heads d false 1 0 []) ≡ tree-verdict places d
+pub tree-judged : (places : List ℕ) (d : Flow) → verdict places (flow-token-nodes d false 1 0 []) ≡ tree-verdict places d
 unfolding verdict
 tree-judged places d =
     rw (names-placed d, parameters-placed d, solids-placed d, strongs-placed d, copies-counted d, events-counted d)

@@ -13,21 +13,21 @@ use Rattle.lexer.specs.declared.Scan.the-variants.{Tokens, Refused as Unscanned
 use Rattle.grammar.specs.Machine.{Outcome, whole, stop, outcome}
 use Rattle.parser.specs.declared.Step.{Step}
 use Rattle.parser.specs.declared.Step.the-variants.{Go, Stop}
-use Rattle.rules.specs.Heads.{Head, heads, name-in}
+use Rattle.rules.specs.TokenNodes.{TokenNode, token-nodes, name-in}
 use Rattle.rules.specs.Judged.{verdict}
 use Rattle.rules.specs.declared.Verdict.{Verdict}
 use Rattle.rules.specs.declared.Verdict.the-variants.{Kept, Refused as Unkept}
 use Rattle.reader.specs.Nodes.{stored}
 use Rattle.reader.specs.declared.Answer.{Answer}
 use Rattle.reader.specs.declared.Answer.the-variants.{Done, Refused}
-use Rattle.reader.specs.declared.Out.{Out}
+use Rattle.reader.specs.declared.ReadResult.{ReadResult}
 
 -- "A refused answer carries number and place, and all its counts are 0."
-abbrev pub away : Answer → Out
-away a = record { answer = a; diagram = blank-diagram }
+abbrev pub no-diagram : Answer → ReadResult
+no-diagram a = record { answer = a; diagram = blank-diagram }
 
-abbrev pub refused : ℕ → ℕ → Out
-refused number place = away (Refused number place)
+abbrev pub refused : ℕ → ℕ → ReadResult
+refused number place = no-diagram (Refused number place)
 
 -- The place of a token, or the text's length where the text ends.
 abbrev pub place-of : List ℕ → List ℕ → ℕ → ℕ
@@ -47,20 +47,20 @@ verdict-answer (Kept copies events) = Done
 verdict-answer (Unkept number place) = Refused number place
 
 -- Numbers 7 to 11, and the diagram.
-abbrev pub judged : List ℕ → List Head → Verdict → Out
+abbrev pub judged : List ℕ → List TokenNode → Verdict → ReadResult
 judged places hs (Unkept number place) = refused number place
 judged places hs (Kept copies events) = record { answer = Done; diagram = stored places hs copies events }
 
 -- Numbers 5 and 6, and those after them.
-abbrev pub parsed : List ℕ → List ℕ → List Head → Outcome → Out
+abbrev pub parsed : List ℕ → List ℕ → List TokenNode → Outcome → ReadResult
 parsed text places hs (stop number k) = refused number (place-of text places k)
 parsed text places hs (whole n) = judged places hs (verdict places hs)
 
 -- Numbers 2 to 4, and those after them.
-abbrev pub scanned : List ℕ → List ℕ → List ℕ → Scan → Out
+abbrev pub scanned : List ℕ → List ℕ → List ℕ → Scan → ReadResult
 scanned text codes places (Unscanned number place) = refused number place
-scanned text codes places (Tokens n) = parsed text places (heads (name-in text places) 0 0 codes) (outcome codes)
+scanned text codes places (Tokens n) = parsed text places (token-nodes (name-in text places) 0 0 codes) (outcome codes)
 
 -- What reading a text answers.
-unfoldable pub read-of : List ℕ → Out
+unfoldable pub read-of : List ℕ → ReadResult
 read-of text = scanned text (codes text) (places text) (scan-of text)

@@ -2,7 +2,7 @@ pub mod Nodes
 pub mod Answers
 pub mod Accepted
 pub mod Refused
-pub mod Views
+pub mod ShownNodes
 pub mod Places
 pub mod Bounds
 pub mod Reports

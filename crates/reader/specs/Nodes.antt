@@ -9,7 +9,7 @@ use Rattle.diagram.specs.declared.Kind.{Kind}
 use Rattle.diagram.specs.declared.Kind.the-variants.{Flow, Leaf, And, Or, Xor, All, Some, One, Loop}
 use Rattle.diagram.specs.declared.Node.{Node}
 use Rattle.diagram.specs.declared.Diagram.{Diagram}
-use Rattle.rules.specs.Heads.{Head, flowing, leafy, copying, strong-of}
+use Rattle.rules.specs.TokenNodes.{TokenNode, flowing, leafy, copying, strong-of}
 
 -- The kind for a keyword's number and a size.
 unfoldable pub kind-of : ℕ → ℕ → Kind
@@ -35,7 +35,7 @@ strong-flow cs = cond (flowing (getD cs 0 0)) (strong-of (drop 3 cs)) false
 unfoldable pub name-place : ℕ → List ℕ → ℕ → ℕ
 name-place c places key = cond (flowing c || (leafy c || copying c)) (getD places (key + 2) 0) 0
 
-unfoldable pub node-of : List ℕ → Head → Node
+unfoldable pub node-of : List ℕ → TokenNode → Node
 node-of places h = record {
   kind = kind-of (h .code) (h .size);
   solid = h .solid;
@@ -46,7 +46,7 @@ node-of places h = record {
 }
 
 -- The diagram that holds these nodes.
-unfoldable pub stored : List ℕ → List Head → ℕ → ℕ → Diagram
+unfoldable pub stored : List ℕ → List TokenNode → ℕ → ℕ → Diagram
 stored places hs copies events = record {
   nodes = map (node-of places) hs ++ replicate (256 - length hs) blank-node;
   count = length hs;

@@ -14,7 +14,7 @@ use Rattle.diagram.specs.Flows.{each-flow, solid, strong}
 use Rattle.lexer.specs.Classes.{foreign}
 use Rattle.lexer.specs.Spans.{tokens, places}
 use Rattle.grammar.specs.Derives.{Derives, Viable}
-use Rattle.rules.specs.Sites.{flow-sites, too-big, first-twice, first-broken}
+use Rattle.rules.specs.PlacedNodes.{flow-placed-nodes, too-big, first-twice, first-broken}
 use Rattle.rules.specs.declared.Found.the-variants.{At}
 use Rattle.reader.specs.Answers.{place-of}
 
@@ -61,7 +61,7 @@ pub record Off (text : List ℕ) (at : ℕ) : Type 0 where
   pub before : Derives (take token (tokens text) ++ rest) tree
   pub here : token < length (tokens text) → Viable (take (suc token) (tokens text)) → ⊥
   pub early : token ≡ length (tokens text) → (d : Flow) → Derives (tokens text) d → ⊥
-  pub small : (j : ℕ) → j < token → too-big 0 (flow-sites tree [] 1 0 []) j ≡ false
+  pub small : (j : ℕ) → j < token → too-big 0 (flow-placed-nodes tree [] 1 0 []) j ≡ false
   pub place : at ≡ place-of text (places text) token
 
 -- 6: "node 257, or a node at depth 13", at "its keyword": that of a node of a tree which derives the tokens up to here, with some rest. They
@@ -73,8 +73,8 @@ pub record Big (text : List ℕ) (at : ℕ) : Type 0 where
   pub tree : Flow
   pub rest : List Name
   pub viable : Derives (take (suc token) (tokens text) ++ rest) tree
-  pub here : too-big 0 (flow-sites tree [] 1 0 []) token ≡ true
-  pub first : (j : ℕ) → j < token → too-big 0 (flow-sites tree [] 1 0 []) j ≡ false
+  pub here : too-big 0 (flow-placed-nodes tree [] 1 0 []) token ≡ true
+  pub first : (j : ℕ) → j < token → too-big 0 (flow-placed-nodes tree [] 1 0 []) j ≡ false
   pub place : at ≡ place-of text (places text) token
 
 -- The text is not refused for its tokens: a diagram of at most 256 nodes and 12 depths derives it.
@@ -88,7 +88,7 @@ pub record Derived (text : List ℕ) (d : Flow) : Type 0 where
 pub record Twice (text : List ℕ) (at : ℕ) (d : Flow) : Type 0 where
   pub derived : Derived text d
   pub token : ℕ
-  pub here : first-twice [] (flow-sites d [] 1 0 []) ≡ At token
+  pub here : first-twice [] (flow-placed-nodes d [] 1 0 []) ≡ At token
   pub place : at ≡ getD (places text) (token + 2) 0
 
 -- 8: "a parameter rule broken", at the "keyword of the first such node".
@@ -96,7 +96,7 @@ pub record Misplaced (text : List ℕ) (at : ℕ) (d : Flow) : Type 0 where
   pub derived : Derived text d
   pub names : differ (flow-names d []) ≡ true
   pub token : ℕ
-  pub here : first-broken (λ s. s .parameters) (flow-sites d [] 1 0 []) ≡ At token
+  pub here : first-broken (λ s. s .parameters) (flow-placed-nodes d [] 1 0 []) ≡ At token
   pub place : at ≡ getD (places text) token 0
 
 -- 9: "solid child rule broken", at the "keyword of the first such flow".
@@ -105,7 +105,7 @@ pub record Unsolid (text : List ℕ) (at : ℕ) (d : Flow) : Type 0 where
   pub names : differ (flow-names d []) ≡ true
   pub parameters : flow-parameters d [] ≡ true
   pub token : ℕ
-  pub here : first-broken (λ s. s .solids) (flow-sites d [] 1 0 []) ≡ At token
+  pub here : first-broken (λ s. s .solids) (flow-placed-nodes d [] 1 0 []) ≡ At token
   pub place : at ≡ getD (places text) token 0
 
 -- 10: "sw 0", at the "keyword of the first such flow".
@@ -115,7 +115,7 @@ pub record Weak (text : List ℕ) (at : ℕ) (d : Flow) : Type 0 where
   pub parameters : flow-parameters d [] ≡ true
   pub solids : each-flow d solid ≡ true
   pub token : ℕ
-  pub here : first-broken (λ s. s .strongs) (flow-sites d [] 1 0 []) ≡ At token
+  pub here : first-broken (λ s. s .strongs) (flow-placed-nodes d [] 1 0 []) ≡ At token
   pub place : at ≡ getD (places text) token 0
 
 -- 11: "over 768 node copies or 512 events", at 0.
@@ -129,14 +129,14 @@ pub record Many (text : List ℕ) (at : ℕ) (d : Flow) : Type 0 where
   pub place : at ≡ 0
 
 -- A text is turned away with this number at this place.
-pub data Turned (text : List ℕ) (number at : ℕ) : Type 0 where
-  by-size : number ≡ 2 → Long text at → Turned text number at
-  by-byte : number ≡ 3 → Foreign text at → Turned text number at
-  by-word : number ≡ 4 → Wordy text at → Turned text number at
-  by-token : number ≡ 5 → Off text at → Turned text number at
-  by-limit : number ≡ 6 → Big text at → Turned text number at
-  by-name : number ≡ 7 → (d : Flow) → Twice text at d → Turned text number at
-  by-parameter : number ≡ 8 → (d : Flow) → Misplaced text at d → Turned text number at
-  by-solid : number ≡ 9 → (d : Flow) → Unsolid text at d → Turned text number at
-  by-strong : number ≡ 10 → (d : Flow) → Weak text at d → Turned text number at
-  by-count : number ≡ 11 → (d : Flow) → Many text at d → Turned text number at
+pub data RefusedAt (text : List ℕ) (number at : ℕ) : Type 0 where
+  by-size : number ≡ 2 → Long text at → RefusedAt text number at
+  by-byte : number ≡ 3 → Foreign text at → RefusedAt text number at
+  by-word : number ≡ 4 → Wordy text at → RefusedAt text number at
+  by-token : number ≡ 5 → Off text at → RefusedAt text number at
+  by-limit : number ≡ 6 → Big text at → RefusedAt text number at
+  by-name : number ≡ 7 → (d : Flow) → Twice text at d → RefusedAt text number at
+  by-parameter : number ≡ 8 → (d : Flow) → Misplaced text at d → RefusedAt text number at
+  by-solid : number ≡ 9 → (d : Flow) → Unsolid text at d → RefusedAt text number at
+  by-strong : number ≡ 10 → (d : Flow) → Weak text at d → RefusedAt text number at
+  by-count : number ≡ 11 → (d : Flow) → Many text at d → RefusedAt text number at

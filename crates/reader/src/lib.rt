@@ -2,11 +2,11 @@ ghost use mathlib.Core.Path.{_≡_};
 ghost use Prim.Native.Nat.{ℕ, _+_, _-_, _≤_};
 ghost use lib.ListN.{length, getD, drop};
 ghost use Rattle.diagram.specs.Tree.{Name};
-ghost use Rattle.rules.specs.Heads.{head, heads, by-columns, name-in};
+ghost use Rattle.rules.specs.TokenNodes.{token-node, token-nodes, by-columns, name-in};
 ghost use Rattle.grammar.specs.Machine.{outcome};
 ghost use Rattle.rules.specs.Judged.{verdict};
 ghost use Rattle.reader.specs.Nodes.{kind-of, size-of, strong-flow, name-place, node-of, stored};
-ghost use Rattle.reader.specs.Answers.{away, scan-answer, parse-answer, verdict-answer, place-of, judged as judged-of, parsed, read-of};
+ghost use Rattle.reader.specs.Answers.{no-diagram, scan-answer, parse-answer, verdict-answer, place-of, judged as judged-of, parsed, read-of};
 use diagram::Diagram;
 use diagram::Kind;
 use diagram::Node;
@@ -21,17 +21,17 @@ pub enum Answer {
 }
 
 // What reading answers. Where the text is refused, the diagram is empty and all counts are 0.
-pub struct Out {
+pub struct ReadResult {
     pub answer: Answer,
     pub diagram: Diagram,
 }
 
 // An answer that carries no diagram.
-fn turned_away(answer: Answer) -> Out
-    ensures { λ r. ⌜ r ≡ away answer ⌝ }
+fn no_diagram(answer: Answer) -> ReadResult
+    ensures { λ r. ⌜ r ≡ no-diagram answer ⌝ }
 {
     let diagram = diagram::empty();
-    Out { answer, diagram }
+    ReadResult { answer, diagram }
 }
 
 // The answer of a stage that refused.
@@ -151,7 +151,7 @@ fn name(codes: &[u8], starts: &[u16], key: usize) -> usize
 
 // The node whose keyword is the token `key`.
 fn node(codes: &[u8], starts: &[u16], key: usize, depth: usize) -> Node
-    ensures { λ r. ⌜ ((nm : ℕ → Name) → r ≡ node-of (now (starts .entry)) (head nm depth key (drop key (now (codes .entry))))) ⌝ }
+    ensures { λ r. ⌜ ((nm : ℕ → Name) → r ≡ node-of (now (starts .entry)) (token-node nm depth key (drop key (now (codes .entry))))) ⌝ }
 {
     let c = rules::token(codes, key, 0);
     let s = size(codes, key);
@@ -196,28 +196,28 @@ fn store(
 }
 
 // Numbers 7 to 11, and the diagram.
-fn judge(text: &[u8], codes: &[u8], starts: &[u16], keys: &[usize], depths: &[usize]) -> Out
+fn judge(text: &[u8], codes: &[u8], starts: &[u16], keys: &[usize], depths: &[usize]) -> ReadResult
     requires { ⌜ (length (now keys) ≤ 256) × (length (now depths) ≡ length (now keys)) ⌝ }
     ensures { λ r. ⌜ r ≡ judged-of (now (starts .entry)) (by-columns (name-in (now (text .entry)) (now (starts .entry))) (now (codes .entry)) (now (keys .entry)) (now (depths .entry))) (verdict (now (starts .entry)) (by-columns (name-in (now (text .entry)) (now (starts .entry))) (now (codes .entry)) (now (keys .entry)) (now (depths .entry)))) ⌝ }
 {
     let v = rules::judge(text, codes, starts, keys, depths);
     let Verdict::Kept(copies, events) = v else {
-        return turned_away(verdict_answer(v));
+        return no_diagram(verdict_answer(v));
     };
     let diagram = store(codes, starts, keys, depths, copies, events);
-    Out {
+    ReadResult {
         answer: Answer::Done,
         diagram,
     }
 }
 
 // Numbers 5 and 6, and those after them.
-fn read_tokens(text: &[u8], codes: &[u8], starts: &[u16]) -> Out
-    ensures { λ r. ⌜ r ≡ parsed (now (text .entry)) (now (starts .entry)) (heads (name-in (now (text .entry)) (now (starts .entry))) 0 0 (now (codes .entry))) (outcome (now (codes .entry))) ⌝ }
+fn read_tokens(text: &[u8], codes: &[u8], starts: &[u16]) -> ReadResult
+    ensures { λ r. ⌜ r ≡ parsed (now (text .entry)) (now (starts .entry)) (token-nodes (name-in (now (text .entry)) (now (starts .entry))) 0 0 (now (codes .entry))) (outcome (now (codes .entry))) ⌝ }
 {
     let s = parser::parse(codes);
     let Step::Go(_, _) = s else {
-        return turned_away(parse_answer(text, starts, s));
+        return no_diagram(parse_answer(text, starts, s));
     };
     let mut keys = [0usize; 256];
     let mut depths = [0usize; 256];
@@ -226,14 +226,14 @@ fn read_tokens(text: &[u8], codes: &[u8], starts: &[u16]) -> Out
 }
 
 // The diagram of a text, or the refusal: numbers 2 to 11, in this order over the whole text.
-pub fn read(text: &[u8]) -> Out
+pub fn read(text: &[u8]) -> ReadResult
     ensures { λ r. ⌜ r ≡ read-of (now (text .entry)) ⌝ }
 {
     let mut codes = [0u8; 16384];
     let mut starts = [0u16; 16384];
     let s = lexer::scan_text(text, &mut codes, &mut starts);
     let Scan::Tokens(count) = s else {
-        return turned_away(scan_answer(s));
+        return no_diagram(scan_answer(s));
     };
     read_tokens(text, &codes[..count], &starts[..count])
 }

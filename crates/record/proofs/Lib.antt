@@ -1,5 +1,5 @@
 pub mod Bits
-pub mod Beyond
+pub mod PastEvents
 pub mod Fields
 pub mod Bytes
-pub mod Back
+pub mod RoundTrip

@@ -8,17 +8,17 @@ use native.Mathlib.Omega.{arith}
 use lib.Dec.{ltb}
 use borrow.Author.Tests.{lt-ltb, le-ltb}
 use Rattle.diagram.specs.Tree.{Way, all, some, one}
-use Rattle.rules.specs.Heads.{Head, flowing, copying}
+use Rattle.rules.specs.TokenNodes.{TokenNode, flowing, copying}
 use Rattle.rules.specs.Kept.{around}
 use Rattle.rules.specs.Counted.{times}
 use Rattle.rules.proofs.Trees.{group-code, replicator-code}
 
 -- One node more, h, the nearest before: around a node deeper than h is h, with what is around h.
-pub record Nests {X : Type 0} (g : ℕ → List Head → X) (add : Head → X → X) : Type 0 where
-  pub past : (d : ℕ) (h : Head) (before : List Head) → ltb (h .depth) d ≡ false → g d (h ∷ before) ≡ g d before
-  pub inside : (d : ℕ) (h : Head) (before : List Head) → ltb (h .depth) d ≡ true → copying (h .code) ≡ false
+pub record Nests {X : Type 0} (g : ℕ → List TokenNode → X) (add : TokenNode → X → X) : Type 0 where
+  pub past : (d : ℕ) (h : TokenNode) (before : List TokenNode) → ltb (h .depth) d ≡ false → g d (h ∷ before) ≡ g d before
+  pub inside : (d : ℕ) (h : TokenNode) (before : List TokenNode) → ltb (h .depth) d ≡ true → copying (h .code) ≡ false
       → g d (h ∷ before) ≡ g (h .depth) before
-  pub copied : (d : ℕ) (h : Head) (before : List Head) → ltb (h .depth) d ≡ true → copying (h .code) ≡ true
+  pub copied : (d : ℕ) (h : TokenNode) (before : List TokenNode) → ltb (h .depth) d ≡ true → copying (h .code) ≡ true
       → g d (h ∷ before) ≡ add h (g (h .depth) before)
 
 pub pars-nest : Nests around (λ h a. h .name ∷ a)
@@ -37,19 +37,19 @@ copies-nest = record {
 }
 
 -- Nodes were passed that are of depth d or deeper: what is around a node that is no deeper is what it was.
-abbrev pub Same : {X : Type 0} → (ℕ → List Head → X) → ℕ → List Head → List Head → Type 0
+abbrev pub Same : {X : Type 0} → (ℕ → List TokenNode → X) → ℕ → List TokenNode → List TokenNode → Type 0
 Same g d before now = (i : ℕ) → i ≤ d → g i now ≡ g i before
 
-pub same-then : {X : Type 0} (g : ℕ → List Head → X) (d : ℕ) (a b c : List Head) → Same g d a b → Same g d b c → Same g d a c
+pub same-then : {X : Type 0} (g : ℕ → List TokenNode → X) (d : ℕ) (a b c : List TokenNode) → Same g d a b → Same g d b c → Same g d a c
 same-then g d a b c s t i l = t i l ∙ s i l
 
-module _ {X : Type 0} {g : ℕ → List Head → X} {add : Head → X → X} (N : Nests g add) (h : Head) (before : List Head) where
+module _ {X : Type 0} {g : ℕ → List TokenNode → X} {add : TokenNode → X → X} (N : Nests g add) (h : TokenNode) (before : List TokenNode) where
   -- the node itself was passed
   pub node-past : Same g (h .depth) before (h ∷ before)
   node-past i l = N .past i h before (le-ltb (h .depth) i l)
 
   -- and so were nodes under it
-  pub under-past : (now : List Head) → Same g (suc (h .depth)) (h ∷ before) now → Same g (h .depth) before now
+  pub under-past : (now : List TokenNode) → Same g (suc (h .depth)) (h ∷ before) now → Same g (h .depth) before now
   under-past now s i l = s i (omega arith) ∙ node-past i l
 
   -- a node under it

@@ -4,25 +4,25 @@ use mathlib.Core.Bool.{false}
 use mathlib.Core.List.{List, [], _∷_, map}
 use Prim.Native.Nat.{ℕ}
 use Rattle.diagram.specs.Tree.{Flow}
-use Rattle.rules.specs.Heads.{Head}
-use Rattle.rules.specs.Sites.{Site, flow-sites}
-use Rattle.rules.proofs.Trees.{flow-heads}
+use Rattle.rules.specs.TokenNodes.{TokenNode}
+use Rattle.rules.specs.PlacedNodes.{PlacedNode, flow-placed-nodes}
+use Rattle.rules.proofs.Trees.{flow-token-nodes}
 use Rattle.rules.proofs.NamesAlong.{flow-key, Kinds, along}
 
-abbrev pub head-keys : List Head → List ℕ
-head-keys hs = map (λ (h : Head). h .key) hs
+abbrev pub token-node-keys : List TokenNode → List ℕ
+token-node-keys hs = map (λ (h : TokenNode). h .key) hs
 
-abbrev pub site-keys : List Site → List ℕ
-site-keys ss = map (λ (s : Site). s .key) ss
+abbrev pub placed-node-keys : List PlacedNode → List ℕ
+placed-node-keys ss = map (λ (s : PlacedNode). s .key) ss
 
-Placed : List Head → List Site → Type 0
-Placed hs ss = head-keys hs ≡ site-keys ss
+Placed : List TokenNode → List PlacedNode → Type 0
+Placed hs ss = token-node-keys hs ≡ placed-node-keys ss
 
 placed-none : Placed [] []
 unfolding Placed
 placed-none = refl
 
-placed-node : (h : Head) (s : Site) (hs : List Head) (ss : List Site) → h .key ≡ s .key → Placed hs ss → Placed (h ∷ hs) (s ∷ ss)
+placed-node : (h : TokenNode) (s : PlacedNode) (hs : List TokenNode) (ss : List PlacedNode) → h .key ≡ s .key → Placed hs ss → Placed (h ∷ hs) (s ∷ ss)
 unfolding Placed
 placed-node h s hs ss e p = ap₂ (λ (k : ℕ) (ks : List ℕ). k ∷ ks) e p
 
@@ -34,6 +34,6 @@ placed-kinds = record {
   at-flow = λ f b d k around hs ss e. placed-node _ _ _ ss (flow-key f b d k around);
 }
 
-pub keys-placed : (d : Flow) → head-keys (flow-heads d false 1 0 []) ≡ site-keys (flow-sites d [] 1 0 [])
+pub keys-placed : (d : Flow) → token-node-keys (flow-token-nodes d false 1 0 []) ≡ placed-node-keys (flow-placed-nodes d [] 1 0 [])
 unfolding Placed
 keys-placed d = along Placed placed-kinds d

@@ -9,7 +9,7 @@ use lib.Dec.{ltb}
 use lib.ListN.{length, getD}
 use borrow.Author.Tests.{lt-ltb, ltb-true}
 use Rattle.diagram.specs.Tree.{Name}
-use Rattle.rules.specs.Heads.{Head, by-columns}
+use Rattle.rules.specs.TokenNodes.{TokenNode, by-columns}
 use Rattle.rules.specs.Counted.{times, total, capped}
 use Rattle.rules.specs.Columns.{node, before, from}
 use Rattle.rules.proofs.LawsNodes.{before-more, node-depth, from-here, from-past}
@@ -54,7 +54,7 @@ sum-step n t r m p =
     let b : t + (n + r) ≡ n + (t + r) = omega arith in
     rw (p, capped-sum (n + capped t) r, a, capped-sum t (n + r), b)
 
-module _ (counted : Head → List Head → Bool) (nm : ℕ → Name) (cs ks ds : List ℕ) (end : ℕ) (q : end ≡ length (by-columns nm cs ks ds)) (i : ℕ) where
+module _ (counted : TokenNode → List TokenNode → Bool) (nm : ℕ → Name) (cs ks ds : List ℕ) (end : ℕ) (q : end ≡ length (by-columns nm cs ks ds)) (i : ℕ) where
   pub total-end : end ≤ i → total counted (before (node nm cs ks ds) i) (from nm cs ks ds i) ≡ 0
   unfolding total
   total-end h = rw (from-past nm cs ks ds end q i h)

@@ -3,7 +3,7 @@ use mathlib.Core.Path.{_≡_}
 use mathlib.Core.List.{List, []}
 use Prim.Native.Nat.{ℕ, _≤_, _<_}
 use borrow.Author.Tests.{lt-ltb, le-ltb}
-use Rattle.rules.specs.Heads.{Head}
+use Rattle.rules.specs.TokenNodes.{TokenNode}
 use Rattle.rules.specs.Kept.{names-kept, parameters-kept, solids-kept, strongs-kept, fault}
 use Rattle.rules.specs.Counted.{any-node, eventful, total, capped}
 use Rattle.rules.specs.Judged.{refuse, verdict}
@@ -12,7 +12,7 @@ use Rattle.rules.specs.declared.Found.the-variants.{At, Nothing}
 use Rattle.rules.specs.declared.Verdict.the-variants.{Kept, Refused}
 
 -- The first fault is passed on as the refusal.
-module _ (places : List ℕ) (hs : List Head) (f : Found) (k : ℕ) (at : f ≡ At k) where
+module _ (places : List ℕ) (hs : List TokenNode) (f : Found) (k : ℕ) (at : f ≡ At k) where
   pub refused-7 : f ≡ fault names-kept [] hs → refuse 7 2 places f (Kept 0 0) ≡ verdict places hs
   unfolding verdict
   refused-7 e = rw (← e, at)
@@ -33,7 +33,7 @@ module _ (places : List ℕ) (hs : List Head) (f : Found) (k : ℕ) (at : f ≡ 
         refused-10 e = rw (names, parameters, solids, ← e, at)
 
 -- Where no node breaks a rule the counts decide.
-module _ (places : List ℕ) (hs : List Head) (names : fault names-kept [] hs ≡ Nothing) (parameters : fault parameters-kept [] hs ≡ Nothing)
+module _ (places : List ℕ) (hs : List TokenNode) (names : fault names-kept [] hs ≡ Nothing) (parameters : fault parameters-kept [] hs ≡ Nothing)
     (solids : fault solids-kept [] hs ≡ Nothing) (strongs : fault strongs-kept [] hs ≡ Nothing)
     (c e : ℕ) (p : c ≡ capped (total any-node [] hs)) (q : e ≡ capped (total eventful [] hs)) where
   pub copies-over : 768 < c → verdict places hs ≡ Refused 11 0

@@ -13,7 +13,7 @@ use Rattle.diagram.proofs.Equal.{same-decides}
 use Rattle.base.proofs.Truth.{and-l, and-r, is-false}
 use Rattle.lexer.specs.Words.{word-at}
 use Rattle.lexer.proofs.Alike.{zero-none, some-on}
-use Rattle.rules.specs.Heads.{name-in}
+use Rattle.rules.specs.TokenNodes.{name-in}
 use Rattle.rules.specs.Kept.{titled, unheard}
 use Rattle.rules.specs.Columns.{node, earlier, name-at}
 use Rattle.rules.specs.Marks.{mark-on, marked, differing}

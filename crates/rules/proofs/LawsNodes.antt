@@ -13,80 +13,80 @@ use borrow.Author.Tests.{ne-eqb, lt-ltb, le-ltb, le-leb, lt-leb}
 use Rattle.diagram.specs.Tree.{Name}
 use Rattle.diagram.specs.Names.{equal, same, new}
 use Rattle.lexer.specs.Classes.{between}
-use Rattle.rules.specs.Heads.{Head, flowing, leafy, copying, solid-of, pars-back, head, by-columns}
+use Rattle.rules.specs.TokenNodes.{TokenNode, flowing, leafy, copying, solid-of, pars-back, token-node, by-columns}
 use Rattle.rules.specs.Kept.{titled, unheard, around, solids, may-be-solid, one-of, fault}
 use Rattle.rules.specs.Counted.{times}
 use Rattle.rules.specs.Columns.{node, before, from, nearest, next-solid}
 use Rattle.rules.specs.declared.Found.the-variants.{At, Nothing}
 use Rattle.rules.proofs.LawsTokens.{first-token}
 
-pub before-cons : (at : ℕ → Head) (j : ℕ) → 0 < j → before at j ≡ at (j - 1) ∷ before at (j - 1)
+pub before-cons : (at : ℕ → TokenNode) (j : ℕ) → 0 < j → before at j ≡ at (j - 1) ∷ before at (j - 1)
 unfolding before
 before-cons at zero h = let z : ⊥ = omega arith in absurd z
 before-cons at (suc j) h = let e : suc j - 1 ≡ j = omega arith in rw e
 
-pub before-more : (at : ℕ → Head) (j : ℕ) → before at (j + 1) ≡ at j ∷ before at j
+pub before-more : (at : ℕ → TokenNode) (j : ℕ) → before at (j + 1) ≡ at j ∷ before at j
 unfolding before
 before-more at j = rw (add-one j)
 
-pub before-none : (at : ℕ → Head) (j : ℕ) → j ≤ 0 → before at j ≡ []
+pub before-none : (at : ℕ → TokenNode) (j : ℕ) → j ≤ 0 → before at j ≡ []
 unfolding before
 before-none at j h = let e : j ≡ 0 = omega arith in rw e
 
 -- What a list of nodes gives by its first one.
-abbrev pub first-of : {A : Type 0} → A → (Head → List Head → A) → List Head → A
+abbrev pub first-of : {A : Type 0} → A → (TokenNode → List TokenNode → A) → List TokenNode → A
 first-of a f [] = a
 first-of a f (h ∷ hs) = f h hs
 
 -- What is gathered from the replicators around a node is gathered from the nearest one and those around it.
-module _ {A : Type 0} (a : A) (g : Head → A → A) (F : ℕ → List Head → A)
+module _ {A : Type 0} (a : A) (g : TokenNode → A → A) (F : ℕ → List TokenNode → A)
     (none : (d : ℕ) → F d [] ≡ a)
-    (more : (d : ℕ) (h : Head) (hs : List Head) → F d (h ∷ hs) ≡ cond (ltb (h .depth) d) (cond (copying (h .code)) (g h (F (h .depth) hs)) (F (h .depth) hs)) (F d hs)) where
-  turn : (h : Head) (hs u v : List Head) (x y : Bool)
+    (more : (d : ℕ) (h : TokenNode) (hs : List TokenNode) → F d (h ∷ hs) ≡ cond (ltb (h .depth) d) (cond (copying (h .code)) (g h (F (h .depth) hs)) (F (h .depth) hs)) (F d hs)) where
+  turn : (h : TokenNode) (hs u v : List TokenNode) (x y : Bool)
       → F (h .depth) hs ≡ first-of a (λ h hs. g h (F (h .depth) hs)) u → (e : A) → e ≡ first-of a (λ h hs. g h (F (h .depth) hs)) v
       → cond x (cond y (g h (F (h .depth) hs)) (F (h .depth) hs)) e ≡ first-of a (λ h hs. g h (F (h .depth) hs)) (cond x (cond y (h ∷ hs) u) v)
   turn h hs u v true true p e q = refl
   turn h hs u v true false p e q = p
   turn h hs u v false y p e q = q
 
-  pub by-nearest : (hs : List Head) (d : ℕ) → F d hs ≡ first-of a (λ h hs. g h (F (h .depth) hs)) (nearest d hs)
+  pub by-nearest : (hs : List TokenNode) (d : ℕ) → F d hs ≡ first-of a (λ h hs. g h (F (h .depth) hs)) (nearest d hs)
   unfolding nearest
   by-nearest [] d = none d
   by-nearest (h ∷ hs) d =
       more d h hs
       ∙ turn h hs (nearest (h .depth) hs) (nearest d hs) (ltb (h .depth) d) (copying (h .code)) (by-nearest hs (h .depth)) (F d hs) (by-nearest hs d)
 
-abbrev pub around-of : List Head → List Name
+abbrev pub around-of : List TokenNode → List Name
 around-of = first-of [] (λ h hs. h .name ∷ around (h .depth) hs)
 
-pub around-nearest : (d : ℕ) (hs : List Head) → around d hs ≡ around-of (nearest d hs)
+pub around-nearest : (d : ℕ) (hs : List TokenNode) → around d hs ≡ around-of (nearest d hs)
 around-nearest d hs = by-nearest [] (λ h ns. h .name ∷ ns) around (λ d. refl) (λ d h hs. refl) hs d
 
-abbrev pub times-of : List Head → ℕ
+abbrev pub times-of : List TokenNode → ℕ
 times-of = first-of 1 (λ h hs. h .size * times (h .depth) hs)
 
-pub times-nearest : (d : ℕ) (hs : List Head) → times d hs ≡ times-of (nearest d hs)
+pub times-nearest : (d : ℕ) (hs : List TokenNode) → times d hs ≡ times-of (nearest d hs)
 unfolding times
 times-nearest d hs = by-nearest 1 (λ h n. h .size * n) times (λ d. refl) (λ d h hs. refl) hs d
 
 -- The first node, where there is one, is a replicator.
-abbrev pub Copying : List Head → Type 0
+abbrev pub Copying : List TokenNode → Type 0
 Copying [] = Unit {0}
 Copying (h ∷ hs) = copying (h .code) ≡ true
 
-copying-turn : (h : Head) (hs u v : List Head) (x y : Bool) → copying (h .code) ≡ y → Copying u → Copying v → Copying (cond x (cond y (h ∷ hs) u) v)
+copying-turn : (h : TokenNode) (hs u v : List TokenNode) (x y : Bool) → copying (h .code) ≡ y → Copying u → Copying v → Copying (cond x (cond y (h ∷ hs) u) v)
 copying-turn h hs u v true true e p q = e
 copying-turn h hs u v true false e p q = p
 copying-turn h hs u v false y e p q = q
 
-pub nearest-copying : (hs : List Head) (d : ℕ) → Copying (nearest d hs)
+pub nearest-copying : (hs : List TokenNode) (d : ℕ) → Copying (nearest d hs)
 unfolding nearest
 nearest-copying [] d = tt
 nearest-copying (h ∷ hs) d =
     copying-turn h hs (nearest (h .depth) hs) (nearest d hs) (ltb (h .depth) d) (copying (h .code)) refl (nearest-copying hs (h .depth)) (nearest-copying hs d)
 
 -- From the nearest replicator on.
-module _ (d : ℕ) (hs l : List Head) (e : l ≡ nearest d hs) where
+module _ (d : ℕ) (hs l : List TokenNode) (e : l ≡ nearest d hs) where
   pub around-start : around d hs ≡ around-of l
   around-start = rw e (around-nearest d hs)
 
@@ -97,16 +97,16 @@ module _ (d : ℕ) (hs l : List Head) (e : l ≡ nearest d hs) where
   copying-start = rw e (nearest-copying hs d)
 
 -- A flow's solid children are the next one and those after it.
-abbrev pub solids-of : ℕ → List Head → List ℕ
+abbrev pub solids-of : ℕ → List TokenNode → List ℕ
 solids-of d = first-of [] (λ h hs. h .code ∷ solids d hs)
 
-solids-turn : (d : ℕ) (h : Head) (hs u : List Head) (x y : Bool) → solids d hs ≡ solids-of d u
+solids-turn : (d : ℕ) (h : TokenNode) (hs u : List TokenNode) (x y : Bool) → solids d hs ≡ solids-of d u
     → cond x [] (cond y (h .code ∷ solids d hs) (solids d hs)) ≡ solids-of d (cond x [] (cond y (h ∷ hs) u))
 solids-turn d h hs u true y p = refl
 solids-turn d h hs u false true p = refl
 solids-turn d h hs u false false p = p
 
-pub solids-next : (d : ℕ) (hs : List Head) → solids d hs ≡ solids-of d (next-solid d hs)
+pub solids-next : (d : ℕ) (hs : List TokenNode) → solids d hs ≡ solids-of d (next-solid d hs)
 unfolding next-solid
 solids-next d [] = refl
 solids-next d (h ∷ hs) =
@@ -114,16 +114,16 @@ solids-next d (h ∷ hs) =
 
 module _ (nm : ℕ → Name) (cs ks ds : List ℕ) where
   pub node-code : (i : ℕ) → node nm cs ks ds i .code ≡ getD cs (getD ks i 0) 0
-  unfolding head
+  unfolding token-node
   node-code i = first-token cs (getD ks i 0)
 
   pub node-depth : (i : ℕ) → node nm cs ks ds i .depth ≡ getD ds i 0
-  unfolding head
+  unfolding token-node
   node-depth i = refl
 
   -- A leaf, a flow and a replicator have their name two tokens after the keyword.
   pub titled-name : (i : ℕ) → titled (node nm cs ks ds i) ≡ true → node nm cs ks ds i .name ≡ nm (getD ks i 0 + 2)
-  unfolding head
+  unfolding token-node
   titled-name i = named (flowing (getD (drop (getD ks i 0) cs) 0 0)) (leafy (getD (drop (getD ks i 0) cs) 0 0)) (copying (getD (drop (getD ks i 0) cs) 0 0)) (nm (getD ks i 0 + 2))
     where
       named : (a b e : Bool) (n : Name) → (a || b) ≡ true → cond (a || (b || e)) n [] ≡ n
@@ -132,7 +132,7 @@ module _ (nm : ℕ → Name) (cs ks ds : List ℕ) where
       named false false e n q = absurd (false≢true q)
 
   pub copying-name : (i : ℕ) → copying (node nm cs ks ds i .code) ≡ true → node nm cs ks ds i .name ≡ nm (getD ks i 0 + 2)
-  unfolding head
+  unfolding token-node
   copying-name i = named (flowing (getD (drop (getD ks i 0) cs) 0 0)) (leafy (getD (drop (getD ks i 0) cs) 0 0)) (copying (getD (drop (getD ks i 0) cs) 0 0)) (nm (getD ks i 0 + 2))
     where
       named : (a b e : Bool) (n : Name) → e ≡ true → cond (a || (b || e)) n [] ≡ n
@@ -206,7 +206,7 @@ module _ (nm : ℕ → Name) (cs ks ds : List ℕ) (j : ℕ) (up : 0 < j) where
     around-first = rw (before-cons (node nm cs ks ds) j up, copying-name nm cs ks ds (j - 1) copies, node-depth nm cs ks ds (j - 1))
 
     sized : node nm cs ks ds (j - 1) .size ≡ getD cs (getD ks (j - 1) 0 + 4) 0 - 16
-    unfolding head
+    unfolding token-node
     sized = rw (copies, getD-drop (getD ks (j - 1) 0) cs 4 0)
 
     pub times-first : times-of (before (node nm cs ks ds) j) ≡ (getD cs (getD ks (j - 1) 0 + 4) 0 - 16) * times (getD ds (j - 1) 0) (before (node nm cs ks ds) (j - 1))
@@ -287,11 +287,11 @@ module _ (nm : ℕ → Name) (cs ks ds : List ℕ) (end : ℕ) (q : end ≡ leng
   from-past h = from-end nm cs ks ds i (omega arith)
 
   node-solid : node nm cs ks ds i .solid ≡ solid-of (drop (getD ks i 0) cs)
-  unfolding head
+  unfolding token-node
   node-solid = refl
 
   node-key : node nm cs ks ds i .key ≡ getD ks i 0
-  unfolding head
+  unfolding token-node
   node-key = refl
 
   -- The next solid child of a flow of depth d.
@@ -316,7 +316,7 @@ module _ (nm : ℕ → Name) (cs ks ds : List ℕ) (end : ℕ) (q : end ≡ leng
       solid-later l e = rw (from-here h, node-depth nm cs ks ds i, node-solid, lt-leb (getD ds i 0) d l, e)
 
   -- The first node that breaks a rule.
-  module _ (kept : List Head → Head → List Head → Bool) where
+  module _ (kept : List TokenNode → TokenNode → List TokenNode → Bool) where
     pub fault-end : end ≤ i → fault kept (before (node nm cs ks ds) i) (from nm cs ks ds i) ≡ Nothing
     unfolding fault
     fault-end h = rw (from-past h)

@@ -11,7 +11,7 @@ use Rattle.diagram.specs.Tree.{Name}
 use Rattle.diagram.specs.Names.{equal, same, new}
 use Rattle.base.proofs.Truth.{and-l}
 use Rattle.lexer.specs.Classes.{between}
-use Rattle.rules.specs.Heads.{Head, par-count, strong-of, pars-back, head, by-columns}
+use Rattle.rules.specs.TokenNodes.{TokenNode, par-count, strong-of, pars-back, token-node, by-columns}
 use Rattle.rules.specs.Kept.{titled, unheard, names-kept, parameters-kept, solids, one-of, solids-kept, strongs-kept}
 use Rattle.rules.specs.Counted.{eventful}
 use Rattle.rules.specs.Columns.{node, from, earlier, around-at}
@@ -24,7 +24,7 @@ and-true false = refl
 
 module _ (nm : ℕ → Name) (cs ks ds : List ℕ) (i : ℕ) where
   -- Number 7.
-  module _ (hs after : List Head) where
+  module _ (hs after : List TokenNode) where
     pub names-titled : titled (node nm cs ks ds i) ≡ true → names-kept hs (node nm cs ks ds i) after ≡ unheard (nm (getD ks i 0 + 2)) hs
     names-titled e = rw (e, titled-name nm cs ks ds i e)
 
@@ -47,7 +47,7 @@ module _ (nm : ℕ → Name) (cs ks ds : List ℕ) (i : ℕ) where
         (and-true _)
 
     pars-named : getD cs (getD ks i 0) 0 ≡ 7 → node nm cs ks ds i .pars ≡ pars-back nm (getD ks i 0 + 4) (par-count (drop 3 (drop (getD ks i 0) cs)))
-    unfolding head
+    unfolding token-node
     pars-named e = rw (first-token cs (getD ks i 0), e)
 
     pub parameters-flow : getD cs (getD ks i 0) 0 ≡ 7
@@ -62,12 +62,12 @@ module _ (nm : ℕ → Name) (cs ks ds : List ℕ) (i : ℕ) where
         rw (node-depth nm cs ks ds i, le-leb (length (around-at nm cs ks ds i)) 3 few, node-code nm cs ks ds i, e, ne-eqb (getD cs (getD ks i 0) 0) 7 f)
 
   -- Numbers 9 and 10.
-  module _ (hs after : List Head) where
+  module _ (hs after : List TokenNode) where
     pub flow-solids : getD cs (getD ks i 0) 0 ≡ 7 → solids-kept hs (node nm cs ks ds i) after ≡ one-of (solids (getD ds i 0) after)
     flow-solids e = rw (node-code nm cs ks ds i, e, node-depth nm cs ks ds i)
 
     is-strong : getD cs (getD ks i 0) 0 ≡ 7 → node nm cs ks ds i .strong ≡ strong-of (drop 3 (drop (getD ks i 0) cs))
-    unfolding head
+    unfolding token-node
     is-strong e = rw (first-token cs (getD ks i 0), e)
 
     pub flow-strong : getD cs (getD ks i 0) 0 ≡ 7 → strongs-kept hs (node nm cs ks ds i) after ≡ strong-of (drop 3 (drop (getD ks i 0) cs))
@@ -78,10 +78,10 @@ module _ (nm : ℕ → Name) (cs ks ds : List ℕ) (i : ℕ) where
     flow-only f false = rw (node-code nm cs ks ds i, ne-eqb (getD cs (getD ks i 0) 0) 7 f)
 
   -- Events.
-  pub event-leaf : getD cs (getD ks i 0) 0 ≡ 8 → (after : List Head) → eventful (node nm cs ks ds i) after ≡ true
+  pub event-leaf : getD cs (getD ks i 0) 0 ≡ 8 → (after : List TokenNode) → eventful (node nm cs ks ds i) after ≡ true
   event-leaf e after = rw (node-code nm cs ks ds i, e)
 
-  pub event-none : (getD cs (getD ks i 0) 0 ≡ 8 → ⊥) → (getD cs (getD ks i 0) 0 ≡ 15 → ⊥) → (after : List Head) → eventful (node nm cs ks ds i) after ≡ false
+  pub event-none : (getD cs (getD ks i 0) 0 ≡ 8 → ⊥) → (getD cs (getD ks i 0) 0 ≡ 15 → ⊥) → (after : List TokenNode) → eventful (node nm cs ks ds i) after ≡ false
   event-none f g after = rw (node-code nm cs ks ds i, ne-eqb (getD cs (getD ks i 0) 0) 8 f, ne-eqb (getD cs (getD ks i 0) 0) 15 g)
 
   module _ (e : getD cs (getD ks i 0) 0 ≡ 15) (end : ℕ) (q : end ≡ length (by-columns nm cs ks ds)) where

@@ -12,7 +12,7 @@ use lib.Seq.{drop-cons, drop-drop, getD-drop}
 use borrow.Author.Tests.{ne-eqb, le-leb, lt-leb}
 use Rattle.lexer.specs.Classes.{between}
 use Rattle.base.specs.Fill.{fill}
-use Rattle.rules.specs.Heads.{flowing, copying, reach, extent, solid-of, par-count, strong-of, opened, keys, depths}
+use Rattle.rules.specs.TokenNodes.{flowing, copying, reach, extent, solid-of, par-count, strong-of, opened, keys, depths}
 
 pub past-end : (l : List ℕ) (n : ℕ) → length l ≤ n → 0 ≡ getD l n 0
 past-end l n h = sym (List·getD-eq-default l 0 h)

@@ -16,10 +16,10 @@ pub mod SolidsKept
 pub mod StrongsPlaced
 pub mod StrongsKept
 mod LawsNodes
-pub mod HeadedTokens
-pub mod HeadedReach
-pub mod Headed
-pub mod HeadedColumns
+pub mod NodeTokens
+pub mod NodeReach
+pub mod NodesRead
+pub mod NodesByColumns
 mod LawsRules
 mod LawsCounted
 mod LawsJudged

@@ -8,13 +8,13 @@ use Rattle.diagram.specs.Tree.{Name, Flow, flow, Children, none, next, Child, p
 use Rattle.diagram.specs.Names.{same, new, differ, flow-names, children-names, child-names, member-names, members-names}
 use Rattle.base.proofs.Truth.{agree}
 use Rattle.diagram.proofs.Equal.{same-decides}
-use Rattle.rules.specs.Heads.{Head}
+use Rattle.rules.specs.TokenNodes.{TokenNode}
 use Rattle.rules.specs.Kept.{titled, names-kept, fault}
-use Rattle.rules.specs.Sites.{all-new, first-twice, flow-sites}
+use Rattle.rules.specs.PlacedNodes.{all-new, first-twice, flow-placed-nodes}
 use Rattle.rules.specs.declared.Found.{Found}
 use Rattle.rules.specs.declared.Found.the-variants.{At, Nothing}
-use Rattle.rules.proofs.Trees.{group-code, simple, flow-heads, children-heads, child-heads, member-heads, members-heads}
-use Rattle.rules.proofs.NamesAlong.{flow-head, group-untitled, replicator-head, replicator-untitled}
+use Rattle.rules.proofs.Trees.{group-code, simple, flow-token-nodes, children-token-nodes, child-token-nodes, member-token-nodes, members-token-nodes}
+use Rattle.rules.proofs.NamesAlong.{flow-token-node, group-untitled, replicator-token-node, replicator-untitled}
 use Rattle.rules.proofs.NamesPlaced.{heard, passes, names-placed}
 
 -- Whether no node breaks a rule, as a test.
@@ -64,7 +64,7 @@ clean-step true n ns seen =
     (sym (and-assoc (new n seen) (all-new ns seen) (new n ns && differ ns)))
 clean-step false n ns seen = refl
 
-clean-names : (hs before : List Head) → clean (fault names-kept before hs) ≡ (all-new (heard hs) (heard before) && differ (heard hs))
+clean-names : (hs before : List TokenNode) → clean (fault names-kept before hs) ≡ (all-new (heard hs) (heard before) && differ (heard hs))
 unfolding fault
 clean-names [] before = refl
 clean-names (h ∷ hs) before =
@@ -72,47 +72,47 @@ clean-names (h ∷ hs) before =
     (clean-step (titled h) (h .name) (heard hs) (heard before))
 
 -- The nodes' names are the tree's.
-record Says (hs : List Head) (ns : List Name) : Type 0 where
+record Says (hs : List TokenNode) (ns : List Name) : Type 0 where
   told : heard hs ≡ ns
 
-says-own : (h : Head) {hs : List Head} {ns : List Name} → titled h ≡ true → Says hs ns → Says (h ∷ hs) (h .name ∷ ns)
+says-own : (h : TokenNode) {hs : List TokenNode} {ns : List Name} → titled h ≡ true → Says hs ns → Says (h ∷ hs) (h .name ∷ ns)
 says-own h e s = record { told = rw (e, s .told) }
 
-says-untitled : (h : Head) {hs : List Head} {ns : List Name} → titled h ≡ false → Says hs ns → Says (h ∷ hs) ns
+says-untitled : (h : TokenNode) {hs : List TokenNode} {ns : List Name} → titled h ≡ false → Says hs ns → Says (h ∷ hs) ns
 says-untitled h e s = record { told = rw (e, s .told) }
 
 mutual
-  unfolding flow-heads flow-names
+  unfolding flow-token-nodes flow-names
 
-  flow-says : (f : Flow) (b : Bool) (d k : ℕ) {hs : List Head} {ns : List Name} → Says hs ns → Says (flow-heads f b d k hs) (flow-names f ns)
+  flow-says : (f : Flow) (b : Bool) (d k : ℕ) {hs : List TokenNode} {ns : List Name} → Says hs ns → Says (flow-token-nodes f b d k hs) (flow-names f ns)
   flow-says (flow n ps sw c r cs) b d k s =
-      says-own (flow-head (flow n ps sw c r cs) b d k) refl (child-says c r (suc d) _ (children-says cs (suc d) _ s))
+      says-own (flow-token-node (flow n ps sw c r cs) b d k) refl (child-says c r (suc d) _ (children-says cs (suc d) _ s))
 
-  children-says : (cs : Children) (d k : ℕ) {hs : List Head} {ns : List Name} → Says hs ns → Says (children-heads cs d k hs) (children-names cs ns)
+  children-says : (cs : Children) (d k : ℕ) {hs : List TokenNode} {ns : List Name} → Says hs ns → Says (children-token-nodes cs d k hs) (children-names cs ns)
   children-says none d k s = s
   children-says (next c r cs) d k s = child-says c r d k (children-says cs d _ s)
 
-  child-says : (c : Child) (b : Bool) (d k : ℕ) {hs : List Head} {ns : List Name} → Says hs ns → Says (child-heads c b d k hs) (child-names c ns)
+  child-says : (c : Child) (b : Bool) (d k : ℕ) {hs : List TokenNode} {ns : List Name} → Says hs ns → Says (child-token-nodes c b d k hs) (child-names c ns)
   child-says (plain m) b d k s = member-says m b d k s
   child-says (loop m) b d k s = says-untitled (simple k d 15 [] b) refl (member-says m false (suc d) _ s)
   child-says (group y a e ms) b d k s =
       says-untitled (simple k d (group-code y) [] b) (group-untitled y k d b)
       (member-says a false (suc d) _ (member-says e false (suc d) _ (members-says ms (suc d) _ s)))
   child-says (replicator y par size m) b d k s =
-      says-untitled (replicator-head y par size b d k) (replicator-untitled y par size b d k) (member-says m false (suc d) _ s)
+      says-untitled (replicator-token-node y par size b d k) (replicator-untitled y par size b d k) (member-says m false (suc d) _ s)
 
-  member-says : (m : Member) (b : Bool) (d k : ℕ) {hs : List Head} {ns : List Name} → Says hs ns → Says (member-heads m b d k hs) (member-names m ns)
+  member-says : (m : Member) (b : Bool) (d k : ℕ) {hs : List TokenNode} {ns : List Name} → Says hs ns → Says (member-token-nodes m b d k hs) (member-names m ns)
   member-says (leaf n) b d k s = says-own (simple k d 8 n b) refl s
   member-says (inner f) b d k s = flow-says f b d k s
 
-  members-says : (ms : Members) (d k : ℕ) {hs : List Head} {ns : List Name} → Says hs ns → Says (members-heads ms d k hs) (members-names ms ns)
+  members-says : (ms : Members) (d k : ℕ) {hs : List TokenNode} {ns : List Name} → Says hs ns → Says (members-token-nodes ms d k hs) (members-names ms ns)
   members-says end d k s = s
   members-says (also m ms) d k s = member-says m false d k (members-says ms d _ s)
 
-clean-flow : (d : Flow) → clean (fault names-kept [] (flow-heads d false 1 0 [])) ≡ differ (flow-names d [])
+clean-flow : (d : Flow) → clean (fault names-kept [] (flow-token-nodes d false 1 0 [])) ≡ differ (flow-names d [])
 clean-flow d =
-    let s : heard (flow-heads d false 1 0 []) ≡ flow-names d [] = flow-says d false 1 0 (record { told = refl }) .told in
-    rw (clean-names (flow-heads d false 1 0 []) [], s, all-new-first (flow-names d []))
+    let s : heard (flow-token-nodes d false 1 0 []) ≡ flow-names d [] = flow-says d false 1 0 (record { told = refl }) .told in
+    rw (clean-names (flow-token-nodes d false 1 0 []) [], s, all-new-first (flow-names d []))
 
-pub names-kept-iff : (d : Flow) → (first-twice [] (flow-sites d [] 1 0 []) ≡ Nothing) ↔ (differ (flow-names d []) ≡ true)
-names-kept-iff d = clean-iff (first-twice [] (flow-sites d [] 1 0 [])) (differ (flow-names d [])) (rw (names-placed d) at (clean-flow d))
+pub names-kept-iff : (d : Flow) → (first-twice [] (flow-placed-nodes d [] 1 0 []) ≡ Nothing) ↔ (differ (flow-names d []) ≡ true)
+names-kept-iff d = clean-iff (first-twice [] (flow-placed-nodes d [] 1 0 [])) (differ (flow-names d [])) (rw (names-placed d) at (clean-flow d))

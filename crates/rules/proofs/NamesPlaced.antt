@@ -5,21 +5,21 @@ use mathlib.Core.List.{List, [], _∷_, _++_}
 use Prim.Native.Nat.{ℕ}
 use Rattle.diagram.specs.Tree.{Name, Flow, flow}
 use Rattle.diagram.specs.Names.{same, new}
-use Rattle.rules.specs.Heads.{Head}
+use Rattle.rules.specs.TokenNodes.{TokenNode}
 use Rattle.rules.specs.Kept.{titled, unheard, names-kept, fault}
-use Rattle.rules.specs.Sites.{Site, all-new, first-twice, flow-sites}
-use Rattle.rules.proofs.Trees.{flow-heads}
-use Rattle.rules.proofs.NamesAlong.{flow-head, flow-site, flow-key, Kinds, along}
+use Rattle.rules.specs.PlacedNodes.{PlacedNode, all-new, first-twice, flow-placed-nodes}
+use Rattle.rules.proofs.Trees.{flow-token-nodes}
+use Rattle.rules.proofs.NamesAlong.{flow-token-node, flow-placed-node, flow-key, Kinds, along}
 
 -- The names that nodes have, a leaf or flow one and any other node none.
-abbrev pub own : Head → List Name
+abbrev pub own : TokenNode → List Name
 own h = cond (titled h) (h .name ∷ []) []
 
-abbrev pub heard : List Head → List Name
+abbrev pub heard : List TokenNode → List Name
 heard [] = []
 heard (h ∷ hs) = own h ++ heard hs
 
-untitled-own : (h : Head) → titled h ≡ false → own h ≡ []
+untitled-own : (h : TokenNode) → titled h ≡ false → own h ≡ []
 untitled-own h e = rw e
 
 -- A node passes, and a name is unheard, where the names of those before it lack it.
@@ -28,18 +28,18 @@ module _ (n : Name) where
   unheard-step true m ns = refl
   unheard-step false m ns = refl
 
-  unheard-new : (before : List Head) → unheard n before ≡ new n (heard before)
+  unheard-new : (before : List TokenNode) → unheard n before ≡ new n (heard before)
   unheard-new [] = refl
   unheard-new (h ∷ before) = rw (unheard-new before) (unheard-step (titled h) (h .name) (heard before))
 
-  pub passes : (t : Bool) (before : List Head) → cond t (unheard n before) true ≡ all-new (cond t (n ∷ []) []) (heard before)
+  pub passes : (t : Bool) (before : List TokenNode) → cond t (unheard n before) true ≡ all-new (cond t (n ∷ []) []) (heard before)
   passes true before = rw and-true (unheard-new before)
   passes false before = refl
 
-Placed : List Head → List Site → Type 0
-Placed hs ss = (before : List Head) → fault names-kept before hs ≡ first-twice (heard before) ss
+Placed : List TokenNode → List PlacedNode → Type 0
+Placed hs ss = (before : List TokenNode) → fault names-kept before hs ≡ first-twice (heard before) ss
 
-placed-node : (h : Head) (s : Site) (hs : List Head) (ss : List Site) → h .key ≡ s .key → own h ≡ s .names → Placed hs ss
+placed-node : (h : TokenNode) (s : PlacedNode) (hs : List TokenNode) (ss : List PlacedNode) → h .key ≡ s .key → own h ≡ s .names → Placed hs ss
     → Placed (h ∷ hs) (s ∷ ss)
 unfolding Placed fault first-twice
 placed-node h s hs ss e i p before = rw (← i, ← e, passes (h .name) (titled h) before, p (h ∷ before))
@@ -48,7 +48,7 @@ placed-none : Placed [] []
 unfolding Placed fault first-twice
 placed-none before = refl
 
-flow-own : (f : Flow) (b : Bool) (d k : ℕ) (around : List Name) → own (flow-head f b d k) ≡ flow-site f around d k .names
+flow-own : (f : Flow) (b : Bool) (d k : ℕ) (around : List Name) → own (flow-token-node f b d k) ≡ flow-placed-node f around d k .names
 flow-own (flow n ps sw c r cs) b d k around = refl
 
 placed-kinds : Kinds Placed
@@ -59,6 +59,6 @@ placed-kinds = record {
   at-flow = λ f b d k around hs ss e. placed-node _ _ _ ss (flow-key f b d k around) (flow-own f b d k around);
 }
 
-pub names-placed : (d : Flow) → fault names-kept [] (flow-heads d false 1 0 []) ≡ first-twice [] (flow-sites d [] 1 0 [])
+pub names-placed : (d : Flow) → fault names-kept [] (flow-token-nodes d false 1 0 []) ≡ first-twice [] (flow-placed-nodes d [] 1 0 [])
 unfolding Placed
 names-placed d = along Placed placed-kinds d []

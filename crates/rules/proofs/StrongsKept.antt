@@ -5,10 +5,10 @@ use mathlib.Core.Bool.{true}
 use mathlib.Core.List.{[]}
 use Rattle.diagram.specs.Tree.{Flow}
 use Rattle.diagram.specs.Flows.{each-flow, strong}
-use Rattle.rules.specs.Sites.{first-broken, flow-sites}
+use Rattle.rules.specs.PlacedNodes.{first-broken, flow-placed-nodes}
 use Rattle.rules.specs.declared.Found.the-variants.{Nothing}
 use Rattle.rules.proofs.SolidsStrongs.{kept-iff}
 use Rattle.rules.proofs.StrongsPlaced.{strong-rule}
 
-pub strongs-kept-iff : (d : Flow) → (first-broken (λ s. s .strongs) (flow-sites d [] 1 0 []) ≡ Nothing) ↔ (each-flow d strong ≡ true)
+pub strongs-kept-iff : (d : Flow) → (first-broken (λ s. s .strongs) (flow-placed-nodes d [] 1 0 []) ≡ Nothing) ↔ (each-flow d strong ≡ true)
 strongs-kept-iff = kept-iff _ _ strong strong-rule

@@ -7,24 +7,24 @@ use lib.Dec.{eqb, ltb, leb}
 use lib.ListN.{getD, drop}
 use Rattle.diagram.specs.Tree.{Name}
 use Rattle.diagram.specs.Names.{equal, same, new}
-use Rattle.rules.specs.Heads.{Head, copying, par-count, pars-back, head, by-columns, name-in}
+use Rattle.rules.specs.TokenNodes.{TokenNode, copying, par-count, pars-back, token-node, by-columns, name-in}
 use Rattle.rules.specs.Kept.{unheard, around, solids, names-kept, parameters-kept, solids-kept, strongs-kept}
 use Rattle.rules.specs.Counted.{times, any-node, eventful}
 
 -- The node that has the number i.
-abbrev pub node : (ℕ → Name) → List ℕ → List ℕ → List ℕ → ℕ → Head
-node nm cs ks ds i = head nm (getD ds i 0) (getD ks i 0) (drop (getD ks i 0) cs)
+abbrev pub node : (ℕ → Name) → List ℕ → List ℕ → List ℕ → ℕ → TokenNode
+node nm cs ks ds i = token-node nm (getD ds i 0) (getD ks i 0) (drop (getD ks i 0) cs)
 
 -- The nodes before the number i, the nearest first.
-unfoldable pub before : (ℕ → Head) → ℕ → List Head
+unfoldable pub before : (ℕ → TokenNode) → ℕ → List TokenNode
 before at zero = []
 before at (suc i) = at i ∷ before at i
 
-abbrev pub earlier : (ℕ → Name) → List ℕ → List ℕ → List ℕ → ℕ → List Head
+abbrev pub earlier : (ℕ → Name) → List ℕ → List ℕ → List ℕ → ℕ → List TokenNode
 earlier nm cs ks ds i = before (node nm cs ks ds) i
 
 -- The nodes from the number i on.
-abbrev pub from : (ℕ → Name) → List ℕ → List ℕ → List ℕ → ℕ → List Head
+abbrev pub from : (ℕ → Name) → List ℕ → List ℕ → List ℕ → ℕ → List TokenNode
 from nm cs ks ds i = by-columns nm cs (drop i ks) (drop i ds)
 
 -- The name of the node i, a leaf, a flow or a replicator, by the places of the tokens in the text; and the pars of the replicators around it.
@@ -35,20 +35,20 @@ abbrev pub around-at : (ℕ → Name) → List ℕ → List ℕ → List ℕ →
 around-at nm cs ks ds i = around (getD ds i 0) (earlier nm cs ks ds i)
 
 -- The nearest replicator around a node of depth d, with the nodes before it.
-unfoldable pub nearest : ℕ → List Head → List Head
+unfoldable pub nearest : ℕ → List TokenNode → List TokenNode
 nearest d [] = []
 nearest d (h ∷ hs) = cond (ltb (h .depth) d) (cond (copying (h .code)) (h ∷ hs) (nearest (h .depth) hs)) (nearest d hs)
 
-abbrev pub nearest-at : (ℕ → Name) → List ℕ → List ℕ → List ℕ → ℕ → List Head
+abbrev pub nearest-at : (ℕ → Name) → List ℕ → List ℕ → List ℕ → ℕ → List TokenNode
 nearest-at nm cs ks ds i = nearest (getD ds i 0) (earlier nm cs ks ds i)
 
 -- The next solid child of a flow of depth d, with the nodes after it.
-unfoldable pub next-solid : ℕ → List Head → List Head
+unfoldable pub next-solid : ℕ → List TokenNode → List TokenNode
 next-solid d [] = []
 next-solid d (h ∷ hs) = cond (leb (h .depth) d) [] (cond (eqb (h .depth) (suc d) && h .solid) (h ∷ hs) (next-solid d hs))
 
 -- The rules by their numbers, 7 to 10; and of the node i, by the text, the tokens' places and numbers and the two columns.
-abbrev pub rule-of : ℕ → List Head → Head → List Head → Bool
+abbrev pub rule-of : ℕ → List TokenNode → TokenNode → List TokenNode → Bool
 rule-of r = cond (eqb r 7) names-kept (cond (eqb r 8) parameters-kept (cond (eqb r 9) solids-kept strongs-kept))
 
 abbrev pub kept-at : ℕ → List ℕ → List ℕ → List ℕ → List ℕ → List ℕ → ℕ → Bool
@@ -71,7 +71,7 @@ abbrev pub solids-at : (ℕ → Name) → List ℕ → List ℕ → List ℕ →
 solids-at nm cs ks ds i = solids (getD ds i 0) (from nm cs ks ds (i + 1))
 
 -- What is counted, events or nodes; whether the node i is; and how many copies it has.
-abbrev pub counting : Bool → Head → List Head → Bool
+abbrev pub counting : Bool → TokenNode → List TokenNode → Bool
 counting true = eventful
 counting false = any-node
 

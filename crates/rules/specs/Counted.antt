@@ -3,28 +3,28 @@ use mathlib.Core.Bool.{Bool, true, false, _&&_, _||_, cond}
 use mathlib.Core.List.{List, [], _∷_}
 use Prim.Native.Nat.{ℕ, _+_, _*_}
 use lib.Dec.{eqb, ltb}
-use Rattle.rules.specs.Heads.{Head, flowing, leafy, copying}
+use Rattle.rules.specs.TokenNodes.{TokenNode, flowing, leafy, copying}
 
 -- "Each node has one copy for each choice of values of the replicators around it": the product of their sizes.
-unfoldable pub times : ℕ → List Head → ℕ
+unfoldable pub times : ℕ → List TokenNode → ℕ
 times d [] = 1
 times d (h ∷ before) =
     cond (ltb (h .depth) d) (cond (copying (h .code)) (h .size * times (h .depth) before) (times (h .depth) before)) (times d before)
 
 -- "Events are the leaf copies and, for each copy of a loop over a flow, its reset": the node is a leaf, or a loop whose member, the next
 -- node, is a flow.
-abbrev pub over-flow : List Head → Bool
+abbrev pub over-flow : List TokenNode → Bool
 over-flow [] = false
 over-flow (h ∷ after) = flowing (h .code)
 
-abbrev pub eventful : Head → List Head → Bool
+abbrev pub eventful : TokenNode → List TokenNode → Bool
 eventful h after = leafy (h .code) || (eqb (h .code) 15 && over-flow after)
 
-abbrev pub any-node : Head → List Head → Bool
+abbrev pub any-node : TokenNode → List TokenNode → Bool
 any-node h after = true
 
 -- The copies of the nodes that are counted.
-unfoldable pub total : (Head → List Head → Bool) → List Head → List Head → ℕ
+unfoldable pub total : (TokenNode → List TokenNode → Bool) → List TokenNode → List TokenNode → ℕ
 total counted before [] = 0
 total counted before (h ∷ after) = cond (counted h after) (times (h .depth) before) 0 + total counted (h ∷ before) after
 

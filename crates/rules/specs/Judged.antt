@@ -4,7 +4,7 @@ use mathlib.Core.List.{List, []}
 use Prim.Native.Nat.{ℕ, _+_}
 use lib.Dec.{ltb}
 use lib.ListN.{getD}
-use Rattle.rules.specs.Heads.{Head}
+use Rattle.rules.specs.TokenNodes.{TokenNode}
 use Rattle.rules.specs.Kept.{names-kept, parameters-kept, solids-kept, strongs-kept, fault}
 use Rattle.rules.specs.Counted.{any-node, eventful, total, capped}
 use Rattle.rules.specs.declared.Found.{Found}
@@ -22,7 +22,7 @@ abbrev pub counted : ℕ → ℕ → Verdict
 counted copies events = cond (ltb 768 copies || ltb 512 events) (Refused 11 0) (Kept copies events)
 
 -- The node copies and events of the nodes, or the refusal. The name that is twice stands two tokens after its node's keyword.
-unfoldable pub verdict : List ℕ → List Head → Verdict
+unfoldable pub verdict : List ℕ → List TokenNode → Verdict
 verdict places hs =
     refuse 7 2 places (fault names-kept [] hs)
     (refuse 8 0 places (fault parameters-kept [] hs)

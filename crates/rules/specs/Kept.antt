@@ -7,31 +7,31 @@ use lib.Dec.{eqb, ltb, leb}
 use lib.ListN.{length}
 use Rattle.diagram.specs.Tree.{Name}
 use Rattle.diagram.specs.Names.{equal, same, new}
-use Rattle.rules.specs.Heads.{Head, flowing, leafy, copying}
+use Rattle.rules.specs.TokenNodes.{TokenNode, flowing, leafy, copying}
 use Rattle.rules.specs.declared.Found.{Found}
 use Rattle.rules.specs.declared.Found.the-variants.{At, Nothing}
 
 -- Number 7: "leaf and flow names all differ."
-abbrev pub titled : Head → Bool
+abbrev pub titled : TokenNode → Bool
 titled h = flowing (h .code) || leafy (h .code)
 
-abbrev pub unheard : Name → List Head → Bool
+abbrev pub unheard : Name → List TokenNode → Bool
 unheard m [] = true
 unheard m (h ∷ before) = not (titled h && same m (h .name)) && unheard m before
 
-abbrev pub names-kept : List Head → Head → List Head → Bool
+abbrev pub names-kept : List TokenNode → TokenNode → List TokenNode → Bool
 names-kept before h after = cond (titled h) (unheard (h .name) before) true
 
 -- The pars of the replicators around a node of depth d, the nearest first: a node before it that is less deep is around it, and so on
 -- from that one.
-abbrev pub around : ℕ → List Head → List Name
+abbrev pub around : ℕ → List TokenNode → List Name
 around d [] = []
 around d (h ∷ before) =
     cond (ltb (h .depth) d) (cond (copying (h .code)) (h .name ∷ around (h .depth) before) (around (h .depth) before)) (around d before)
 
 -- Number 8: "A replicator's par differs from those of replicators around it; at most 3 replicators surround a node. A flow lists exactly
 -- the pars of the replicators around it, outermost first."
-abbrev pub parameters-kept : List Head → Head → List Head → Bool
+abbrev pub parameters-kept : List TokenNode → TokenNode → List TokenNode → Bool
 parameters-kept before h after =
     leb (length (around (h .depth) before)) 3
     && (cond (copying (h .code)) (new (h .name) (around (h .depth) before)) true
@@ -42,7 +42,7 @@ abbrev pub may-be-solid : ℕ → Bool
 may-be-solid c = (flowing c || leafy c) || (eqb c 11 || eqb c 14)
 
 -- The keywords of the solid children of a flow of depth d: of the nodes one deeper that come before the next that is not deeper.
-abbrev pub solids : ℕ → List Head → List ℕ
+abbrev pub solids : ℕ → List TokenNode → List ℕ
 solids d [] = []
 solids d (h ∷ after) =
     cond (leb (h .depth) d) [] (cond (eqb (h .depth) (suc d) && h .solid) (h .code ∷ solids d after) (solids d after))
@@ -53,14 +53,14 @@ one-of (c ∷ []) = may-be-solid c
 one-of (c ∷ e ∷ cs) = false
 
 -- Number 9: "A flow has exactly one solid child: a leaf, flow, xor or one."
-abbrev pub solids-kept : List Head → Head → List Head → Bool
+abbrev pub solids-kept : List TokenNode → TokenNode → List TokenNode → Bool
 solids-kept before h after = cond (flowing (h .code)) (one-of (solids (h .depth) after)) true
 
 -- Number 10: "sw is 1."
-abbrev pub strongs-kept : List Head → Head → List Head → Bool
+abbrev pub strongs-kept : List TokenNode → TokenNode → List TokenNode → Bool
 strongs-kept before h after = cond (flowing (h .code)) (h .strong) true
 
 -- The token of the first node that breaks a rule.
-unfoldable pub fault : (List Head → Head → List Head → Bool) → List Head → List Head → Found
+unfoldable pub fault : (List TokenNode → TokenNode → List TokenNode → Bool) → List TokenNode → List TokenNode → Found
 fault kept before [] = Nothing
 fault kept before (h ∷ after) = cond (kept before h after) (fault kept (h ∷ before) after) (At (h .key))

@@ -1,8 +1,8 @@
-pub mod Heads
+pub mod TokenNodes
 pub mod Kept
 pub mod Counted
 pub mod Judged
 pub mod Columns
-pub mod Sites
+pub mod PlacedNodes
 pub mod Marks
 pub mod Worked

@@ -8,7 +8,7 @@ ghost use Rattle.diagram.specs.Tree.{Name};
 ghost use Rattle.lexer.specs.Classes.{between};
 ghost use Rattle.base.specs.Fill.{fill};
 ghost use Rattle.lexer.specs.Words.{word-at};
-ghost use Rattle.rules.specs.Heads.{reach as reach-of, extent, solid-of, par-count, strong-of, opened as opened-of, keys as keys-of, depths as depths-of, by-columns, name-in};
+ghost use Rattle.rules.specs.TokenNodes.{reach as reach-of, extent, solid-of, par-count, strong-of, opened as opened-of, keys as keys-of, depths as depths-of, by-columns, name-in};
 ghost use Rattle.rules.specs.Kept.{may-be-solid, one-of, fault};
 ghost use Rattle.rules.specs.Counted.{total as total-of, capped};
 ghost use Rattle.rules.specs.Judged.{refuse as refuse-of, verdict};

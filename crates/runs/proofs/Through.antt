@@ -8,7 +8,7 @@ use lib.ListN.{getD, replicate}
 use Rattle.record.specs.Bytes.{Bytes, bytes-of}
 use Rattle.record.specs.Blank.{blank-record}
 use Rattle.record.specs.declared.Record.{Record}
-use Rattle.record.proofs.Back.{bytes-back}
+use Rattle.record.proofs.RoundTrip.{bytes-back}
 use Rattle.firmware.specs.Calls.{record-of, step-bytes}
 use Rattle.firmware.proofs.Laws.{blank-bytes, step-numbered, step-held, step-bytes-again, finished-numbered}
 use Rattle.book.specs.Calls.{Call, step, finished}

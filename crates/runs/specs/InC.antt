@@ -2,7 +2,7 @@
 use mathlib.Core.List.{List, [], _∷_}
 use Prim.Native.Nat.{ℕ}
 use Rattle.record.specs.Bytes.{bytes-of}
-use Rattle.book.specs.Calls.{Call, step, finished, Reply, stepped, told, Line}
+use Rattle.book.specs.Calls.{Call, step, finished, Reply, stepped, reported, Line}
 use Rattle.firmware.specs.Calls.{number, finish-number, step-number, step-bytes, finished-number}
 
 -- The number that a call answers, and the record's bytes after it.
@@ -20,7 +20,7 @@ play-in-c t bytes (finished ∷ calls) = record { reply = finished-number t byte
 -- The number that stands for an answer, and the number and bytes that stand for a line.
 abbrev pub reply-number : Reply → ℕ
 reply-number (stepped a) = number a
-reply-number (told f) = finish-number f
+reply-number (reported f) = finish-number f
 
 abbrev pub in-c : Line → C-line
 in-c l = record { reply = reply-number (l .reply); after = bytes-of (l .after .bits) }

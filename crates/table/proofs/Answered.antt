@@ -17,7 +17,7 @@ use Rattle.table.specs.Fields.{events, rows, event-word, guard-of, first
 use Rattle.table.specs.Sound.{sound, events-sound, rows-sound}
 use Rattle.table.specs.Shaped.{size-of, Shaped}
 use Rattle.table.specs.Values.{row-values, values-of, allows, ended}
-use Rattle.table.specs.Steps.{admit-of, taken, refused, taken-or-not, step-of, unasked, finished-of, offered, offer-of, offer-left}
+use Rattle.table.specs.Steps.{admit-of, taken, refused, taken-or-not, step-of, as-finish, finished-of, offered, offer-of, offer-left}
 use Rattle.table.specs.declared.Answer.{Answer}
 use Rattle.table.specs.declared.Answer.the-variants.{Done, Refused}
 use Rattle.table.specs.declared.Size.the-variants.{Of, Wrong}
@@ -130,7 +130,7 @@ module _ (t : List ℕ) (before : Record) (e : ℕ) where
       step-done w set cleared g p s c = rw (d, lt-ltb e (events t) h, g, c, s, p)
 
 module _ (t : List ℕ) (before : Record) where
-  pub finished-passed : (a : Answer) (number place : ℕ) → a ≡ Refused number place → a ≡ admit-of t (before .bits) → unasked a ≡ finished-of t before
+  pub finished-passed : (a : Answer) (number place : ℕ) → a ≡ Refused number place → a ≡ admit-of t (before .bits) → as-finish a ≡ finished-of t before
   unfolding finished-of
   finished-passed a number place p q = rw (← q, p)
 

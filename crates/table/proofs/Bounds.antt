@@ -15,7 +15,7 @@ use Rattle.table.specs.Fields.{events}
 use Rattle.table.specs.Sound.{sound}
 use Rattle.table.specs.Values.{values-of, allows, ended}
 use Rattle.table.specs.Steps.{check-of, admit-of, taken, refused, step-of, finished-of, offer-of, offer-left}
-use Rattle.table.specs.Bounds.{Answers, Check-answer, is-sound, not-sound, Ready, Away, unsound, bit-past, Step-answer, event-taken, step-away, past-events, guard-says-no, Finish-answer, run-finished, run-open, finished-away, Offer-answer, offer-made, buffer-short, offer-away}
+use Rattle.table.specs.Bounds.{Answers, Check-answer, is-sound, not-sound, Ready, NotReady, unsound, bit-past, Step-answer, event-taken, step-not-ready, past-events, guard-says-no, Finish-answer, run-finished, run-open, finished-not-ready, Offer-answer, offer-made, buffer-short, offer-not-ready}
 use Rattle.table.specs.Reports.{report, finish-report}
 use Rattle.table.specs.declared.Answer.{Answer}
 use Rattle.table.specs.declared.Finish.{Finish}
@@ -31,7 +31,7 @@ check-answered t = by-cases (sound t) (λ e. is-sound (rw e) e) (λ e. not-sound
 
 -- The first look: number 12 or 13, or neither.
 pub first-look {ℓ} : {P : Type ℓ} (t bits : List ℕ) → (Ready t bits → admit-of t bits ≡ Done → P)
-    → ((n : ℕ) → admit-of t bits ≡ Refused n 0 → Away t bits (refusal n 0) → P) → P
+    → ((n : ℕ) → admit-of t bits ≡ Refused n 0 → NotReady t bits (refusal n 0) → P) → P
 first-look t bits f g =
     by-cases (sound t)
     (λ e. by-cases (set-past bits (events t))
@@ -58,7 +58,7 @@ step-answered t before e =
     (λ y. event-taken (sym (step-done t before e d h _ _ _ y refl refl refl)) record { ready = r; below = h; allowed = y })
     (λ y. let q = sym (step-15 t before e d h y) in guard-says-no (ap told q) (ap after q) r h y))
     (λ b. let h = ltb-false e (events t) b in let q = sym (step-14 t before e d h) in past-events (ap told q) (ap after q) r h))
-    (λ n q a. let p = sym (step-passed t before e (Refused n 0) n 0 refl (sym q)) in step-away (rw p a) (ap after p))
+    (λ n q a. let p = sym (step-passed t before e (Refused n 0) n 0 refl (sym q)) in step-not-ready (rw p a) (ap after p))
 
 pub finished-answered : (t : List ℕ) (before : Record) → Finish-answer t before (finished-of t before)
 finished-answered t before =
@@ -66,7 +66,7 @@ finished-answered t before =
     (λ r d. by-cases (ended t (values-of t (before .bits)))
     (λ y. run-finished (sym (finished-yes t before d y)) record { ready = r; says-so = y })
     (λ y. run-open (sym (finished-no t before d y)) r y))
-    (λ n q a. finished-away (rw (← (finished-passed t before (Refused n 0) n 0 refl (sym q))) a))
+    (λ n q a. finished-not-ready (rw (← (finished-passed t before (Refused n 0) n 0 refl (sym q))) a))
 
 pub offer-answered : (t : List ℕ) (before : Record) (lent : List ℕ)
     → Offer-answer t before lent (offer-of t before lent) (offer-left t before lent (offer-of t before lent))
@@ -76,7 +76,7 @@ offer-answered t before lent =
     (λ b. let h = ltb-false (length lent) 64 b in
     first-look t (before .bits)
     (λ r d. let p = offer-ready t before lent h d in offer-made (p .0) h r (p .1))
-    (λ n q a. let p = offer-passed t before lent h (Refused n 0) n 0 refl (sym q) in offer-away h (rw (← (p .0)) a) (sym (p .1))))
+    (λ n q a. let p = offer-passed t before lent h (Refused n 0) n 0 refl (sym q) in offer-not-ready h (rw (← (p .0)) a) (sym (p .1))))
 
 -- ---- The other way round: what is known of an answer determines it, and every byte that the call leaves.
 -- A number other than 0 and 255 stands for one answer only.
@@ -84,10 +84,10 @@ pub refused-as : (n : ℕ) → 1 ≤ n → (a : Answer) → report a ≡ refusal
 refused-as n h Done q = absurd (omega (arith, ap number q))
 refused-as n h (Refused m place) q = ap₂ Refused (ap number q) (ap (λ (r : Report). r .place) q)
 
-unasked-as : (n : ℕ) → 1 ≤ n → n < 255 → (f : Finish) → finish-report f ≡ refusal n 0 → f ≡ Unasked n 0
-unasked-as n h l No q = absurd (omega (arith, ap number q))
-unasked-as n h l Yes q = absurd (omega (arith, ap number q))
-unasked-as n h l (Unasked m place) q = ap₂ Unasked (ap number q) (ap (λ (r : Report). r .place) q)
+as-finish-as : (n : ℕ) → 1 ≤ n → n < 255 → (f : Finish) → finish-report f ≡ refusal n 0 → f ≡ Unasked n 0
+as-finish-as n h l No q = absurd (omega (arith, ap number q))
+as-finish-as n h l Yes q = absurd (omega (arith, ap number q))
+as-finish-as n h l (Unasked m place) q = ap₂ Unasked (ap number q) (ap (λ (r : Report). r .place) q)
 
 pub refused-step : (before : Record) (s : Stepped) (n : ℕ) → 1 ≤ n → report (s .answer) ≡ refusal n 0 → s .after ≡ before → s ≡ refused before (Refused n 0)
 refused-step before s n h q kept = rw (← kept, ← (refused-as n h (s .answer) q))
@@ -103,9 +103,9 @@ pub only-step : (t : List ℕ) (before : Record) (e : ℕ) (s : Stepped) → Ste
 unfolding taken
 only-step t before e s (event-taken q k) =
     q ∙ step-done t before e (ready-admitted t (before .bits) (k .ready)) (k .below) _ _ _ (k .allowed) refl refl refl
-only-step t before e s (step-away (unsound q y) kept) =
+only-step t before e s (step-not-ready (unsound q y) kept) =
     refused-step before s 12 (lit≤ tt) q kept ∙ step-passed t before e (Refused 12 0) 12 0 refl (admit-12 t (before .bits) y)
-only-step t before e s (step-away (bit-past q y p) kept) =
+only-step t before e s (step-not-ready (bit-past q y p) kept) =
     refused-step before s 13 (lit≤ tt) q kept ∙ step-passed t before e (Refused 13 0) 13 0 refl (admit-13 t (before .bits) y p)
 only-step t before e s (past-events q kept r h) =
     refused-step before s 14 (lit≤ tt) q kept ∙ step-14 t before e (ready-admitted t (before .bits) r) h
@@ -115,10 +115,10 @@ only-step t before e s (guard-says-no q kept r h y) =
 pub only-finish : (t : List ℕ) (before : Record) (f : Finish) → Finish-answer t before f → f ≡ finished-of t before
 only-finish t before f (run-finished q k) = q ∙ finished-yes t before (ready-admitted t (before .bits) (k .ready)) (k .says-so)
 only-finish t before f (run-open q r y) = q ∙ finished-no t before (ready-admitted t (before .bits) r) y
-only-finish t before f (finished-away (unsound q y)) =
-    unasked-as 12 (lit≤ tt) (lit< tt) f q ∙ finished-passed t before (Refused 12 0) 12 0 refl (admit-12 t (before .bits) y)
-only-finish t before f (finished-away (bit-past q y p)) =
-    unasked-as 13 (lit≤ tt) (lit< tt) f q ∙ finished-passed t before (Refused 13 0) 13 0 refl (admit-13 t (before .bits) y p)
+only-finish t before f (finished-not-ready (unsound q y)) =
+    as-finish-as 12 (lit≤ tt) (lit< tt) f q ∙ finished-passed t before (Refused 12 0) 12 0 refl (admit-12 t (before .bits) y)
+only-finish t before f (finished-not-ready (bit-past q y p)) =
+    as-finish-as 13 (lit≤ tt) (lit< tt) f q ∙ finished-passed t before (Refused 13 0) 13 0 refl (admit-13 t (before .bits) y p)
 
 pub only-offer : (t : List ℕ) (before : Record) (lent : List ℕ) (a : Answer) (left : List ℕ) → Offer-answer t before lent a left
     → (a ≡ offer-of t before lent) × (left ≡ offer-left t before lent (offer-of t before lent))
@@ -126,9 +126,9 @@ only-offer t before lent a left (offer-made q h r l) =
     let p = offer-ready t before lent h (ready-admitted t (before .bits) r) in (q ∙ sym (p .0), l ∙ sym (p .1))
 only-offer t before lent a left (buffer-short q h l) =
     let p = offer-1 t before lent h in (refused-as 1 (lit≤ tt) a q ∙ p .0, l ∙ p .1)
-only-offer t before lent a left (offer-away h (unsound q y) l) =
+only-offer t before lent a left (offer-not-ready h (unsound q y) l) =
     let p = offer-passed t before lent h (Refused 12 0) 12 0 refl (admit-12 t (before .bits) y) in (refused-as 12 (lit≤ tt) a q ∙ p .0, l ∙ p .1)
-only-offer t before lent a left (offer-away h (bit-past q y z) l) =
+only-offer t before lent a left (offer-not-ready h (bit-past q y z) l) =
     let p = offer-passed t before lent h (Refused 13 0) 13 0 refl (admit-13 t (before .bits) y z) in (refused-as 13 (lit≤ tt) a q ∙ p .0, l ∙ p .1)
 
 -- "Every answer, to any table, record or event number, is a result within the limits or one numbered refusal."

@@ -15,9 +15,9 @@ use Rattle.record.specs.Bits.{Words, bit-at, set-bit, clear-between, set-past}
 use Rattle.record.specs.Bytes.{words-of, bytes-of}
 use Rattle.record.specs.declared.Record.{Record}
 use Rattle.record.proofs.Bits.{bit-set-same, bit-set-other, bits-cleared, length-change, set-words, clear-words}
-use Rattle.record.proofs.Beyond.{each-clear, clear-each}
+use Rattle.record.proofs.PastEvents.{each-clear, clear-each}
 use Rattle.record.proofs.Bytes.{bytes-length}
-use Rattle.record.proofs.Back.{words-back}
+use Rattle.record.proofs.RoundTrip.{words-back}
 use Rattle.table.specs.Fields.{events, rows, event-word, first-of, count-of}
 use Rattle.table.specs.Values.{values-of, allows, ended}
 use Rattle.table.specs.Steps.{admit-of, taken, refused, step-of, finished-of, offered, offer-of, offer-left}
@@ -27,7 +27,7 @@ use Rattle.table.specs.declared.Finish.the-variants.{Yes}
 use Rattle.table.specs.declared.Stepped.{Stepped}
 use Rattle.table.proofs.Sizes.{sound-shaped}
 use Rattle.table.proofs.Events.{run-below, sound-event}
-use Rattle.table.specs.Bounds.{Ready, Takes, Ends, unsound, bit-past, Step-answer, event-taken, step-away, past-events, guard-says-no}
+use Rattle.table.specs.Bounds.{Ready, Takes, Ends, unsound, bit-past, Step-answer, event-taken, step-not-ready, past-events, guard-says-no}
 use Rattle.table.proofs.Bounds.{first-look, refused-step, ready-admitted, step-answered}
 use Rattle.table.proofs.Answered.{not-done, step-done, offer-1, finished-passed, finished-yes, finished-no}
 
@@ -45,8 +45,8 @@ admitted t bits d = first-look t bits (λ r a. r) (λ number a w. absurd (not-do
 by-answer {ℓ} : {P : Type ℓ} (t : List ℕ) (before : Record) (e : ℕ) (s : Stepped) → (Takes t before e → P)
     → ((number : ℕ) → refused before (Refused number 0) ≡ s → P) → Step-answer t before e s → P
 by-answer t before e s done refusal (event-taken q k) = done k
-by-answer t before e s done refusal (step-away (unsound q x) k) = refusal 12 (sym (refused-step before s 12 (lit≤ tt) q k))
-by-answer t before e s done refusal (step-away (bit-past q x y) k) = refusal 13 (sym (refused-step before s 13 (lit≤ tt) q k))
+by-answer t before e s done refusal (step-not-ready (unsound q x) k) = refusal 12 (sym (refused-step before s 12 (lit≤ tt) q k))
+by-answer t before e s done refusal (step-not-ready (bit-past q x y) k) = refusal 13 (sym (refused-step before s 13 (lit≤ tt) q k))
 by-answer t before e s done refusal (past-events q k r h) = refusal 14 (sym (refused-step before s 14 (lit≤ tt) q k))
 by-answer t before e s done refusal (guard-says-no q k r h y) = refusal 15 (sym (refused-step before s 15 (lit≤ tt) q k))
 

@@ -42,13 +42,13 @@ pub record Ends (t : List ℕ) (before : Record) : Type 0 where
   pub says-so : ended t (values-of t (before .bits)) ≡ true
 
 -- Number 12, or 13.
-pub data Away (t bits : List ℕ) (r : Report) : Type 0 where
-  unsound : r ≡ refusal 12 0 → sound t ≡ false → Away t bits r
-  bit-past : r ≡ refusal 13 0 → sound t ≡ true → set-past bits (events t) ≡ true → Away t bits r
+pub data NotReady (t bits : List ℕ) (r : Report) : Type 0 where
+  unsound : r ≡ refusal 12 0 → sound t ≡ false → NotReady t bits r
+  bit-past : r ≡ refusal 13 0 → sound t ≡ true → set-past bits (events t) ≡ true → NotReady t bits r
 
 pub data Step-answer (t : List ℕ) (before : Record) (e : ℕ) (s : Stepped) : Type 0 where
   event-taken : s ≡ record { answer = Done; after = record { bits = taken t (before .bits) e } } → Takes t before e → Step-answer t before e s
-  step-away : Away t (before .bits) (report (s .answer)) → s .after ≡ before → Step-answer t before e s
+  step-not-ready : NotReady t (before .bits) (report (s .answer)) → s .after ≡ before → Step-answer t before e s
   past-events : report (s .answer) ≡ refusal 14 0 → s .after ≡ before → Ready t (before .bits) → events t ≤ e → Step-answer t before e s
   guard-says-no : report (s .answer) ≡ refusal 15 0 → s .after ≡ before → Ready t (before .bits) → e < events t
       → allows t (values-of t (before .bits)) e ≡ false → Step-answer t before e s
@@ -56,13 +56,13 @@ pub data Step-answer (t : List ℕ) (before : Record) (e : ℕ) (s : Stepped) : 
 pub data Finish-answer (t : List ℕ) (before : Record) (f : Finish) : Type 0 where
   run-finished : f ≡ Yes → Ends t before → Finish-answer t before f
   run-open : f ≡ No → Ready t (before .bits) → ended t (values-of t (before .bits)) ≡ false → Finish-answer t before f
-  finished-away : Away t (before .bits) (finish-report f) → Finish-answer t before f
+  finished-not-ready : NotReady t (before .bits) (finish-report f) → Finish-answer t before f
 
 pub data Offer-answer (t : List ℕ) (before : Record) (lent : List ℕ) (a : Answer) (left : List ℕ) : Type 0 where
   offer-made : a ≡ Done → 64 ≤ length lent → Ready t (before .bits)
       → left ≡ fill lent (bytes-of (offered t (values-of t (before .bits)) (events t))) → Offer-answer t before lent a left
   buffer-short : report a ≡ refusal 1 0 → length lent < 64 → left ≡ lent → Offer-answer t before lent a left
-  offer-away : 64 ≤ length lent → Away t (before .bits) (report a) → left ≡ lent → Offer-answer t before lent a left
+  offer-not-ready : 64 ≤ length lent → NotReady t (before .bits) (report a) → left ≡ lent → Offer-answer t before lent a left
 
 -- The four calls, on any table, record, event number and buffer.
 pub record Answers (t : List ℕ) (before : Record) (lent : List ℕ) (e : ℕ) : Type 0 where

@@ -7,7 +7,7 @@ ghost use Rattle.table.specs.Fields.{events, rows};
 ghost use Rattle.table.specs.Sound.{event-sound, row-sound, events-sound, rows-sound};
 ghost use Rattle.table.specs.Shaped.{size-of, Shaped};
 ghost use Rattle.table.specs.Values.{row-value, row-values};
-ghost use Rattle.table.specs.Steps.{check-of, admit-of, step-of, unasked, finished-of, offered, offer-of, offer-left};
+ghost use Rattle.table.specs.Steps.{check-of, admit-of, step-of, as-finish, finished-of, offered, offer-of, offer-left};
 use record::Record;
 
 // Sound, done or offered; or the refusal with its number and place.
@@ -255,8 +255,8 @@ pub fn step(table: &[u8], before: Record, event: u64) -> Stepped
 }
 
 // What a first look refuses, as the answer to the question whether a run is finished.
-fn unasked(answer: Answer) -> Finish
-    ensures { λ r. ⌜ r ≡ unasked answer ⌝ }
+fn as_finish(answer: Answer) -> Finish
+    ensures { λ r. ⌜ r ≡ as-finish answer ⌝ }
 {
     match answer {
         Answer::Done => Finish::No,
@@ -272,7 +272,7 @@ pub fn finished(table: &[u8], before: Record) -> Finish
     let mut values = [false; 12288];
     let answer = admit(table, &bits, &mut values);
     let Answer::Done = answer else {
-        return unasked(answer);
+        return as_finish(answer);
     };
     let last = half(table, 2) - 1;
     if values[last] {

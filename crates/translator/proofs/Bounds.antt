@@ -14,12 +14,12 @@ use Rattle.base.proofs.Truth.{by-cases}
 use Rattle.diagram.specs.Tree.{Flow}
 use Rattle.reader.specs.Answers.{read-of}
 use Rattle.reader.specs.Accepted.{Accepted}
-use Rattle.reader.specs.Refused.{Turned}
+use Rattle.reader.specs.Refused.{RefusedAt}
 use Rattle.reader.specs.Bounds.{Bounded as Answered, result as read-result, refusal as read-refusal}
 use Rattle.reader.specs.declared.Answer.the-variants.{Refused as Unread}
-use Rattle.reader.specs.declared.Out.{Out}
+use Rattle.reader.specs.declared.ReadResult.{ReadResult}
 use Rattle.reader.proofs.Bounds.{read-bounded}
-use Rattle.reader.proofs.Exact.{accepted-read, accepted-once, refused-exactly, done-refused, Fate, taken, turned, fate}
+use Rattle.reader.proofs.Exact.{accepted-read, accepted-once, refused-exactly, done-refused, Fate, taken, refused-at, fate}
 use Rattle.table.specs.Sound.{Sound-table}
 use Rattle.table.proofs.Sentences.{sound-exactly}
 use Rattle.translator.specs.Reports.{report}
@@ -49,15 +49,15 @@ bytes-refused e = cons≢nil (ap (λ (x : Report). x .values) e)
 
 -- ---- what a text is
 module _ (text : List ℕ) where
-  turned-once : (n p m q : ℕ) → Turned text n p → Turned text m q → (n ≡ m) × (p ≡ q)
-  turned-once n p m q a b =
+  refused-at-once : (n p m q : ℕ) → RefusedAt text n p → RefusedAt text m q → (n ≡ m) × (p ≡ q)
+  refused-at-once n p m q a b =
       let e : Unread n p ≡ Unread m q = sym (refused-exactly text n p .1 a) ∙ refused-exactly text m q .1 b in
       let x : n ≡ m = cc in
       let y : p ≡ q = cc in
       (x, y)
 
-  never-both : (d : Flow) (n p : ℕ) → Accepted text d → Turned text n p → ⊥
-  never-both d n p a t = done-refused (sym (ap (λ (o : Out). o .answer) (accepted-read text d a)) ∙ refused-exactly text n p .1 t)
+  never-both : (d : Flow) (n p : ℕ) → Accepted text d → RefusedAt text n p → ⊥
+  never-both d n p a t = done-refused (sym (ap (λ (o : ReadResult). o .answer) (accepted-read text d a)) ∙ refused-exactly text n p .1 t)
 
 -- ---- the table that was written
 -- A table of at most 512 events and 12,288 rows.
@@ -91,11 +91,11 @@ module _ (text lent : List ℕ) (r : Translated) (left : List ℕ) where
     past = rw (w .its-count, w .its-left) (fill-past lent (table-of d));
   }
 
-  read-refused : (number place : ℕ) → 51204 ≤ length lent → Turned text number place → report r ≡ report (Refused number place) → left ≡ lent → Answered text (read-of text)
+  read-refused : (number place : ℕ) → 51204 ≤ length lent → RefusedAt text number place → report r ≡ report (Refused number place) → left ≡ lent → Answered text (read-of text)
       → Refusal text lent r left
   read-refused number place h t e q (read-result k) = absurd (done-refused (sym (k .done) ∙ refused-exactly text number place .1 t))
   read-refused number place h t e q (read-refusal k) =
-      let same : Unread (k .number) (k .place) ≡ Unread number place = sym (ap (λ (o : Out). o .answer) (k .is)) ∙ refused-exactly text number place .1 t in
+      let same : Unread (k .number) (k .place) ≡ Unread number place = sym (ap (λ (o : ReadResult). o .answer) (k .is)) ∙ refused-exactly text number place .1 t in
       let x : k .number ≡ number = cc in
       let y : k .place ≡ place = cc in
       record {
@@ -168,26 +168,26 @@ module _ (text lent : List ℕ) (r : Translated) (left : List ℕ) where
 -- What a text that is read or turned away gets, where the buffer is long enough: an answer, and bytes over the front of what was lent.
 abbrev answer-for : {text : List ℕ} → Fate text → Translated
 answer-for (taken d a) = Bytes (length (table-of d))
-answer-for (turned number place t) = Refused number place
+answer-for (refused-at number place t) = Refused number place
 
 abbrev bytes-for : {text : List ℕ} → Fate text → List ℕ
 bytes-for (taken d a) = table-of d
-bytes-for (turned number place t) = []
+bytes-for (refused-at number place t) = []
 
 module _ (text lent : List ℕ) (r : Translated) (left : List ℕ) where
   by-fate : (f : Fate text) → Translation text lent r left → 51204 ≤ length lent → (r ≡ answer-for f) × (left ≡ fill lent (bytes-for f))
   by-fate (taken d a) (short h e q) long = absurd (omega arith)
-  by-fate (turned n p t) (short h e q) long = absurd (omega arith)
+  by-fate (refused-at n p t) (short h e q) long = absurd (omega arith)
   by-fate (taken d a) (refused m i h u e q) long = absurd (never-both text d m i a u)
-  by-fate (turned n p t) (refused m i h u e q) long =
-      let s = turned-once text m i n p u t in
+  by-fate (refused-at n p t) (refused m i h u e q) long =
+      let s = refused-at-once text m i n p u t in
       (report-once r (Refused n p) (e ∙ rw (s .0, s .1)), q ∙ sym (fill-none lent))
   by-fate (taken d a) (done f count h b e w) long =
       let s = accepted-once text f d b a in (
         told-bytes r (length (table-of d)) (e ∙ ap (λ (n : ℕ). result (n ∷ [])) (w .its-count ∙ ap (λ (x : Flow). length (table-of x)) s)),
         w .its-left ∙ ap (λ (x : Flow). fill lent (table-of x)) s,
       )
-  by-fate (turned n p t) (done f count h b e w) long = absurd (never-both text f n p b t)
+  by-fate (refused-at n p t) (done f count h b e w) long = absurd (never-both text f n p b t)
 
   by-length : Translation text lent r left → length lent < 51204 → (r ≡ Refused 1 0) × (left ≡ lent)
   by-length (short h e q) s = (report-once r (Refused 1 0) e, q)

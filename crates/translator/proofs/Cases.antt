@@ -8,9 +8,9 @@ use Rattle.diagram.specs.Count.{flow-events}
 use Rattle.diagram.specs.declared.Diagram.{Diagram}
 use Rattle.reader.specs.Answers.{read-of}
 use Rattle.reader.specs.Accepted.{Accepted}
-use Rattle.reader.specs.Views.{Shows}
+use Rattle.reader.specs.ShownNodes.{Shows}
 use Rattle.reader.specs.declared.Answer.the-variants.{Done, Refused as Unread}
-use Rattle.reader.specs.declared.Out.{Out}
+use Rattle.reader.specs.declared.ReadResult.{ReadResult}
 use Rattle.reader.proofs.Exact.{accepted-exactly, refused-exactly}
 use Rattle.reader.proofs.Shown.{accepted-shown}
 use Rattle.process.specs.Expand.{expand}
@@ -22,13 +22,13 @@ use Rattle.translator.specs.declared.Translated.{Translated}
 use Rattle.translator.specs.declared.Translated.the-variants.{Bytes}
 use Rattle.translator.proofs.Tables.{codes, count-is, count-fits, numbers-are, laid-written}
 
-module _ (text : List ℕ) (o : Out) (read : o ≡ read-of text) where
+module _ (text : List ℕ) (o : ReadResult) (read : o ≡ read-of text) where
   module _ (told : o .answer ≡ Done) where
     its-tree : (d : Flow) × Accepted text d
-    its-tree = accepted-exactly text .0 (sym (ap (λ (x : Out). x .answer) read) ∙ told)
+    its-tree = accepted-exactly text .0 (sym (ap (λ (x : ReadResult). x .answer) read) ∙ told)
 
     its-shown : Shows text (its-tree .0) (o .diagram)
-    its-shown = subst (λ (x : Out). Shows text (its-tree .0) (x .diagram)) (sym read) (accepted-shown text (its-tree .0) (its-tree .1))
+    its-shown = subst (λ (x : ReadResult). Shows text (its-tree .0) (x .diagram)) (sym read) (accepted-shown text (its-tree .0) (its-tree .1))
 
     -- The diagram is one that was read.
     pub is-read : Read (o .diagram)
@@ -39,10 +39,10 @@ module _ (text : List ℕ) (o : Out) (read : o ≡ read-of text) where
     translated lent n left r long w e = done (its-tree .0) n long (its-tree .1) (ap report e) (w text (its-tree .0) (its-tree .1) its-shown)
 
   -- A refused text.
-  pub turned-away : (lent left : List ℕ) (r : Translated) (number place : ℕ) → 51204 ≤ length lent → o .answer ≡ Unread number place → r ≡ passed-on (o .answer)
+  pub refused-answer : (lent left : List ℕ) (r : Translated) (number place : ℕ) → 51204 ≤ length lent → o .answer ≡ Unread number place → r ≡ passed-on (o .answer)
       → left ≡ lent → Translation text lent r left
-  turned-away lent left r number place long told e q =
-      refused number place long (refused-exactly text number place .0 (sym (ap (λ (x : Out). x .answer) read) ∙ told)) (ap report (e ∙ ap passed-on told)) q
+  refused-answer lent left r number place long told e q =
+      refused number place long (refused-exactly text number place .0 (sym (ap (λ (x : ReadResult). x .answer) read) ∙ told)) (ap report (e ∙ ap passed-on told)) q
 
 -- The table that the passes write over the lent bytes is the diagram's.
 module _ (g : Diagram) (lent : List ℕ) (long : 51204 ≤ length lent) where

@@ -10,7 +10,7 @@ use Rattle.diagram.specs.Tree.{Flow}
 use Rattle.diagram.specs.Count.{flow-nodes, flow-events}
 use Rattle.diagram.specs.declared.Diagram.{Diagram}
 use Rattle.reader.specs.Accepted.{Accepted}
-use Rattle.reader.specs.Views.{Shows}
+use Rattle.reader.specs.ShownNodes.{Shows}
 use Rattle.process.specs.Expand.{expand}
 use Rattle.process.specs.Postfix.{postfix}
 use Rattle.process.proofs.Numbered.{size, Numbered}

@@ -6,7 +6,7 @@ use lib.ListN.{length, take, drop}
 use Rattle.base.specs.Reports.{result, refusal}
 use Rattle.diagram.specs.Tree.{Flow}
 use Rattle.reader.specs.Accepted.{Accepted}
-use Rattle.reader.specs.Refused.{Turned}
+use Rattle.reader.specs.Refused.{RefusedAt}
 use Rattle.translator.specs.Reports.{report}
 use Rattle.translator.specs.Translates.{Table-of, table-of}
 use Rattle.translator.specs.declared.Translated.{Translated}
@@ -27,7 +27,7 @@ pub record Result (text lent : List ℕ) (r : Translated) (left : List ℕ) : Ty
 -- Number 1, at 0, exactly where "translation under 51,204" bytes is lent; else the text's number and place.
 pub data Reason (text lent : List ℕ) (number place : ℕ) : Type 0 where
   short-sheet : length lent < 51204 → number ≡ 1 → place ≡ 0 → Reason text lent number place
-  of-text : 51204 ≤ length lent → Turned text number place → Reason text lent number place
+  of-text : 51204 ≤ length lent → RefusedAt text number place → Reason text lent number place
 
 -- One of the numbers 1 to 11, and every lent byte as it was.
 pub record Refusal (text lent : List ℕ) (r : Translated) (left : List ℕ) : Type 0 where

@@ -12,8 +12,8 @@ use Rattle.diagram.specs.Tree.{Flow}
 use Rattle.diagram.specs.Count.{flow-copies, flow-events}
 use Rattle.diagram.specs.declared.Diagram.{Diagram}
 use Rattle.reader.specs.Accepted.{Accepted}
-use Rattle.reader.specs.Refused.{Turned}
-use Rattle.reader.specs.Views.{Shows}
+use Rattle.reader.specs.Refused.{RefusedAt}
+use Rattle.reader.specs.ShownNodes.{Shows}
 use Rattle.reader.specs.declared.Answer.{Answer}
 use Rattle.reader.specs.declared.Answer.the-variants.{Done, Refused as Unread}
 use Rattle.process.specs.Expand.{expand}
@@ -53,7 +53,7 @@ pub record Written (d : Flow) (lent : List ℕ) (count : ℕ) (left : List ℕ) 
 -- bytes"; or the table of the text's diagram.
 pub data Translation (text lent : List ℕ) (r : Translated) (left : List ℕ) : Type 0 where
   short : length lent < 51204 → report r ≡ refusal 1 0 → left ≡ lent → Translation text lent r left
-  refused : (number place : ℕ) → 51204 ≤ length lent → Turned text number place → report r ≡ refusal number place → left ≡ lent → Translation text lent r left
+  refused : (number place : ℕ) → 51204 ≤ length lent → RefusedAt text number place → report r ≡ refusal number place → left ≡ lent → Translation text lent r left
   done : (d : Flow) (count : ℕ) → 51204 ≤ length lent → Accepted text d → report r ≡ result (count ∷ []) → Written d lent count left → Translation text lent r left
 
 -- Reading's refusal, passed on: for the contract of a private function. Where the text was read there is none, and no byte was written.

@@ -14,12 +14,6 @@ held : (c : tie.After-prepare)
     (record { kinds = c .prepare .result .kinds; sizes = c .prepare .result .sizes; depths = c .prepare .result .depths; count = c .prepare .result .count })
 held c = rows-held _ (c .prepare .result) (c .prepare .ensures .0)
 
-first-requires : tie.Need-first-requires
-first-requires c κs = search needs
-
-prepare-requires : tie.Need-prepare-requires
-prepare-requires c κs = search needs
-
 array-share-prefix-kinds : tie.Need-array-share-prefix-kinds
 array-share-prefix-kinds c = held (c .before .before .before .before .before .before) .first .room
 
@@ -38,18 +32,6 @@ array-share-prefix-depths c = held (c .before .before .before .before .before .b
 slice-aggregate-lines-3 : tie.Need-slice-aggregate-lines-3
 slice-aggregate-lines-3 c = held (c .before .before .before .before .before .before .before .before .before) .third .exact
 
-slice-aggregate-lines-4 : tie.Need-slice-aggregate-lines-4
-slice-aggregate-lines-4 c = search needs
-
-slice-aggregate-lines-5 : tie.Need-slice-aggregate-lines-5
-slice-aggregate-lines-5 c = search needs
-
-lines-requires : tie.Need-lines-requires
-lines-requires c κs = search needs
-
-same-length : tie.Need-same-length
-same-length c = search needs
-
 returns : tie.Need-returns
 unfolding spot-listing
 returns c =
@@ -61,17 +43,6 @@ returns c =
 pub drawn-spec : {M : Type 1} → statement M
 drawn-spec =
     tie.close
-    (tie.spec
-    first-requires
-    prepare-requires
-    array-share-prefix-kinds
-    slice-aggregate-lines
-    array-share-prefix-sizes
-    slice-aggregate-lines-2
-    array-share-prefix-depths
-    slice-aggregate-lines-3
-    slice-aggregate-lines-4
-    slice-aggregate-lines-5
-    lines-requires
-    same-length
-    returns)
+    (tie.spec (λ c κs. search needs) (λ c κs. search needs) array-share-prefix-kinds slice-aggregate-lines array-share-prefix-sizes
+    slice-aggregate-lines-2 array-share-prefix-depths slice-aggregate-lines-3 (λ c. search needs) (λ c. search needs) (λ c κs. search needs)
+    (λ c. search needs) returns)

@@ -11,9 +11,6 @@ held : (c : tie.After-prepare)
     (record { kinds = c .prepare .result .kinds; sizes = c .prepare .result .sizes; depths = c .prepare .result .depths; count = c .prepare .result .count })
 held c = rows-held (c .before .args .d) (c .prepare .result) (c .prepare .ensures .0)
 
-prepare-requires : tie.Need-prepare-requires
-prepare-requires c κs = search needs
-
 array-share-prefix-kinds : tie.Need-array-share-prefix-kinds
 array-share-prefix-kinds c = held (c .before .before .before .before .before) .first .room
 
@@ -32,30 +29,11 @@ array-share-prefix-depths c = held (c .before .before .before .before .before .b
 slice-aggregate-seek-3 : tie.Need-slice-aggregate-seek-3
 slice-aggregate-seek-3 c = held (c .before .before .before .before .before .before .before .before) .third .exact
 
-slice-aggregate-seek-4 : tie.Need-slice-aggregate-seek-4
-slice-aggregate-seek-4 c = search needs
-
-slice-aggregate-seek-5 : tie.Need-slice-aggregate-seek-5
-slice-aggregate-seek-5 c = search needs
-
-seek-requires : tie.Need-seek-requires
-seek-requires c κs = search needs
-
 returns : tie.Need-returns
 returns c = let p = c .before .before .before .before .before .before .before .before .before .before .before in rows-found (p .before .args .d) (p .prepare .result) (p .prepare .ensures .0) (p .prepare .ensures .1) (p .before .args .event) (c .seek .result) (c .seek .ensures)
 
 pub find-spec : {M : Type 1} → statement M
 find-spec =
     tie.close
-    (tie.spec
-    prepare-requires
-    array-share-prefix-kinds
-    slice-aggregate-seek
-    array-share-prefix-sizes
-    slice-aggregate-seek-2
-    array-share-prefix-depths
-    slice-aggregate-seek-3
-    slice-aggregate-seek-4
-    slice-aggregate-seek-5
-    seek-requires
-    returns)
+    (tie.spec (λ c κs. search needs) array-share-prefix-kinds slice-aggregate-seek array-share-prefix-sizes slice-aggregate-seek-2
+    array-share-prefix-depths slice-aggregate-seek-3 (λ c. search needs) (λ c. search needs) (λ c κs. search needs) returns)

@@ -7,9 +7,6 @@ use Rattle.events.proofs.labelled.Tie as tie
 returns : tie.Need-returns
 returns c = let a = c .before .args in labelled-past (a .d) (a .event) (c .if1 .taken)
 
-find-requires : tie.Need-find-requires
-find-requires c κs = search needs
-
 returns-2 : tie.Need-returns-2
 returns-2 c =
     let a = c .before .before .before .before .args in
@@ -23,4 +20,4 @@ returns-3 c =
     labelled-leaf (a .d) (a .event) (s .result) (c .before .before .before .if1 .left) (s .ensures) (c .if2 .left)
 
 pub labelled-spec : {M : Type 1} → statement M
-labelled-spec = tie.close (tie.spec returns find-requires returns-2 returns-3)
+labelled-spec = tie.close (tie.spec returns (λ c κs. search needs) returns-2 returns-3)

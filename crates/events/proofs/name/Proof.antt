@@ -6,18 +6,6 @@ use borrow.Author.Needs.{needs}
 use Rattle.events.proofs.name.Statement.{statement}
 use Rattle.events.proofs.name.Tie as tie
 
-read-requires : tie.Need-read-requires
-read-requires c κs = search needs
-
-enum-told : tie.Need-enum-told
-enum-told c = search needs
-
-enum-told-2 : tie.Need-enum-told-2
-enum-told-2 c = search needs
-
-slice-aggregate-result : tie.Need-slice-aggregate-result
-slice-aggregate-result c = search needs
-
 returns : tie.Need-returns
 returns c =
     let a = c .before .before .before .before .before .args in
@@ -25,20 +13,11 @@ returns c =
     let told = c .before .enum-told2 .given in
     named-away (a .text) _ (r .result) (a .event) (told .0 .0) (told .0 .1 .0) (r .ensures) (told .1) (record { its-block = refl; its-offset = omega arith; its-bytes = refl }) refl
 
-slice-aggregate-result-2 : tie.Need-slice-aggregate-result-2
-slice-aggregate-result-2 c = search needs
-
 returns-2 : tie.Need-returns-2
 returns-2 c =
     let a = c .before .before .before .before .before .before .before .args in
     let r = c .before .before .before .before .before .read in
     named-past (a .text) _ (r .result) (a .event) (r .ensures) (c .before .before .before .enum-told .given .1) (omega (arith, c .before .if1 .taken)) (record { its-block = refl; its-offset = omega arith; its-bytes = refl }) refl
-
-find-requires : tie.Need-find-requires
-find-requires c κs = search needs
-
-word-requires : tie.Need-word-requires
-word-requires c κs = search needs
 
 returns-3 : tie.Need-returns-3
 returns-3 c =
@@ -50,14 +29,5 @@ returns-3 c =
 pub name-spec : {M : Type 1} → statement M
 name-spec =
     tie.close
-    (tie.spec
-    read-requires
-    enum-told
-    enum-told-2
-    slice-aggregate-result
-    returns
-    slice-aggregate-result-2
-    returns-2
-    find-requires
-    word-requires
-    returns-3)
+    (tie.spec (λ c κs. search needs) (λ c. search needs) (λ c. search needs) (λ c. search needs) returns (λ c. search needs) returns-2
+    (λ c κs. search needs) (λ c κs. search needs) returns-3)

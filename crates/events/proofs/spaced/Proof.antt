@@ -5,22 +5,10 @@ use borrow.Author.Needs.{needs}
 use Rattle.events.proofs.spaced.Statement.{statement}
 use Rattle.events.proofs.spaced.Tie as tie
 
-value-requires : tie.Need-value-requires
-value-requires c κs = search needs
-
-value-requires-2 : tie.Need-value-requires-2
-value-requires-2 c κs = search needs
-
-value-requires-3 : tie.Need-value-requires-3
-value-requires-3 c κs = search needs
-
-same-length : tie.Need-same-length
-same-length c = search needs
-
 returns : tie.Need-returns
 unfolding spaced-values
 returns c = before _ _ _ (c .before .before .before .before .before .before .before .before .before .before .before .before .value .ensures) (before _ _ _ (c .before .before .before .before .before .before .before .value2 .ensures) (c .before .before .value3 .ensures))
 
 pub spaced-spec : {M : Type 1} → statement M
 spaced-spec =
-    tie.close (tie.spec value-requires value-requires-2 value-requires-3 same-length returns)
+    tie.close (tie.spec (λ c κs. search needs) (λ c κs. search needs) (λ c κs. search needs) (λ c. search needs) returns)

@@ -4,18 +4,6 @@ use borrow.Author.Needs.{needs}
 use Rattle.events.proofs.value.Statement.{statement}
 use Rattle.events.proofs.value.Tie as tie
 
-slice-aggregate-bytes : tie.Need-slice-aggregate-bytes
-slice-aggregate-bytes c = search needs
-
-bytes-requires : tie.Need-bytes-requires
-bytes-requires c κs = search needs
-
-number-requires : tie.Need-number-requires
-number-requires c κs = search needs
-
-same-length : tie.Need-same-length
-same-length c = search needs
-
 returns : tie.Need-returns
 returns c = rw (c .before .before .before .before .before .before .before .before .before .if1 .taken) (before _ _ _ (c .before .before .before .before .before .before .bytes .ensures) (c .before .before .number .ensures))
 
@@ -25,4 +13,4 @@ returns-2 c = rw (c .if1 .left) (none-put _)
 pub value-spec : {M : Type 1} → statement M
 value-spec =
     tie.close
-    (tie.spec slice-aggregate-bytes bytes-requires number-requires same-length returns returns-2)
+    (tie.spec (λ c. search needs) (λ c κs. search needs) (λ c κs. search needs) (λ c. search needs) returns returns-2)

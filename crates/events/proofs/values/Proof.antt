@@ -4,27 +4,12 @@ use borrow.Author.Needs.{needs}
 use Rattle.events.proofs.values.Statement.{statement}
 use Rattle.events.proofs.values.Tie as tie
 
-read-requires : tie.Need-read-requires
-read-requires c κs = search needs
-
-enum-told : tie.Need-enum-told
-enum-told c = search needs
-
-enum-told-2 : tie.Need-enum-told-2
-enum-told-2 c = search needs
-
-passed-on-requires : tie.Need-passed-on-requires
-passed-on-requires c κs = search needs
-
 returns : tie.Need-returns
 returns c =
     let a = c .before .before .before .before .before .args in
     let r = c .before .before .before .read in
     let told = c .before .enum-told2 .given in
     valued-away (a .text .now) (r .result) (a .event) (told .0 .0) (told .0 .1 .0) (c .passed-on .result) (r .ensures) (told .1) (c .passed-on .ensures)
-
-labelled-requires : tie.Need-labelled-requires
-labelled-requires c κs = search needs
 
 returns-2 : tie.Need-returns-2
 returns-2 c =
@@ -35,11 +20,5 @@ returns-2 c =
 pub values-spec : {M : Type 1} → statement M
 values-spec =
     tie.close
-    (tie.spec
-    read-requires
-    enum-told
-    enum-told-2
-    passed-on-requires
-    returns
-    labelled-requires
+    (tie.spec (λ c κs. search needs) (λ c. search needs) (λ c. search needs) (λ c κs. search needs) returns (λ c κs. search needs)
     returns-2)

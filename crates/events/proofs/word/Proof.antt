@@ -6,23 +6,8 @@ use borrow.Author.Needs.{needs}
 use Rattle.events.proofs.word.Statement.{statement}
 use Rattle.events.proofs.word.Tie as tie
 
-word-end-requires : tie.Need-word-end-requires
-word-end-requires c κs = search needs
-
-slice-aggregate-result : tie.Need-slice-aggregate-result
-slice-aggregate-result c = search needs
-
 returns : tie.Need-returns
 returns c = let a = c .before .before .before .before .args in word-none (a .text) _ (a .at) (c .before .before .word-end .result) (c .before .before .word-end .ensures) (c .before .if1 .taken) refl (omega arith) refl
-
-sub-result : tie.Need-sub-result
-sub-result c = search needs
-
-part-result-start : tie.Need-part-result-start
-part-result-start c = search needs
-
-part-result-end : tie.Need-part-result-end
-part-result-end c = search needs
 
 returns-2 : tie.Need-returns-2
 returns-2 c = let a = c .before .before .before .before .args in word-some (a .text) _ (a .at) (c .before .before .word-end .result) (c .before .before .word-end .ensures) (c .before .if1 .left) refl (omega arith) refl
@@ -30,11 +15,4 @@ returns-2 c = let a = c .before .before .before .before .args in word-some (a .t
 pub word-spec : {M : Type 1} → statement M
 word-spec =
     tie.close
-    (tie.spec
-    word-end-requires
-    slice-aggregate-result
-    returns
-    sub-result
-    part-result-start
-    part-result-end
-    returns-2)
+    (tie.spec (λ c κs. search needs) (λ c. search needs) returns (λ c. search needs) (λ c. search needs) (λ c. search needs) returns-2)

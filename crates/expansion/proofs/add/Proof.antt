@@ -8,19 +8,10 @@ use Rattle.expansion.proofs.add.Tie as tie
 returns : tie.Need-returns
 returns c = add-full (c .before .before .before .args .code) _ (omega (arith, c .if1 .taken))
 
-put-byte-requires : tie.Need-put-byte-requires
-put-byte-requires c κs = search needs
-
-add-t8 : tie.Need-add-t8
-add-t8 c = search needs
-
-same-length : tie.Need-same-length
-same-length c = search needs
-
 returns-2 : tie.Need-returns-2
 returns-2 c =
     let a = c .before .before .before .before .before .before .before .before .args in
     add-room (a .code) (a .s) (a .codes .now) (omega (arith, c .before .before .before .before .before .if1 .left)) (c .before .before .before .put-byte .ensures)
 
 pub add-spec : {M : Type 1} → statement M
-add-spec = tie.close (tie.spec returns put-byte-requires add-t8 same-length returns-2)
+add-spec = tie.close (tie.spec returns (λ c κs. search needs) (λ c. search needs) (λ c. search needs) returns-2)

@@ -11,9 +11,6 @@ use Rattle.expansion.proofs.expand.Tie as tie
 held : (c : tie.After-columns) → Holds (c .before .before .args .d) (c .columns .result)
 held c = columns-held (c .before .before .args .d) (c .columns .ensures)
 
-columns-requires : tie.Need-columns-requires
-columns-requires c κs = search needs
-
 array-share-prefix-kinds : tie.Need-array-share-prefix-kinds
 array-share-prefix-kinds c = held (c .before .before .before) .first .room
 
@@ -32,12 +29,6 @@ array-share-prefix-depths c = held (c .before .before .before .before .before) .
 slice-aggregate-part-3 : tie.Need-slice-aggregate-part-3
 slice-aggregate-part-3 c = held (c .before .before .before .before .before .before) .third .exact
 
-part-requires : tie.Need-part-requires
-part-requires c κs = search needs
-
-same-length : tie.Need-same-length
-same-length c = search needs
-
 returns : tie.Need-returns
 unfolding expanded
 returns c =
@@ -48,14 +39,5 @@ returns c =
 pub expand-spec : {M : Type 1} → statement M
 expand-spec =
     tie.close
-    (tie.spec
-    columns-requires
-    array-share-prefix-kinds
-    slice-aggregate-part
-    array-share-prefix-sizes
-    slice-aggregate-part-2
-    array-share-prefix-depths
-    slice-aggregate-part-3
-    part-requires
-    same-length
-    returns)
+    (tie.spec (λ c κs. search needs) array-share-prefix-kinds slice-aggregate-part array-share-prefix-sizes slice-aggregate-part-2
+    array-share-prefix-depths slice-aggregate-part-3 (λ c κs. search needs) (λ c. search needs) returns)

@@ -5,14 +5,8 @@ use borrow.Author.Needs.{needs}
 use Rattle.firmware.proofs.adl_check.Statement.{statement}
 use Rattle.firmware.proofs.adl_check.Tie as tie
 
-check-requires : tie.Need-check-requires
-check-requires c κs = search needs
-
-number-of-requires : tie.Need-number-of-requires
-number-of-requires c κs = search needs
-
 returns : tie.Need-returns
 returns c = c .number-of .ensures ∙ ap number (c .before .check .ensures)
 
 pub adl-check-spec : {M : Type 1} → statement M
-adl-check-spec = tie.close (tie.spec check-requires number-of-requires returns)
+adl-check-spec = tie.close (tie.spec (λ c κs. search needs) (λ c κs. search needs) returns)

@@ -6,26 +6,8 @@ use borrow.Author.Needs.{needs}
 use Rattle.firmware.proofs.adl_finished.Statement.{statement}
 use Rattle.firmware.proofs.adl_finished.Tie as tie
 
-is-record-requires : tie.Need-is-record-requires
-is-record-requires c κs = search needs
-
 returns : tie.Need-returns
 returns c = finished-short _ _ (sym (c .before .is-record .ensures) ∙ not-e _ (c .if1 .taken))
-
-load-requires : tie.Need-load-requires
-load-requires c κs = search needs
-
-finished-requires : tie.Need-finished-requires
-finished-requires c κs = search needs
-
-enum-told : tie.Need-enum-told
-enum-told c = search needs
-
-enum-told-2 : tie.Need-enum-told-2
-enum-told-2 c = search needs
-
-enum-known-finish : tie.Need-enum-known-finish
-enum-known-finish c = search needs
 
 returns-2 : tie.Need-returns-2
 returns-2 c =
@@ -45,14 +27,5 @@ returns-4 c =
 pub adl-finished-spec : {M : Type 1} → statement M
 adl-finished-spec =
     tie.close
-    (tie.spec
-    is-record-requires
-    returns
-    load-requires
-    finished-requires
-    enum-told
-    enum-told-2
-    enum-known-finish
-    returns-2
-    returns-3
-    returns-4)
+    (tie.spec (λ c κs. search needs) returns (λ c κs. search needs) (λ c κs. search needs) (λ c. search needs) (λ c. search needs)
+    (λ c. search needs) returns-2 returns-3 returns-4)

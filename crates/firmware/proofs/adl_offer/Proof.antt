@@ -6,20 +6,8 @@ use borrow.Author.Needs.{needs}
 use Rattle.firmware.proofs.adl_offer.Statement.{statement}
 use Rattle.firmware.proofs.adl_offer.Tie as tie
 
-is-record-requires : tie.Need-is-record-requires
-is-record-requires c κs = search needs
-
 returns : tie.Need-returns
 returns c = offer-short _ _ _ (sym (c .before .is-record .ensures) ∙ not-e _ (c .if1 .taken))
-
-load-requires : tie.Need-load-requires
-load-requires c κs = search needs
-
-offer-requires : tie.Need-offer-requires
-offer-requires c κs = search needs
-
-number-of-requires : tie.Need-number-of-requires
-number-of-requires c κs = search needs
 
 same-length : tie.Need-same-length
 same-length c = c .before .before .before .offer .kept .1 .1 .0
@@ -33,11 +21,4 @@ returns-2 c =
 pub adl-offer-spec : {M : Type 1} → statement M
 adl-offer-spec =
     tie.close
-    (tie.spec
-    is-record-requires
-    returns
-    load-requires
-    offer-requires
-    number-of-requires
-    same-length
-    returns-2)
+    (tie.spec (λ c κs. search needs) returns (λ c κs. search needs) (λ c κs. search needs) (λ c κs. search needs) same-length returns-2)

@@ -6,26 +6,11 @@ use borrow.Author.Needs.{needs}
 use Rattle.firmware.proofs.adl_step.Statement.{statement}
 use Rattle.firmware.proofs.adl_step.Tie as tie
 
-is-record-requires : tie.Need-is-record-requires
-is-record-requires c κs = search needs
-
 same-length : tie.Need-same-length
 same-length c = refl
 
 returns : tie.Need-returns
 returns c = step-short _ _ _ (sym (c .before .is-record .ensures) ∙ not-e _ (c .if1 .taken))
-
-load-requires : tie.Need-load-requires
-load-requires c κs = search needs
-
-step-requires : tie.Need-step-requires
-step-requires c κs = search needs
-
-leave-requires : tie.Need-leave-requires
-leave-requires c κs = search needs
-
-number-of-requires : tie.Need-number-of-requires
-number-of-requires c κs = search needs
 
 same-length-2 : tie.Need-same-length-2
 same-length-2 c = c .before .before .before .leave .kept .0
@@ -41,13 +26,5 @@ returns-2 c =
 pub adl-step-spec : {M : Type 1} → statement M
 adl-step-spec =
     tie.close
-    (tie.spec
-    is-record-requires
-    same-length
-    returns
-    load-requires
-    step-requires
-    leave-requires
-    number-of-requires
-    same-length-2
-    returns-2)
+    (tie.spec (λ c κs. search needs) same-length returns (λ c κs. search needs) (λ c κs. search needs) (λ c κs. search needs)
+    (λ c κs. search needs) same-length-2 returns-2)

@@ -7,18 +7,6 @@ use borrow.Author.Needs.{needs}
 use Rattle.firmware.proofs.leave.Statement.{statement}
 use Rattle.firmware.proofs.leave.Tie as tie
 
-enum-told : tie.Need-enum-told
-enum-told c = search needs
-
-enum-told-2 : tie.Need-enum-told-2
-enum-told-2 c = search needs
-
-returns : tie.Need-returns
-returns c = search needs
-
-store-requires : tie.Need-store-requires
-store-requires c κs = search needs
-
 same-length : tie.Need-same-length
 same-length c = ap length (c .before .before .store .ensures) ∙ fill-length _ _
 
@@ -27,4 +15,4 @@ returns-2 c = left-done _ _ _ _ (c .before .before .before .before .enum-told .g
 
 pub leave-spec : {M : Type 1} → statement M
 leave-spec =
-    tie.close (tie.spec enum-told enum-told-2 returns store-requires same-length returns-2)
+    tie.close (tie.spec (λ c. search needs) (λ c. search needs) (λ c. search needs) (λ c κs. search needs) same-length returns-2)

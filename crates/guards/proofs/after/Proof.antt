@@ -6,9 +6,6 @@ use Rattle.guards.proofs.Rowed.{after-new, after-old}
 use Rattle.guards.proofs.after.Statement.{statement}
 use Rattle.guards.proofs.after.Tie as tie
 
-add-result : tie.Need-add-result
-add-result c = search needs
-
 returns : tie.Need-returns
 returns c =
     (sym (after-new _ (c .before .before .args .m) (c .if1 .taken)), omega arith)
@@ -18,4 +15,4 @@ returns-2 c =
     (sym (after-old _ (c .before .before .args .m) (c .if1 .left)), omega arith)
 
 pub after-spec : {M : Type 1} → statement M
-after-spec = tie.close (tie.spec add-result returns returns-2)
+after-spec = tie.close (tie.spec (λ c. search needs) returns returns-2)

@@ -8,39 +8,6 @@ use Rattle.guards.specs.Words.{not-row, both-row, either-row}
 use Rattle.guards.proofs.both.Statement.{statement}
 use Rattle.guards.proofs.both.Tie as tie
 
-begun-rows-requires : tie.Need-begun-rows-requires
-begun-rows-requires c κs = search needs
-
-add-row : tie.Need-add-row
-add-row c = search needs
-
-both-row-requires : tie.Need-both-row-requires
-both-row-requires c κs = search needs
-
-row-requires : tie.Need-row-requires
-row-requires c κs = search needs
-
-add-t11 : tie.Need-add-t11
-add-t11 c = search needs
-
-narrow-requires : tie.Need-narrow-requires
-narrow-requires c κs = search needs
-
-add-narrow : tie.Need-add-narrow
-add-narrow c = search needs
-
-narrow-requires-2 : tie.Need-narrow-requires-2
-narrow-requires-2 c κs = search needs
-
-add-narrow-2 : tie.Need-add-narrow-2
-add-narrow-2 c = search needs
-
-narrow-requires-3 : tie.Need-narrow-requires-3
-narrow-requires-3 c κs = search needs
-
-same-length : tie.Need-same-length
-same-length c = search needs
-
 returns : tie.Need-returns
 returns c =
     let s = c .before .before .before .before .before .before .before .before .before .before .before .before .before .args in
@@ -61,16 +28,6 @@ returns c =
 pub both-spec : {M : Type 1} → statement M
 both-spec =
     tie.close
-    (tie.spec
-    begun-rows-requires
-    add-row
-    both-row-requires
-    row-requires
-    add-t11
-    narrow-requires
-    add-narrow
-    narrow-requires-2
-    add-narrow-2
-    narrow-requires-3
-    same-length
+    (tie.spec (λ c κs. search needs) (λ c. search needs) (λ c κs. search needs) (λ c κs. search needs) (λ c. search needs)
+    (λ c κs. search needs) (λ c. search needs) (λ c κs. search needs) (λ c. search needs) (λ c κs. search needs) (λ c. search needs)
     returns)

@@ -6,17 +6,11 @@ use Rattle.guards.proofs.Stepped.{rowed-two, rowed-one, rowed-none}
 use Rattle.guards.proofs.down_rows.Statement.{statement}
 use Rattle.guards.proofs.down_rows.Tie as tie
 
-both-row-requires : tie.Need-both-row-requires
-both-row-requires c κs = search needs
-
 row-requires : tie.Need-row-requires
 row-requires c κs = omega arith
 
 add-row : tie.Need-add-row
 add-row c = omega arith
-
-both-row-requires-2 : tie.Need-both-row-requires-2
-both-row-requires-2 c κs = search needs
 
 row-requires-2 : tie.Need-row-requires-2
 row-requires-2 c κs = omega arith
@@ -34,9 +28,6 @@ returns c =
     rowed-two (a .base) (a .op) (a .k) (a .m) (a .x) (a .y) _ _ _ _ _
     (first .before .before .before .if1 .taken) (first .before .both-row .ensures) (c .before .before .before .both-row2 .ensures)
     (first .row .ensures) (c .before .before .row2 .ensures)
-
-both-row-requires-3 : tie.Need-both-row-requires-3
-both-row-requires-3 c κs = search needs
 
 row-requires-3 : tie.Need-row-requires-3
 row-requires-3 c κs = omega arith
@@ -61,18 +52,5 @@ returns-3 c =
 pub down-rows-spec : {M : Type 1} → statement M
 down-rows-spec =
     tie.close
-    (tie.spec
-    both-row-requires
-    row-requires
-    add-row
-    both-row-requires-2
-    row-requires-2
-    add-result
-    same-length
-    returns
-    both-row-requires-3
-    row-requires-3
-    add-result-2
-    same-length-2
-    returns-2
-    returns-3)
+    (tie.spec (λ c κs. search needs) row-requires add-row (λ c κs. search needs) row-requires-2 add-result same-length returns
+    (λ c κs. search needs) row-requires-3 add-result-2 same-length-2 returns-2 returns-3)

@@ -44,15 +44,6 @@ sub-left c = omega arith
 shared-slice-read-op : tie.Need-shared-slice-read-op Inv-loop μ-loop
 shared-slice-read-op c = omega (arith, c .before .before .loop .inv .within, c .before .loop-test .taken)
 
-number-requires : tie.Need-number-requires Inv-loop μ-loop
-number-requires c κs = search needs
-
-number-requires-2 : tie.Need-number-requires-2 Inv-loop μ-loop
-number-requires-2 c κs = search needs
-
-number-requires-3 : tie.Need-number-requires-3 Inv-loop μ-loop
-number-requires-3 c κs = search needs
-
 down-rows-requires : tie.Need-down-rows-requires Inv-loop μ-loop
 down-rows-requires c κs = let b = bounds (c .before .before .before .before .before .before .before) in omega arith
 
@@ -114,24 +105,6 @@ returns c =
 pub downs-spec : {M : Type 1} → statement M
 downs-spec =
     tie.close
-    (tie.spec
-    Inv-loop
-    μ-loop
-    loop-holds
-    sub-left
-    shared-slice-read-op
-    number-requires
-    number-requires-2
-    number-requires-3
-    down-rows-requires
-    sub-e
-    mul-put-word
-    add-put-word
-    event-record-requires
-    put-word-requires
-    split-requires
-    loop-less
-    loop-again
-    same-length
-    same-length-2
-    returns)
+    (tie.spec Inv-loop μ-loop loop-holds sub-left shared-slice-read-op (λ c κs. search needs) (λ c κs. search needs) (λ c κs. search needs)
+    down-rows-requires sub-e mul-put-word add-put-word event-record-requires put-word-requires split-requires loop-less loop-again
+    same-length same-length-2 returns)

@@ -12,17 +12,11 @@ mul-result c = omega arith
 returns : tie.Need-returns
 returns c = record-of-leaf _ _ _ _ _ (c .if1 .taken)
 
-wide-requires : tie.Need-wide-requires
-wide-requires c κs = search needs
-
 mul-result-2 : tie.Need-mul-result-2
 mul-result-2 c = omega arith
 
 returns-2 : tie.Need-returns-2
 returns-2 c = record-of-again _ _ _ _ _ _ (c .before .if2 .taken) (c .wide .ensures .0)
-
-wide-requires-2 : tie.Need-wide-requires-2
-wide-requires-2 c κs = search needs
 
 mul-result-3 : tie.Need-mul-result-3
 mul-result-3 c = omega arith
@@ -45,15 +39,5 @@ returns-3 c =
 pub event-record-spec : {M : Type 1} → statement M
 event-record-spec =
     tie.close
-    (tie.spec
-    mul-result
-    returns
-    wide-requires
-    mul-result-2
-    returns-2
-    wide-requires-2
-    mul-result-3
-    mul-result-4
-    add-result
-    add-result-2
-    returns-3)
+    (tie.spec mul-result returns (λ c κs. search needs) mul-result-2 returns-2 (λ c κs. search needs) mul-result-3 mul-result-4 add-result
+    add-result-2 returns-3)

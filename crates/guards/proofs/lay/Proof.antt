@@ -80,14 +80,8 @@ add-base c = let s = small c in omega (arith, s .1)
 row-requires : tie.Need-row-requires
 row-requires c κs = let s = small (c .before) in omega (arith, s .1)
 
-not-row-requires : tie.Need-not-row-requires
-not-row-requires c κs = search needs
-
 row-requires-2 : tie.Need-row-requires-2
 row-requires-2 c κs = let s = small (c .before .before .before .before .before .before) in omega (arith, s .1)
-
-either-row-requires : tie.Need-either-row-requires
-either-row-requires c κs = search needs
 
 row-requires-3 : tie.Need-row-requires-3
 row-requires-3 c κs = let s = small (c .before .before .before .before .before .before .before .before .before .before .before) in omega (arith, s .1)
@@ -104,23 +98,8 @@ slice-aggregate-ups-3 c = refl
 ups-requires : tie.Need-ups-requires
 ups-requires c κs = let s = small (test-of (c .before .before .before .before .before .before)) in (omega (arith, s .1), s .0)
 
-slice-aggregate-number : tie.Need-slice-aggregate-number
-slice-aggregate-number c = search needs
-
 add-number : tie.Need-add-number
 add-number c = omega (arith, c .before .before .before .before .before .before .before .ups .ensures .1 .2)
-
-number-requires : tie.Need-number-requires
-number-requires c κs = search needs
-
-array-write-mays : tie.Need-array-write-mays
-array-write-mays c = search needs
-
-slice-aggregate-downs : tie.Need-slice-aggregate-downs
-slice-aggregate-downs c = search needs
-
-slice-aggregate-downs-2 : tie.Need-slice-aggregate-downs-2
-slice-aggregate-downs-2 c = search needs
 
 slice-aggregate-downs-3 : tie.Need-slice-aggregate-downs-3
 slice-aggregate-downs-3 c = refl
@@ -131,9 +110,6 @@ downs-requires c κs =
     let s = small (test-of (rows-of first)) in
     let u = first .ups .ensures .1 in
     (omega (arith, s .1), s .0, u .0, u .1, omega arith)
-
-both-row-requires : tie.Need-both-row-requires
-both-row-requires c κs = search needs
 
 row-requires-4 : tie.Need-row-requires-4
 row-requires-4 c κs =
@@ -149,9 +125,6 @@ add-put-word c = let s = small (test-of (rows-of (first-of (second-of c)))) in o
 
 add-put-word-2 : tie.Need-add-put-word-2
 add-put-word-2 c = let s = small (test-of (rows-of (first-of (second-of c)))) in omega (arith, s .1, second-of c .downs .ensures .1)
-
-put-word-requires : tie.Need-put-word-requires
-put-word-requires c κs = search needs
 
 add-result : tie.Need-add-result
 add-result c = omega (arith, second-of (c .before .before .before) .downs .ensures .1)
@@ -193,35 +166,7 @@ returns-2 c =
 pub lay-spec : {M : Type 1} → statement M
 lay-spec =
     tie.close
-    (tie.spec
-    returns
-    mul-base
-    add-base
-    row-requires
-    not-row-requires
-    row-requires-2
-    either-row-requires
-    row-requires-3
-    slice-aggregate-ups
-    slice-aggregate-ups-2
-    slice-aggregate-ups-3
-    ups-requires
-    slice-aggregate-number
-    add-number
-    number-requires
-    array-write-mays
-    slice-aggregate-downs
-    slice-aggregate-downs-2
-    slice-aggregate-downs-3
-    downs-requires
-    both-row-requires
-    row-requires-4
-    mul-put-word
-    add-put-word
-    add-put-word-2
-    put-word-requires
-    add-result
-    mul-result
-    add-result-2
-    same-length
-    returns-2)
+    (tie.spec returns mul-base add-base row-requires (λ c κs. search needs) row-requires-2 (λ c κs. search needs) row-requires-3
+    slice-aggregate-ups slice-aggregate-ups-2 slice-aggregate-ups-3 ups-requires (λ c. search needs) add-number (λ c κs. search needs)
+    (λ c. search needs) (λ c. search needs) (λ c. search needs) slice-aggregate-downs-3 downs-requires (λ c κs. search needs) row-requires-4
+    mul-put-word add-put-word add-put-word-2 (λ c κs. search needs) add-result mul-result add-result-2 same-length returns-2)

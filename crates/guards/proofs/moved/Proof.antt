@@ -10,9 +10,6 @@ returns : tie.Need-returns
 returns c =
     (sym (moved-loop _ _ (c .if1 .taken)), omega arith)
 
-add-result : tie.Need-add-result
-add-result c = search needs
-
 returns-2 : tie.Need-returns-2
 returns-2 c =
     (sym (moved-joint _ _ (c .if2 .taken)), omega arith)
@@ -28,4 +25,4 @@ returns-4 c =
     let e = moved-leaf (s .op) (s .top) (omega (arith, c .before .before .if1 .left, c .before .if2 .left)) in (omega (arith, e), omega arith)
 
 pub moved-spec : {M : Type 1} → statement M
-moved-spec = tie.close (tie.spec returns add-result returns-2 returns-3 returns-4)
+moved-spec = tie.close (tie.spec returns (λ c. search needs) returns-2 returns-3 returns-4)

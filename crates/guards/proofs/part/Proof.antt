@@ -4,61 +4,25 @@ use Rattle.guards.proofs.Rowed.{piece-event, piece-again, piece-rounds,
 use Rattle.guards.proofs.part.Statement.{statement}
 use Rattle.guards.proofs.part.Tie as tie
 
-event-requires : tie.Need-event-requires
-event-requires c κs = search needs
-
-same-length : tie.Need-same-length
-same-length c = search needs
-
 returns : tie.Need-returns
 returns c =
     made-as (piece-event _ _ _ _ _ (c .before .before .before .before .if1 .taken)) (c .before .before .event .ensures)
-
-again-requires : tie.Need-again-requires
-again-requires c κs = search needs
-
-same-length-2 : tie.Need-same-length-2
-same-length-2 c = search needs
 
 returns-2 : tie.Need-returns-2
 returns-2 c =
     made-as (piece-again _ _ _ _ _ (c .before .before .before .before .if2 .taken)) (c .before .before .again .ensures)
 
-rounds-requires : tie.Need-rounds-requires
-rounds-requires c κs = search needs
-
-same-length-3 : tie.Need-same-length-3
-same-length-3 c = search needs
-
 returns-3 : tie.Need-returns-3
 returns-3 c =
     made-as (piece-rounds _ _ _ _ _ (c .before .before .before .before .if3 .taken)) (c .before .before .rounds .ensures)
-
-some-requires : tie.Need-some-requires
-some-requires c κs = search needs
-
-same-length-4 : tie.Need-same-length-4
-same-length-4 c = search needs
 
 returns-4 : tie.Need-returns-4
 returns-4 c =
     made-as (piece-or _ _ _ _ _ (c .before .before .before .before .if4 .taken)) (c .before .before .some .ensures)
 
-one-requires : tie.Need-one-requires
-one-requires c κs = search needs
-
-same-length-5 : tie.Need-same-length-5
-same-length-5 c = search needs
-
 returns-5 : tie.Need-returns-5
 returns-5 c =
     made-as (piece-one _ _ _ _ _ (c .before .before .before .before .if5 .taken)) (c .before .before .one .ensures)
-
-both-requires : tie.Need-both-requires
-both-requires c κs = search needs
-
-same-length-6 : tie.Need-same-length-6
-same-length-6 c = search needs
 
 returns-6 : tie.Need-returns-6
 returns-6 c =
@@ -70,22 +34,6 @@ returns-6 c =
 pub part-spec : {M : Type 1} → statement M
 part-spec =
     tie.close
-    (tie.spec
-    event-requires
-    same-length
-    returns
-    again-requires
-    same-length-2
-    returns-2
-    rounds-requires
-    same-length-3
-    returns-3
-    some-requires
-    same-length-4
-    returns-4
-    one-requires
-    same-length-5
-    returns-5
-    both-requires
-    same-length-6
-    returns-6)
+    (tie.spec (λ c κs. search needs) (λ c. search needs) returns (λ c κs. search needs) (λ c. search needs) returns-2 (λ c κs. search needs)
+    (λ c. search needs) returns-3 (λ c κs. search needs) (λ c. search needs) returns-4 (λ c κs. search needs) (λ c. search needs) returns-5
+    (λ c κs. search needs) (λ c. search needs) returns-6)

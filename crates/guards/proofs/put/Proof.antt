@@ -9,17 +9,5 @@ returns : tie.Need-returns
 returns c =
     sym (set-out _ _ _ (c .if1 .taken))
 
-mul-column : tie.Need-mul-column
-mul-column c = search needs
-
-slice-write-column : tie.Need-slice-write-column
-slice-write-column c = search needs
-
-same-length : tie.Need-same-length
-same-length c = search needs
-
-returns-2 : tie.Need-returns-2
-returns-2 c = search needs
-
 pub put-spec : {M : Type 1} → statement M
-put-spec = tie.close (tie.spec returns mul-column slice-write-column same-length returns-2)
+put-spec = tie.close (tie.spec returns (λ c. search needs) (λ c. search needs) (λ c. search needs) (λ c. search needs))

@@ -8,18 +8,6 @@ use Rattle.guards.specs.Words.{either-row}
 use Rattle.guards.proofs.settle.Statement.{statement}
 use Rattle.guards.proofs.settle.Tie as tie
 
-either-row-requires : tie.Need-either-row-requires
-either-row-requires c κs = search needs
-
-row-requires : tie.Need-row-requires
-row-requires c κs = search needs
-
-narrow-requires : tie.Need-narrow-requires
-narrow-requires c κs = search needs
-
-same-length : tie.Need-same-length
-same-length c = search needs
-
 returns : tie.Need-returns
 returns c =
     let s = c .before .before .before .before .before .before .before .before .before .args in
@@ -39,4 +27,4 @@ returns-2 c =
 pub settle-spec : {M : Type 1} → statement M
 settle-spec =
     tie.close
-    (tie.spec either-row-requires row-requires narrow-requires same-length returns returns-2)
+    (tie.spec (λ c κs. search needs) (λ c κs. search needs) (λ c κs. search needs) (λ c. search needs) returns returns-2)

@@ -14,78 +14,21 @@ small : (c : tie.After-after2) → c .after2 .result < 12000
 small c =
     let p = c .before .before .before .before .before in omega (arith, c .after2 .ensures .1, p .after .ensures .1, p .before .before .before .before .before .before .pre .1)
 
-settle-requires : tie.Need-settle-requires
-settle-requires c κs = search needs
-
-after-requires : tie.Need-after-requires
-after-requires c κs = search needs
-
-settle-requires-2 : tie.Need-settle-requires-2
-settle-requires-2 c κs = search needs
-
-after-requires-2 : tie.Need-after-requires-2
-after-requires-2 c κs = search needs
-
-begun-rows-requires : tie.Need-begun-rows-requires
-begun-rows-requires c κs = search needs
-
-add-row : tie.Need-add-row
-add-row c = search needs
-
-both-row-requires : tie.Need-both-row-requires
-both-row-requires c κs = search needs
-
-row-requires : tie.Need-row-requires
-row-requires c κs = search needs
-
-add-row-2 : tie.Need-add-row-2
-add-row-2 c = search needs
-
-narrow-requires : tie.Need-narrow-requires
-narrow-requires c κs = search needs
-
-add-narrow : tie.Need-add-narrow
-add-narrow c = search needs
-
-narrow-requires-2 : tie.Need-narrow-requires-2
-narrow-requires-2 c κs = search needs
-
-both-row-requires-2 : tie.Need-both-row-requires-2
-both-row-requires-2 c κs = search needs
-
-row-requires-2 : tie.Need-row-requires-2
-row-requires-2 c κs = search needs
-
-add-t20 : tie.Need-add-t20
-add-t20 c = search needs
-
 narrow-requires-3 : tie.Need-narrow-requires-3
 narrow-requires-3 c κs =
     omega (arith, small (c .before .before .before .before .before .before .before .before .before .before .before .before .before .before .before .before))
-
-add-narrow-2 : tie.Need-add-narrow-2
-add-narrow-2 c = search needs
 
 narrow-requires-4 : tie.Need-narrow-requires-4
 narrow-requires-4 c κs =
     omega (arith, small (c .before .before .before .before .before .before .before .before .before .before .before .before .before .before .before .before .before))
 
-add-narrow-3 : tie.Need-add-narrow-3
-add-narrow-3 c = search needs
-
 narrow-requires-5 : tie.Need-narrow-requires-5
 narrow-requires-5 c κs =
     omega (arith, small (c .before .before .before .before .before .before .before .before .before .before .before .before .before .before .before .before .before .before))
 
-add-narrow-4 : tie.Need-add-narrow-4
-add-narrow-4 c = search needs
-
 narrow-requires-6 : tie.Need-narrow-requires-6
 narrow-requires-6 c κs =
     omega (arith, small (c .before .before .before .before .before .before .before .before .before .before .before .before .before .before .before .before .before .before .before))
-
-same-length : tie.Need-same-length
-same-length c = search needs
 
 returns : tie.Need-returns
 returns c =
@@ -127,28 +70,7 @@ returns c =
 pub some-spec : {M : Type 1} → statement M
 some-spec =
     tie.close
-    (tie.spec
-    settle-requires
-    after-requires
-    settle-requires-2
-    after-requires-2
-    begun-rows-requires
-    add-row
-    both-row-requires
-    row-requires
-    add-row-2
-    narrow-requires
-    add-narrow
-    narrow-requires-2
-    both-row-requires-2
-    row-requires-2
-    add-t20
-    narrow-requires-3
-    add-narrow-2
-    narrow-requires-4
-    add-narrow-3
-    narrow-requires-5
-    add-narrow-4
-    narrow-requires-6
-    same-length
-    returns)
+    (tie.spec (λ c κs. search needs) (λ c κs. search needs) (λ c κs. search needs) (λ c κs. search needs) (λ c κs. search needs)
+    (λ c. search needs) (λ c κs. search needs) (λ c κs. search needs) (λ c. search needs) (λ c κs. search needs) (λ c. search needs)
+    (λ c κs. search needs) (λ c κs. search needs) (λ c κs. search needs) (λ c. search needs) narrow-requires-3 (λ c. search needs)
+    narrow-requires-4 (λ c. search needs) narrow-requires-5 (λ c. search needs) narrow-requires-6 (λ c. search needs) returns)

@@ -30,14 +30,8 @@ add-narrow c = omega arith
 narrow-requires : tie.Need-narrow-requires
 narrow-requires c κs = omega arith
 
-put-requires : tie.Need-put-requires
-put-requires c κs = search needs
-
 narrow-requires-2 : tie.Need-narrow-requires-2
 narrow-requires-2 c κs = omega arith
-
-put-requires-2 : tie.Need-put-requires-2
-put-requires-2 c κs = search needs
 
 same-length : tie.Need-same-length
 same-length c = c .before .before .put2 .kept .0 ∙ c .before .before .before .before .before .before .before .put .kept .0
@@ -49,9 +43,6 @@ returns-3 c =
     parted-narrow _ _ _ _ _ _ _ _ _ _ (test .before .before .before .if1 .left) (test .before .before .if2 .left) (below (test .before))
     (test .if4 .taken) (omega (arith, first .before .narrow .ensures)) (omega (arith, c .before .before .before .narrow2 .ensures))
     (first .put .ensures) (c .before .before .put2 .ensures)
-
-put-requires-3 : tie.Need-put-requires-3
-put-requires-3 c κs = search needs
 
 same-length-2 : tie.Need-same-length-2
 same-length-2 c = c .before .before .put3 .kept .0
@@ -65,18 +56,5 @@ returns-4 c =
 pub split-spec : {M : Type 1} → statement M
 split-spec =
     tie.close
-    (tie.spec
-    add-result
-    returns
-    returns-2
-    sub-next
-    add-narrow
-    narrow-requires
-    put-requires
-    narrow-requires-2
-    put-requires-2
-    same-length
-    returns-3
-    put-requires-3
-    same-length-2
-    returns-4)
+    (tie.spec add-result returns returns-2 sub-next add-narrow narrow-requires (λ c κs. search needs) narrow-requires-2
+    (λ c κs. search needs) same-length returns-3 (λ c κs. search needs) same-length-2 returns-4)

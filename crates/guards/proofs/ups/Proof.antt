@@ -54,12 +54,6 @@ moved-requires c κs = let b = bounds (loop-of (c .before .before)) in omega ari
 put-mark-requires : tie.Need-put-mark-requires Inv-loop μ-loop
 put-mark-requires c κs = let b = bounds (loop-of (c .before .before .before .before)) in omega (arith, c .before .moved .ensures .1)
 
-put-requires : tie.Need-put-requires Inv-loop μ-loop
-put-requires c κs = search needs
-
-put-requires-2 : tie.Need-put-requires-2 Inv-loop μ-loop
-put-requires-2 c κs = search needs
-
 add-e : tie.Need-add-e Inv-loop μ-loop
 add-e c = let b = bounds (loop-of (part-of (c .before .before .before))) in omega arith
 
@@ -110,25 +104,6 @@ returns c =
 pub ups-spec : {M : Type 1} → statement M
 ups-spec =
     tie.close
-    (tie.spec
-    Inv-loop
-    μ-loop
-    loop-holds
-    shared-slice-read-op
-    mark-at-requires
-    add-mark-at
-    mark-at-requires-2
-    part-requires
-    moved-requires
-    put-mark-requires
-    put-requires
-    put-requires-2
-    add-e
-    add-i
-    loop-less
-    loop-again
-    same-length
-    same-length-2
-    same-length-3
-    same-length-4
-    returns)
+    (tie.spec Inv-loop μ-loop loop-holds shared-slice-read-op mark-at-requires add-mark-at mark-at-requires-2 part-requires moved-requires
+    put-mark-requires (λ c κs. search needs) (λ c κs. search needs) add-e add-i loop-less loop-again same-length same-length-2 same-length-3
+    same-length-4 returns)

@@ -7,20 +7,11 @@ use borrow.Author.Needs.{needs}
 use Rattle.harness.proofs.adl_test_list.Statement.{statement}
 use Rattle.harness.proofs.adl_test_list.Tie as tie
 
-list-requires : tie.Need-list-requires
-list-requires c κs = search needs
-
 array-share-prefix-bytes : tie.Need-array-share-prefix-bytes
 array-share-prefix-bytes c = list-room _ (replicate 32768 0) (c .list .result) _ (c .list .ensures) (length-replicate {A = ℕ} 32768 0) .0
 
 slice-aggregate-copy : tie.Need-slice-aggregate-copy
 slice-aggregate-copy c = list-room _ (replicate 32768 0) (c .before .list .result) _ (c .before .list .ensures) (length-replicate {A = ℕ} 32768 0) .1
-
-copy-requires : tie.Need-copy-requires
-copy-requires c κs = search needs
-
-same-length : tie.Need-same-length
-same-length c = search needs
 
 returns : tie.Need-returns
 returns c =
@@ -32,10 +23,4 @@ returns c =
 pub adl-test-list-spec : {M : Type 1} → statement M
 adl-test-list-spec =
     tie.close
-    (tie.spec
-    list-requires
-    array-share-prefix-bytes
-    slice-aggregate-copy
-    copy-requires
-    same-length
-    returns)
+    (tie.spec (λ c κs. search needs) array-share-prefix-bytes slice-aggregate-copy (λ c κs. search needs) (λ c. search needs) returns)

@@ -6,21 +6,6 @@ use borrow.Author.Needs.{needs}
 use Rattle.harness.proofs.adl_test_place.Statement.{statement}
 use Rattle.harness.proofs.adl_test_place.Tie as tie
 
-find-requires : tie.Need-find-requires
-find-requires c κs = search needs
-
-enum-known-found : tie.Need-enum-known-found
-enum-known-found c = search needs
-
-place-number-requires : tie.Need-place-number-requires
-place-number-requires c κs = search needs
-
-enum-known-found-2 : tie.Need-enum-known-found-2
-enum-known-found-2 c = search needs
-
-refusal-requires : tie.Need-refusal-requires
-refusal-requires c κs = search needs
-
 returns : tie.Need-returns
 returns c = told 16 (found-report place-values) (sym (c .before .before .before .before .find .ensures) ∙ c .before .before .found .given .1) (c .place-number .ensures)
 
@@ -30,11 +15,5 @@ returns-2 c = told 16 (found-report place-values) (sym (c .before .before .befor
 pub adl-test-place-spec : {M : Type 1} → statement M
 adl-test-place-spec =
     tie.close
-    (tie.spec
-    find-requires
-    enum-known-found
-    place-number-requires
-    enum-known-found-2
-    refusal-requires
-    returns
+    (tie.spec (λ c κs. search needs) (λ c. search needs) (λ c κs. search needs) (λ c. search needs) (λ c κs. search needs) returns
     returns-2)

@@ -7,17 +7,8 @@ use borrow.Author.Needs.{needs}
 use Rattle.harness.proofs.adl_test_print.Statement.{statement}
 use Rattle.harness.proofs.adl_test_print.Tie as tie
 
-print-requires : tie.Need-print-requires
-print-requires c κs = search needs
-
-print-number-requires : tie.Need-print-number-requires
-print-number-requires c κs = search needs
-
-same-length : tie.Need-same-length
-same-length c = search needs
-
 returns : tie.Need-returns
 returns c = let print = c .before .before .before .print in (c .print-number .ensures ∙ ap (λ (p : Printed). packed 32 (print-report p)) (print .ensures .0), print .ensures .1)
 
 pub adl-test-print-spec : {M : Type 1} → statement M
-adl-test-print-spec = tie.close (tie.spec print-requires print-number-requires same-length returns)
+adl-test-print-spec = tie.close (tie.spec (λ c κs. search needs) (λ c κs. search needs) (λ c. search needs) returns)

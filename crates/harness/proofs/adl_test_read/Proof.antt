@@ -1,20 +1,14 @@
 -- `adl_test_read` meets its contract: what reading answers is packed.
 use mathlib.Core.Path.{ap, _∙_}
-use Rattle.reader.specs.declared.Out.{Out}
+use Rattle.reader.specs.declared.ReadResult.{ReadResult}
 use Rattle.reader.specs.Reports.{report as read-report}
 use Rattle.harness.specs.Packed.{packed}
 use borrow.Author.Needs.{needs}
 use Rattle.harness.proofs.adl_test_read.Statement.{statement}
 use Rattle.harness.proofs.adl_test_read.Tie as tie
 
-read-requires : tie.Need-read-requires
-read-requires c κs = search needs
-
-read-number-requires : tie.Need-read-number-requires
-read-number-requires c κs = search needs
-
 returns : tie.Need-returns
-returns c = c .read-number .ensures ∙ ap (λ (o : Out). packed 10 (read-report o)) (c .before .read .ensures)
+returns c = c .read-number .ensures ∙ ap (λ (o : ReadResult). packed 10 (read-report o)) (c .before .read .ensures)
 
 pub adl-test-read-spec : {M : Type 1} → statement M
-adl-test-read-spec = tie.close (tie.spec read-requires read-number-requires returns)
+adl-test-read-spec = tie.close (tie.spec (λ c κs. search needs) (λ c κs. search needs) returns)

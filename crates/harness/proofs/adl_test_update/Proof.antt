@@ -1,5 +1,5 @@
 -- `adl_test_update` meets its contract: a walk of its MIR, by hand, since the borrow checker covers no reference to a struct. The record's borrow is given on to
--- `update::step` for good, whose last value is then the record's; what it answers is packed by `step_number`. All that the proof knows of the two is that they
+-- `inplace::step` for good, whose last value is then the record's; what it answers is packed by `step_number`. All that the proof knows of the two is that they
 -- meet their contracts.
 use mathlib.Core.Path.{_≡_, refl, ap, subst, _∙_}
 use Prim.Native.Nat.{ℕ, _<_, _^_}
@@ -46,11 +46,11 @@ use Rattle.table.specs.Reports.{report}
 use Rattle.table.specs.declared.Answer.{Answer}
 use Rattle.table.proofs.Answer as N
 use Rattle.table.proofs.Answer.Laws as N′
-use Rattle.update.specs.Updates.{answer-of, left-of}
-use Rattle.update.proofs.step as thin
-use Rattle.update.proofs.step.Symbol as thin-def
-use Rattle.update.proofs.step.Symbol.{name as #update·step}
-use Rattle.update.proofs.step.Met as thin-thm
+use Rattle.inplace.specs.Updates.{answer-of, left-of}
+use Rattle.inplace.proofs.step as thin
+use Rattle.inplace.proofs.step.Symbol as thin-def
+use Rattle.inplace.proofs.step.Symbol.{name as #inplace·step}
+use Rattle.inplace.proofs.step.Met as thin-thm
 use Rattle.harness.specs.Packed.{packed}
 use Rattle.harness.proofs.step_number as number
 use Rattle.harness.proofs.step_number.Symbol as number-def
@@ -60,7 +60,7 @@ use Rattle.harness.proofs.adl_test_update.Key.{name as #harness·adl-te
 use Rattle.harness.proofs.adl_test_update as f
 use Rattle.harness.proofs.adl_test_update.Statement as stated
 use Rattle.harness.proofs.adl_test_update.Code as code
-use Rattle.update.proofs.Both.{says-both}
+use Rattle.inplace.proofs.Both.{says-both}
 
 -- at exit the table and the event are as they were passed, and of the record's borrow there is only what says its last value
 abbrev stayed : Stays (f.ended .signature .params) (f.ended .kept)
@@ -163,7 +163,7 @@ module _ {M : Type 1} (𝓤 : URA M) (H : Heap 𝓤) (A : Atoms 𝓤) (W : Given
       -- the answer
       owned ! u64 (Is u64) (uint-makes 𝓤 H A W w64) r _ (refl, r-fits) $ done !
 
-  module _ (C : Calls 𝓤 H) (Λ : Loops 𝓤 H) (fm : FmC 𝓤 H (W .laws) C) (known : Triple 𝓤 (C #update·step) (Thin 𝓤 H A at-mem run))
+  module _ (C : Calls 𝓤 H) (Λ : Loops 𝓤 H) (fm : FmC 𝓤 H (W .laws) C) (known : Triple 𝓤 (C #inplace·step) (Thin 𝓤 H A at-mem run))
       (known-number : Triple 𝓤 (C #harness·step-number) (Number 𝓤 H A at-mem run)) where
     walk : Is (ShrSlice (named 0) κ u8) t (v ∷ []) → ent 𝓤 (onEntry 𝓤 H A f.signature (κ, (κ′, tt)) (q, (q′, tt)) a vals)
         (WpFn 𝓤 H C Λ code.function (v ∷ vptr b o ∷ vint w64 e ∷ []) Post)
@@ -209,7 +209,7 @@ module _ {M : Type 1} (𝓤 : URA M) (H : Heap 𝓤) (A : Atoms 𝓤) (W : Given
         keep ! (1 ∷ 2 ∷ 3 ∷ []) $ by ! (exits r (ws .1 .0) (is-number ∙ ap (λ (x : Answer). packed 32 (report x)) is-answer) is-left (fits .1))))))))))))))))))
 
 module _ {M : Type 1} (𝓤 : URA M) (H : Heap 𝓤) (A : Atoms 𝓤) (W : Given 𝓤 H A) (at-mem : Memory → SProp 𝓤) (run : Routine → Fun 𝓤) where
-  walks : (C : Calls 𝓤 H) (Λ : Loops 𝓤 H) → FmC 𝓤 H (W .laws) C → Triple 𝓤 (C #update·step) (Thin 𝓤 H A at-mem run)
+  walks : (C : Calls 𝓤 H) (Λ : Loops 𝓤 H) → FmC 𝓤 H (W .laws) C → Triple 𝓤 (C #inplace·step) (Thin 𝓤 H A at-mem run)
       → Triple 𝓤 (C #harness·step-number) (Number 𝓤 H A at-mem run)
       → Walks 𝓤 H A f.ended stayed (WpFn 𝓤 H C Λ code.function) (f.clauses 𝓤 H A at-mem run)
   walks C Λ fm known known-number =
@@ -226,7 +226,7 @@ module _ {M : Type 1} (𝓤 : URA M) (H : Heap 𝓤) (A : Atoms 𝓤) (W : Given
   )
 
 meets : {M : Type 1} (𝓤 : URA M) (H : Heap 𝓤) (A : Atoms 𝓤) → Given 𝓤 H A → (at-mem : Memory → SProp 𝓤) (run : Routine → Fun 𝓤) (𝓣 : Tables 𝓤 H)
-    → Triple 𝓤 (𝓣 .C #update·step) (Thin 𝓤 H A at-mem run) → Triple 𝓤 (𝓣 .C #harness·step-number) (Number 𝓤 H A at-mem run)
+    → Triple 𝓤 (𝓣 .C #inplace·step) (Thin 𝓤 H A at-mem run) → Triple 𝓤 (𝓣 .C #harness·step-number) (Number 𝓤 H A at-mem run)
     → Meets 𝓤 H A f.signature (WpFn 𝓤 H (𝓣 .C) (𝓣 .Λ) code.function) (f.spec 𝓤 H A at-mem run)
 meets 𝓤 H A W at-mem run 𝓣 known known-number =
     walk-meets 𝓤 H A f.ended stayed W (all-go 𝓤 H A W at-mem run) (f.clauses 𝓤 H A at-mem run) (WpFn 𝓤 H (𝓣 .C) (𝓣 .Λ) code.function)
@@ -238,7 +238,7 @@ adl-test-update-spec 𝓤 H 𝓜 𝓖 𝓡 =
     entered 𝓤 H (tripleOf 𝓤 H (𝓖 .A) f.signature (f.spec 𝓤 H (𝓖 .A) (𝓜 .mem) (𝓡 .run)))
     (tables 𝓤 H 𝓜 𝓡 code.env .C) (tables 𝓤 H 𝓜 𝓡 code.env .Λ) #harness·adl-test-update code.function (code.unfolded 𝓤 H 𝓜 𝓡)
     (meets 𝓤 H (𝓖 .A) (givenOf 𝓤 H 𝓜 𝓖) (𝓜 .mem) (𝓡 .run) (tablesOf 𝓤 H 𝓜 (tables 𝓤 H 𝓜 𝓡 code.env))
-    (cited 𝓤 H (Thin 𝓤 H (𝓖 .A) (𝓜 .mem) (𝓡 .run)) 𝓜 𝓡 code.env #update·step thin-def.routine code.calls-update·step
+    (cited 𝓤 H (Thin 𝓤 H (𝓖 .A) (𝓜 .mem) (𝓡 .run)) 𝓜 𝓡 code.env #inplace·step thin-def.routine code.calls-inplace·step
     (thin-thm.met 𝓤 H 𝓜 𝓖 𝓡))
     (cited 𝓤 H (Number 𝓤 H (𝓖 .A) (𝓜 .mem) (𝓡 .run)) 𝓜 𝓡 code.env #harness·step-number number-def.routine code.calls-harness·step-number
     (number-thm.met 𝓤 H 𝓜 𝓖 𝓡)))

@@ -4,18 +4,6 @@ use borrow.Author.Needs.{needs}
 use Rattle.harness.proofs.find.Statement.{statement}
 use Rattle.harness.proofs.find.Tie as tie
 
-read-requires : tie.Need-read-requires
-read-requires c κs = search needs
-
-enum-told : tie.Need-enum-told
-enum-told c = search needs
-
-enum-told-2 : tie.Need-enum-told-2
-enum-told-2 c = search needs
-
-unread-requires : tie.Need-unread-requires
-unread-requires c κs = search needs
-
 returns : tie.Need-returns
 returns c =
     let a = c .before .before .before .before .before .args in
@@ -40,12 +28,5 @@ returns-3 c =
 pub find-spec : {M : Type 1} → statement M
 find-spec =
     tie.close
-    (tie.spec
-    read-requires
-    enum-told
-    enum-told-2
-    unread-requires
-    returns
-    returns-2
-    node-at-requires
+    (tie.spec (λ c κs. search needs) (λ c. search needs) (λ c. search needs) (λ c κs. search needs) returns returns-2 node-at-requires
     returns-3)

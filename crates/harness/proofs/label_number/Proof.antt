@@ -5,24 +5,6 @@ use borrow.Author.Needs.{needs}
 use Rattle.harness.proofs.label_number.Statement.{statement}
 use Rattle.harness.proofs.label_number.Tie as tie
 
-enum-known-l : tie.Need-enum-known-l
-enum-known-l c = search needs
-
-marked-requires : tie.Need-marked-requires
-marked-requires c κs = search needs
-
-enum-known-l-2 : tie.Need-enum-known-l-2
-enum-known-l-2 c = search needs
-
-marked-requires-2 : tie.Need-marked-requires-2
-marked-requires-2 c κs = search needs
-
-enum-known-l-3 : tie.Need-enum-known-l-3
-enum-known-l-3 c = search needs
-
-refusal-requires : tie.Need-refusal-requires
-refusal-requires c κs = search needs
-
 returns : tie.Need-returns
 returns c = told 6 label-report (c .before .before .l .given .1) (c .marked .ensures)
 
@@ -35,13 +17,5 @@ returns-3 c = told 6 label-report (c .before .before .l3 .given .1) (refused 6 _
 pub label-number-spec : {M : Type 1} → statement M
 label-number-spec =
     tie.close
-    (tie.spec
-    enum-known-l
-    marked-requires
-    enum-known-l-2
-    marked-requires-2
-    enum-known-l-3
-    refusal-requires
-    returns
-    returns-2
-    returns-3)
+    (tie.spec (λ c. search needs) (λ c κs. search needs) (λ c. search needs) (λ c κs. search needs) (λ c. search needs)
+    (λ c κs. search needs) returns returns-2 returns-3)

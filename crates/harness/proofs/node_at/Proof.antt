@@ -10,14 +10,8 @@ use Rattle.harness.proofs.node_at.Tie as tie
 nodes-long : (s : tie.Start) → length (s .args .t1 .nodes) ≡ 256
 nodes-long s = sym (length-map (s .args .t1 .nodes) _) ∙ s .good .0 .1 .1 .0 .1 .0 .1
 
-mul-result : tie.Need-mul-result
-mul-result c = search needs
-
-element-copy-out-result : tie.Need-element-copy-out-result
-element-copy-out-result c = search needs
-
 returns : tie.Need-returns
 returns c = same-at (c .before .args .t1 .nodes) (c .before .args .i) _ blank-node (rw (nodes-long (c .before)) (c .before .pre))
 
 pub node-at-spec : {M : Type 1} → statement M
-node-at-spec = tie.close (tie.spec mul-result element-copy-out-result returns)
+node-at-spec = tie.close (tie.spec (λ c. search needs) (λ c. search needs) returns)

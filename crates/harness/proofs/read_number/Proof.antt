@@ -5,27 +5,6 @@ use borrow.Author.Needs.{needs}
 use Rattle.harness.proofs.read_number.Statement.{statement}
 use Rattle.harness.proofs.read_number.Tie as tie
 
-enum-told : tie.Need-enum-told
-enum-told c = search needs
-
-mul-result : tie.Need-mul-result
-mul-result c = search needs
-
-add-result : tie.Need-add-result
-add-result c = search needs
-
-mul-result-2 : tie.Need-mul-result-2
-mul-result-2 c = search needs
-
-add-result-2 : tie.Need-add-result-2
-add-result-2 c = search needs
-
-enum-known-answer : tie.Need-enum-known-answer
-enum-known-answer c = search needs
-
-refusal-requires : tie.Need-refusal-requires
-refusal-requires c κs = search needs
-
 returns : tie.Need-returns
 returns c = let o = c .before .before .before .args .o in told 10 (answer-report (o .diagram)) (c .enum-told .given .1) (three _ _ _)
 
@@ -35,13 +14,5 @@ returns-2 c = let o = c .before .before .before .before .before .args .o in told
 pub read-number-spec : {M : Type 1} → statement M
 read-number-spec =
     tie.close
-    (tie.spec
-    enum-told
-    mul-result
-    add-result
-    mul-result-2
-    add-result-2
-    enum-known-answer
-    refusal-requires
-    returns
-    returns-2)
+    (tie.spec (λ c. search needs) (λ c. search needs) (λ c. search needs) (λ c. search needs) (λ c. search needs) (λ c. search needs)
+    (λ c κs. search needs) returns returns-2)

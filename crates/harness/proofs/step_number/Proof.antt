@@ -5,15 +5,6 @@ use borrow.Author.Needs.{needs}
 use Rattle.harness.proofs.step_number.Statement.{statement}
 use Rattle.harness.proofs.step_number.Tie as tie
 
-enum-told : tie.Need-enum-told
-enum-told c = search needs
-
-enum-known-answer : tie.Need-enum-known-answer
-enum-known-answer c = search needs
-
-refusal-requires : tie.Need-refusal-requires
-refusal-requires c κs = search needs
-
 returns : tie.Need-returns
 returns c = told 32 step-report (c .enum-told .given .1) none
 
@@ -22,4 +13,4 @@ returns-2 c = told 32 step-report (c .before .before .answer .given .1) (refused
 
 pub step-number-spec : {M : Type 1} → statement M
 step-number-spec =
-    tie.close (tie.spec enum-told enum-known-answer refusal-requires returns returns-2)
+    tie.close (tie.spec (λ c. search needs) (λ c. search needs) (λ c κs. search needs) returns returns-2)

@@ -5,17 +5,8 @@ use borrow.Author.Needs.{needs}
 use Rattle.harness.proofs.unread.Statement.{statement}
 use Rattle.harness.proofs.unread.Tie as tie
 
-enum-told : tie.Need-enum-told
-enum-told c = search needs
-
-enum-known-answer : tie.Need-enum-known-answer
-enum-known-answer c = search needs
-
-returns : tie.Need-returns
-returns c = search needs
-
 returns-2 : tie.Need-returns-2
 returns-2 c = ap unread (sym (c .before .answer .given .1))
 
 pub unread-spec : {M : Type 1} → statement M
-unread-spec = tie.close (tie.spec enum-told enum-known-answer returns returns-2)
+unread-spec = tie.close (tie.spec (λ c. search needs) (λ c. search needs) (λ c. search needs) returns-2)

@@ -10,17 +10,8 @@ returns c = entered-single _ _ _ _ (c .if1 .taken)
 returns-2 : tie.Need-returns-2
 returns-2 c = entered-empty _ _ _ _ (c .before .if1 .left) (c .if2 .taken)
 
-div-push : tie.Need-div-push
-div-push c = search needs
-
-push-requires : tie.Need-push-requires
-push-requires c κs = search needs
-
-rem-t8 : tie.Need-rem-t8
-rem-t8 c = search needs
-
 returns-3 : tie.Need-returns-3
 returns-3 c = entered-copies _ _ _ _ _ (c .before .before .before .before .if1 .left) (c .before .before .before .if2 .left) (c .before .push .ensures)
 
 pub entered-spec : {M : Type 1} → statement M
-entered-spec = tie.close (tie.spec returns returns-2 div-push push-requires rem-t8 returns-3)
+entered-spec = tie.close (tie.spec returns returns-2 (λ c. search needs) (λ c κs. search needs) (λ c. search needs) returns-3)

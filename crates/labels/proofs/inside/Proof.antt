@@ -5,44 +5,17 @@ use Rattle.labels.proofs.Stepped.{entered-here, inside-leaf, inside-res
 use Rattle.labels.proofs.inside.Statement.{statement}
 use Rattle.labels.proofs.inside.Tie as tie
 
-shared-slice-read-kind : tie.Need-shared-slice-read-kind
-shared-slice-read-kind c = search needs
-
-number-requires : tie.Need-number-requires
-number-requires c κs = search needs
-
-found-requires : tie.Need-found-requires
-found-requires c κs = search needs
-
 returns : tie.Need-returns
 returns c =
     let a = c .before .before .before .before .before .before .before .before .before .args in
     inside-leaf (a .kinds .now) (a .sizes .now) (a .depths .now) (a .places .now) (a .weights .now) (a .i) (a .s) (c .before .number .result) (c .found .result)
     (c .before .before .if1 .taken) (c .before .number .ensures) (c .found .ensures)
 
-after-requires : tie.Need-after-requires
-after-requires c κs = search needs
-
-after-requires-2 : tie.Need-after-requires-2
-after-requires-2 c κs = search needs
-
-found-requires-2 : tie.Need-found-requires-2
-found-requires-2 c κs = search needs
-
 returns-2 : tie.Need-returns-2
 returns-2 c =
     let a = c .before .before .before .before .before .before .before .before .before .before .before .before .before .args in
     inside-reset (a .kinds .now) (a .sizes .now) (a .depths .now) (a .places .now) (a .weights .now) (a .i) (a .s) (c .before .before .before .before .before .after .result) (c .before .after2 .result)
     (c .found2 .result) (c .before .before .before .before .if2 .taken) (c .before .before .before .before .before .after .ensures) (c .before .before .if3 .taken) (c .before .after2 .ensures) (c .found2 .ensures)
-
-number-requires-2 : tie.Need-number-requires-2
-number-requires-2 c κs = search needs
-
-byte-requires : tie.Need-byte-requires
-byte-requires c κs = search needs
-
-entered-requires : tie.Need-entered-requires
-entered-requires c κs = search needs
 
 returns-3 : tie.Need-returns-3
 returns-3 c =
@@ -60,16 +33,5 @@ returns-3 c =
 pub inside-spec : {M : Type 1} → statement M
 inside-spec =
     tie.close
-    (tie.spec
-    shared-slice-read-kind
-    number-requires
-    found-requires
-    returns
-    after-requires
-    after-requires-2
-    found-requires-2
-    returns-2
-    number-requires-2
-    byte-requires
-    entered-requires
-    returns-3)
+    (tie.spec (λ c. search needs) (λ c κs. search needs) (λ c κs. search needs) returns (λ c κs. search needs) (λ c κs. search needs)
+    (λ c κs. search needs) returns-2 (λ c κs. search needs) (λ c κs. search needs) (λ c κs. search needs) returns-3)

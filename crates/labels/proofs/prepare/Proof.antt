@@ -11,12 +11,6 @@ use Rattle.labels.proofs.prepare.Tie as tie
 held : (c : tie.After-columns) → Holds (c .before .before .args .d) (c .columns .result)
 held c = columns-held (c .before .before .args .d) (c .columns .ensures)
 
-places-requires : tie.Need-places-requires
-places-requires c κs = search needs
-
-columns-requires : tie.Need-columns-requires
-columns-requires c κs = search needs
-
 array-share-prefix-kinds : tie.Need-array-share-prefix-kinds
 array-share-prefix-kinds c = held (c .before .before .before) .first .room
 
@@ -35,12 +29,6 @@ array-share-prefix-depths c = held (c .before .before .before .before .before) .
 slice-aggregate-weigh-3 : tie.Need-slice-aggregate-weigh-3
 slice-aggregate-weigh-3 c = held (c .before .before .before .before .before .before) .third .exact
 
-slice-aggregate-weigh-4 : tie.Need-slice-aggregate-weigh-4
-slice-aggregate-weigh-4 c = search needs
-
-weigh-requires : tie.Need-weigh-requires
-weigh-requires c κs = search needs
-
 returns : tie.Need-returns
 returns c =
     let s = c .before .before .before .before .before .before .before .before .before .before .before in (
@@ -51,15 +39,5 @@ returns c =
 pub prepare-spec : {M : Type 1} → statement M
 prepare-spec =
     tie.close
-    (tie.spec
-    places-requires
-    columns-requires
-    array-share-prefix-kinds
-    slice-aggregate-weigh
-    array-share-prefix-sizes
-    slice-aggregate-weigh-2
-    array-share-prefix-depths
-    slice-aggregate-weigh-3
-    slice-aggregate-weigh-4
-    weigh-requires
-    returns)
+    (tie.spec (λ c κs. search needs) (λ c κs. search needs) array-share-prefix-kinds slice-aggregate-weigh array-share-prefix-sizes
+    slice-aggregate-weigh-2 array-share-prefix-depths slice-aggregate-weigh-3 (λ c. search needs) (λ c κs. search needs) returns)

@@ -5,12 +5,6 @@ use Rattle.labels.proofs.Stepped.{no-reset, one-reset}
 use Rattle.labels.proofs.resets.Statement.{statement}
 use Rattle.labels.proofs.resets.Tie as tie
 
-add-byte : tie.Need-add-byte
-add-byte c = search needs
-
-byte-requires : tie.Need-byte-requires
-byte-requires c κs = search needs
-
 returns : tie.Need-returns
 returns c = (λ ss ds ps ws. no-reset _ ss ds ps ws _ _ (c .before .byte .ensures) (c .if1 .taken), omega arith)
 
@@ -18,4 +12,4 @@ returns-2 : tie.Need-returns-2
 returns-2 c = (λ ss ds ps ws. one-reset _ ss ds ps ws _ _ (c .before .byte .ensures) (c .if1 .left), omega arith)
 
 pub resets-spec : {M : Type 1} → statement M
-resets-spec = tie.close (tie.spec add-byte byte-requires returns returns-2)
+resets-spec = tie.close (tie.spec (λ c. search needs) (λ c κs. search needs) returns returns-2)

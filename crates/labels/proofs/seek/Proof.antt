@@ -21,26 +21,11 @@ Inv-loop kinds sizes depths places weights event s₀ i₀ s i =
 abbrev μ-loop : tie.MeasureT-loop
 μ-loop kinds sizes depths places weights event s₀ i₀ s i = length kinds - i
 
-none-requires : tie.Need-none-requires Inv-loop μ-loop
-none-requires c κs = search needs
-
 loop-holds : tie.Need-loop-holds Inv-loop μ-loop
 loop-holds c =
     let a = c .before .before .before .before .before .before .args in
     let z : length (a .kinds .now) - 0 ≡ length (a .kinds .now) = omega arith in
     (omega arith, rw (z, c .none .ensures))
-
-turn-requires : tie.Need-turn-requires Inv-loop μ-loop
-turn-requires c κs = search needs
-
-enum-known-t : tie.Need-enum-known-t Inv-loop μ-loop
-enum-known-t c = search needs
-
-enum-told : tie.Need-enum-told Inv-loop μ-loop
-enum-told c = search needs
-
-result-requires : tie.Need-result-requires Inv-loop μ-loop
-result-requires c κs = search needs
 
 returns : tie.Need-returns Inv-loop μ-loop
 returns c =
@@ -52,12 +37,6 @@ returns c =
     ∙ (ap (λ (t : Step). onward t (λ u. nowhere)) (told .1)
     ∙ (seek-found (columns (a .kinds .now) (a .sizes .now) (a .depths .now) (a .places .now)) (a .weights .now) (l .i) (length (a .kinds .now)) (l .s) (c .before .before .before .before .loop-test .taken) (turned .result) (turned .ensures) (told .0 .0) (told .1) ∙ l .inv .1))
 
-add-i : tie.Need-add-i Inv-loop μ-loop
-add-i c = search needs
-
-loop-less : tie.Need-loop-less Inv-loop μ-loop
-loop-less c = search needs
-
 loop-again : tie.Need-loop-again Inv-loop μ-loop
 loop-again c =
     let a = c .before .before .before .before .before .before .before .before .before .before .before .before .args in
@@ -66,9 +45,6 @@ loop-again c =
       omega arith,
       seek-on (columns (a .kinds .now) (a .sizes .now) (a .depths .now) (a .places .now)) (a .weights .now) (l .i) (length (a .kinds .now)) (l .s) (c .before .before .before .before .loop-test .taken) (turned .result) (turned .ensures) (c .before .t .given .0 .0) (c .before .t .given .1) ∙ l .inv .1,
     )
-
-result-requires-2 : tie.Need-result-requires-2 Inv-loop μ-loop
-result-requires-2 c κs = search needs
 
 returns-2 : tie.Need-returns-2 Inv-loop μ-loop
 returns-2 c =
@@ -79,18 +55,5 @@ returns-2 c =
 pub seek-spec : {M : Type 1} → statement M
 seek-spec =
     tie.close
-    (tie.spec
-    Inv-loop
-    μ-loop
-    none-requires
-    loop-holds
-    turn-requires
-    enum-known-t
-    enum-told
-    result-requires
-    returns
-    add-i
-    loop-less
-    loop-again
-    result-requires-2
-    returns-2)
+    (tie.spec Inv-loop μ-loop (λ c κs. search needs) loop-holds (λ c κs. search needs) (λ c. search needs) (λ c. search needs)
+    (λ c κs. search needs) returns (λ c. search needs) (λ c. search needs) loop-again (λ c κs. search needs) returns-2)

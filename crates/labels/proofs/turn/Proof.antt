@@ -4,26 +4,17 @@ use Rattle.labels.proofs.Stepped.{turn-shallow, turn-deep, turn-past, t
 use Rattle.labels.proofs.turn.Statement.{statement}
 use Rattle.labels.proofs.turn.Tie as tie
 
-number-requires : tie.Need-number-requires
-number-requires c κs = search needs
-
 returns : tie.Need-returns
 returns c =
     let a = c .before .before .before .before .before .before .before .before .args in
     let d = c .before .before .number in
     turn-shallow (a .kinds .now) (a .sizes .now) (a .depths .now) (a .places .now) (a .weights .now) (a .i) (a .s) (d .result) (d .ensures) (c .if1 .taken)
 
-sub-if2 : tie.Need-sub-if2
-sub-if2 c = search needs
-
 returns-2 : tie.Need-returns-2
 returns-2 c =
     let a = c .before .before .before .before .before .before .before .before .before .before .args in
     let d = c .before .before .before .before .number in
     turn-deep (a .kinds .now) (a .sizes .now) (a .depths .now) (a .places .now) (a .weights .now) (a .i) (a .s) (d .result) (d .ensures) (c .before .before .if1 .left) (c .if2 .taken)
-
-number-requires-2 : tie.Need-number-requires-2
-number-requires-2 c κs = search needs
 
 returns-3 : tie.Need-returns-3
 returns-3 c =
@@ -32,9 +23,6 @@ returns-3 c =
     let w = c .before .before .before .before .number2 in
     turn-past (a .kinds .now) (a .sizes .now) (a .depths .now) (a .places .now) (a .weights .now) (a .i) (a .s) (d .result) (w .result) (d .ensures) (c .before .before .before .before .before .before .before .if1 .left)
     (c .before .before .before .before .before .if2 .left) (w .ensures) (c .before .before .if3 .taken)
-
-inside-requires : tie.Need-inside-requires
-inside-requires c κs = search needs
 
 returns-4 : tie.Need-returns-4
 returns-4 c =
@@ -45,4 +33,4 @@ returns-4 c =
     (c .before .before .before .before .before .before .if1 .left) (c .before .before .before .before .if2 .left) (w .ensures) (c .before .if3 .left) (c .inside .ensures)
 
 pub turn-spec : {M : Type 1} → statement M
-turn-spec = tie.close (tie.spec number-requires returns sub-if2 returns-2 number-requires-2 returns-3 inside-requires returns-4)
+turn-spec = tie.close (tie.spec (λ c κs. search needs) returns (λ c. search needs) returns-2 (λ c κs. search needs) returns-3 (λ c κs. search needs) returns-4)

@@ -8,20 +8,8 @@ use borrow.Author.Needs.{needs}
 use Rattle.labels.proofs.weight.Statement.{statement}
 use Rattle.labels.proofs.weight.Tie as tie
 
-shared-slice-read-kind : tie.Need-shared-slice-read-kind
-shared-slice-read-kind c = search needs
-
 returns : tie.Need-returns
 returns c = let a = c .before .before .before .before .before .before .args in λ ps. weight-leaf (row (columns (a .kinds .now) (a .sizes .now) (a .depths .now) ps) (a .weights .now) (a .i)) (rows (columns (a .kinds .now) (a .sizes .now) (a .depths .now) ps) (a .weights .now) (suc (a .i)) (length (a .kinds .now) - suc (a .i))) (c .if1 .taken)
-
-parts-requires : tie.Need-parts-requires
-parts-requires c κs = search needs
-
-resets-requires : tie.Need-resets-requires
-resets-requires c κs = search needs
-
-add-result : tie.Need-add-result
-add-result c = search needs
 
 returns-2 : tie.Need-returns-2
 returns-2 c =
@@ -30,12 +18,6 @@ returns-2 c =
     let m = c .resets in
     λ ps. weight-loop (row (columns (a .kinds .now) (a .sizes .now) (a .depths .now) ps) (a .weights .now) (a .i)) (rows (columns (a .kinds .now) (a .sizes .now) (a .depths .now) ps) (a .weights .now) (suc (a .i)) (length (a .kinds .now) - suc (a .i)))
     (n .result) (m .result) (c .before .if2 .taken) (n .ensures .0 (a .kinds .now) (a .sizes .now) ps) (m .ensures .0 (a .sizes .now) (a .depths .now) ps (a .weights .now))
-
-byte-requires : tie.Need-byte-requires
-byte-requires c κs = search needs
-
-wide-requires : tie.Need-wide-requires
-wide-requires c κs = search needs
 
 returns-3 : tie.Need-returns-3
 returns-3 c =
@@ -59,15 +41,5 @@ returns-4 c =
 pub weight-spec : {M : Type 1} → statement M
 weight-spec =
     tie.close
-    (tie.spec
-    shared-slice-read-kind
-    returns
-    parts-requires
-    resets-requires
-    add-result
-    returns-2
-    byte-requires
-    wide-requires
-    returns-3
-    mul-result
-    returns-4)
+    (tie.spec (λ c. search needs) returns (λ c κs. search needs) (λ c κs. search needs) (λ c. search needs) returns-2 (λ c κs. search needs)
+    (λ c κs. search needs) returns-3 mul-result returns-4)

@@ -4,12 +4,9 @@ use Rattle.lexer.proofs.Known.{table, table-known}
 use Rattle.lexer.proofs.class.Statement.{statement}
 use Rattle.lexer.proofs.class.Tie as tie
 
-array-read-result : tie.Need-array-read-result
-array-read-result c = search needs
-
 returns : tie.Need-returns
 unfolding table
 returns c = table-known (c .args .b) (search needs)
 
 pub class-spec : {M : Type 1} → statement M
-class-spec = tie.close (tie.spec array-read-result returns)
+class-spec = tie.close (tie.spec (λ c. search needs) returns)

@@ -5,20 +5,11 @@ use borrow.Author.Needs.{needs}
 use Rattle.lexer.proofs.code.Statement.{statement}
 use Rattle.lexer.proofs.code.Tie as tie
 
-shared-slice-read-class : tie.Need-shared-slice-read-class
-shared-slice-read-class c = search needs
-
-class-requires : tie.Need-class-requires
-class-requires c κs = search needs
-
 returns : tie.Need-returns
 returns c = let s = c .before .before .before .before .pre in a-sign _ _ _ (s .0) (s .1) _ (c .before .class .ensures) (between-low _ _ _ (c .if1 .taken))
 
 returns-2 : tie.Need-returns-2
 returns-2 c = let s = c .before .before .before .before .before .pre in a-sign _ _ _ (s .0) (s .1) _ (c .before .before .class .ensures) (between-high _ _ _ (c .if2 .taken))
-
-word-code-requires : tie.Need-word-code-requires
-word-code-requires c κs = search needs
 
 returns-3 : tie.Need-returns-3
 returns-3 c =
@@ -28,10 +19,4 @@ returns-3 c =
 pub code-spec : {M : Type 1} → statement M
 code-spec =
     tie.close
-    (tie.spec
-    shared-slice-read-class
-    class-requires
-    returns
-    returns-2
-    word-code-requires
-    returns-3)
+    (tie.spec (λ c. search needs) (λ c κs. search needs) returns returns-2 (λ c κs. search needs) returns-3)

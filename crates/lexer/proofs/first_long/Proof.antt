@@ -13,23 +13,14 @@ Inv-loop text at₀ at = Short-so-far text at
 abbrev μ-loop : tie.MeasureT-loop
 μ-loop text at₀ at = length text - at
 
-skip-requires : tie.Need-skip-requires Inv-loop μ-loop
-skip-requires c κs = search needs
-
 loop-holds : tie.Need-loop-holds Inv-loop μ-loop
 loop-holds c = short-start _ _ (c .skip .ensures)
-
-token-end-requires : tie.Need-token-end-requires Inv-loop μ-loop
-token-end-requires c κs = search needs
 
 sub-if1 : tie.Need-sub-if1 Inv-loop μ-loop
 sub-if1 c = let a = end-after _ _ _ (c .before .loop-test .taken) (c .token-end .ensures) in omega arith
 
 returns : tie.Need-returns Inv-loop μ-loop
 returns c = let l = c .before .before in long-here _ _ _ (l .before .loop .inv) (l .loop-test .taken) (c .before .token-end .ensures) (omega arith)
-
-skip-requires-2 : tie.Need-skip-requires-2 Inv-loop μ-loop
-skip-requires-2 c κs = search needs
 
 loop-less : tie.Need-loop-less Inv-loop μ-loop
 loop-less c = less-left _ _ _ _ (c .before .before .before .loop-test .taken) (c .before .before .token-end .ensures) (c .skip2 .ensures)
@@ -45,15 +36,5 @@ returns-2 c = short-all _ _ (c .before .loop .inv) (c .loop-test .left)
 pub first-long-spec : {M : Type 1} → statement M
 first-long-spec =
     tie.close
-    (tie.spec
-    Inv-loop
-    μ-loop
-    skip-requires
-    loop-holds
-    token-end-requires
-    sub-if1
-    returns
-    skip-requires-2
-    loop-less
-    loop-again
-    returns-2)
+    (tie.spec Inv-loop μ-loop (λ c κs. search needs) loop-holds (λ c κs. search needs) sub-if1 returns (λ c κs. search needs) loop-less
+    loop-again returns-2)

@@ -6,11 +6,8 @@ use borrow.Author.Needs.{needs}
 use Rattle.lexer.proofs.foreign.Statement.{statement}
 use Rattle.lexer.proofs.foreign.Tie as tie
 
-past-requires : tie.Need-past-requires
-past-requires c κs = search needs
-
 returns : tie.Need-returns
 returns c = c .past .ensures ∙ (zero-add _ ∙ foreign-known _)
 
 pub foreign-spec : {M : Type 1} → statement M
-foreign-spec = tie.close (tie.spec past-requires returns)
+foreign-spec = tie.close (tie.spec (λ c κs. search needs) returns)

@@ -75,88 +75,37 @@ left-9 : (c : tie.Else9) → From (from (start-9 c)) (drop 9 keywords) 16
 unfolding keywords
 left-9 c = onward (left-8 (c .before .before .before)) (c .before .equals9 .ensures) (c .if9 .left)
 
-slice-aggregate-equals : tie.Need-slice-aggregate-equals
-slice-aggregate-equals c = search needs
-
-equals-requires : tie.Need-equals-requires
-equals-requires c κs = search needs
-
 returns : tie.Need-returns
 unfolding keywords
 returns c = found all-left (c .before .equals .ensures) (c .if1 .taken)
-
-slice-aggregate-equals-2 : tie.Need-slice-aggregate-equals-2
-slice-aggregate-equals-2 c = search needs
-
-equals-requires-2 : tie.Need-equals-requires-2
-equals-requires-2 c κs = search needs
 
 returns-2 : tie.Need-returns-2
 unfolding keywords
 returns-2 c = found (left-1 (c .before .before .before)) (c .before .equals2 .ensures) (c .if2 .taken)
 
-slice-aggregate-equals-3 : tie.Need-slice-aggregate-equals-3
-slice-aggregate-equals-3 c = search needs
-
-equals-requires-3 : tie.Need-equals-requires-3
-equals-requires-3 c κs = search needs
-
 returns-3 : tie.Need-returns-3
 unfolding keywords
 returns-3 c = found (left-2 (c .before .before .before)) (c .before .equals3 .ensures) (c .if3 .taken)
-
-slice-aggregate-equals-4 : tie.Need-slice-aggregate-equals-4
-slice-aggregate-equals-4 c = search needs
-
-equals-requires-4 : tie.Need-equals-requires-4
-equals-requires-4 c κs = search needs
 
 returns-4 : tie.Need-returns-4
 unfolding keywords
 returns-4 c = found (left-3 (c .before .before .before)) (c .before .equals4 .ensures) (c .if4 .taken)
 
-slice-aggregate-equals-5 : tie.Need-slice-aggregate-equals-5
-slice-aggregate-equals-5 c = search needs
-
-equals-requires-5 : tie.Need-equals-requires-5
-equals-requires-5 c κs = search needs
-
 returns-5 : tie.Need-returns-5
 unfolding keywords
 returns-5 c = found (left-4 (c .before .before .before)) (c .before .equals5 .ensures) (c .if5 .taken)
-
-slice-aggregate-equals-6 : tie.Need-slice-aggregate-equals-6
-slice-aggregate-equals-6 c = search needs
-
-equals-requires-6 : tie.Need-equals-requires-6
-equals-requires-6 c κs = search needs
 
 returns-6 : tie.Need-returns-6
 unfolding keywords
 returns-6 c = found (left-5 (c .before .before .before)) (c .before .equals6 .ensures) (c .if6 .taken)
 
-slice-aggregate-equals-7 : tie.Need-slice-aggregate-equals-7
-slice-aggregate-equals-7 c = search needs
-
-equals-requires-7 : tie.Need-equals-requires-7
-equals-requires-7 c κs = search needs
-
 returns-7 : tie.Need-returns-7
 unfolding keywords
 returns-7 c = found (left-6 (c .before .before .before)) (c .before .equals7 .ensures) (c .if7 .taken)
 
-slice-aggregate-equals-8 : tie.Need-slice-aggregate-equals-8
-slice-aggregate-equals-8 c = search needs
-
-equals-requires-8 : tie.Need-equals-requires-8
-equals-requires-8 c κs = search needs
-
 returns-8 : tie.Need-returns-8
 unfolding keywords
 returns-8 c = found (left-7 (c .before .before .before)) (c .before .equals8 .ensures) (c .if8 .taken)
-
-slice-aggregate-equals-9 : tie.Need-slice-aggregate-equals-9
-slice-aggregate-equals-9 c = search needs
 
 equals-requires-9 : tie.Need-equals-requires-9
 equals-requires-9 c κs = let p = start-8 (c .before) .pre in (omega (arith, p .0), omega (arith, p .0, p .1))
@@ -172,32 +121,7 @@ returns-10 c = none-left (left-9 c)
 pub keyword-spec : {M : Type 1} → statement M
 keyword-spec =
     tie.close
-    (tie.spec
-    slice-aggregate-equals
-    equals-requires
-    returns
-    slice-aggregate-equals-2
-    equals-requires-2
-    returns-2
-    slice-aggregate-equals-3
-    equals-requires-3
-    returns-3
-    slice-aggregate-equals-4
-    equals-requires-4
-    returns-4
-    slice-aggregate-equals-5
-    equals-requires-5
-    returns-5
-    slice-aggregate-equals-6
-    equals-requires-6
-    returns-6
-    slice-aggregate-equals-7
-    equals-requires-7
-    returns-7
-    slice-aggregate-equals-8
-    equals-requires-8
-    returns-8
-    slice-aggregate-equals-9
-    equals-requires-9
-    returns-9
-    returns-10)
+    (tie.spec (λ c. search needs) (λ c κs. search needs) returns (λ c. search needs) (λ c κs. search needs) returns-2 (λ c. search needs)
+    (λ c κs. search needs) returns-3 (λ c. search needs) (λ c κs. search needs) returns-4 (λ c. search needs) (λ c κs. search needs)
+    returns-5 (λ c. search needs) (λ c κs. search needs) returns-6 (λ c. search needs) (λ c κs. search needs) returns-7 (λ c. search needs)
+    (λ c κs. search needs) returns-8 (λ c. search needs) equals-requires-9 returns-9 returns-10)

@@ -11,12 +11,6 @@ use Rattle.lexer.proofs.class.Reads as class-reads
 returns : tie.Need-returns
 returns c = letter-past (c .before .before .args .text .now) (c .before .before .args .at) (c .if1 .taken)
 
-shared-slice-read-class : tie.Need-shared-slice-read-class
-shared-slice-read-class c = search needs
-
-class-requires : tie.Need-class-requires
-class-requires c κs = search needs
-
 returns-2 : tie.Need-returns-2
 returns-2 c =
     let a = c .before .before .before .before .before .args in
@@ -27,9 +21,6 @@ returns-3 c =
     let a = c .before .before .before .before .before .before .args in
     letter-none (a .text .now) (a .at) (c .before .before .before .before .if1 .left) (between-high 5 7 _ (rw (c .before .before .class .ensures) at (c .if3 .taken)))
 
-shared-slice-read-result : tie.Need-shared-slice-read-result
-shared-slice-read-result c = search needs
-
 returns-4 : tie.Need-returns-4
 returns-4 c =
     let a = c .before .before .before .before .before .before .before .args in
@@ -39,11 +30,4 @@ returns-4 c =
 pub letter-spec : {M : Type 1} → statement M
 letter-spec =
     tie.close
-    (tie.spec
-    returns
-    shared-slice-read-class
-    class-requires
-    returns-2
-    returns-3
-    shared-slice-read-result
-    returns-4)
+    (tie.spec returns (λ c. search needs) (λ c κs. search needs) returns-2 returns-3 (λ c. search needs) returns-4)

@@ -5,20 +5,11 @@ use borrow.Author.Needs.{needs}
 use Rattle.lexer.proofs.numeral.Statement.{statement}
 use Rattle.lexer.proofs.numeral.Tie as tie
 
-sub-n : tie.Need-sub-n
-sub-n c = search needs
-
-shared-slice-read-x : tie.Need-shared-slice-read-x
-shared-slice-read-x c = search needs
-
 returns : tie.Need-returns
 returns c = let s = c .before .before .before .pre in no-digit _ _ _ (s .0) (s .1) (c .before .if1 .taken) (between-low _ _ _ (c .if2 .taken))
 
 returns-2 : tie.Need-returns-2
 returns-2 c = let s = c .before .before .before .before .pre in no-digit _ _ _ (s .0) (s .1) (c .before .before .if1 .taken) (between-high _ _ _ (c .if3 .taken))
-
-sub-result : tie.Need-sub-result
-sub-result c = search needs
 
 returns-3 : tie.Need-returns-3
 returns-3 c = let s = c .before .before .before .before .pre in digit _ _ _ (s .0) (s .1) (c .before .before .if1 .taken) (c .before .if2 .left) (c .if3 .left)
@@ -28,12 +19,6 @@ returns-4 c = let s = c .before .before .before .pre in no-numeral _ _ _ (s .0) 
 
 returns-5 : tie.Need-returns-5
 returns-5 c = let s = c .before .before .before .before .pre in no-one _ _ _ (s .0) (s .1) (c .before .if4 .left) (c .if5 .taken)
-
-add-y : tie.Need-add-y
-add-y c = search needs
-
-shared-slice-read-y : tie.Need-shared-slice-read-y
-shared-slice-read-y c = search needs
 
 returns-6 : tie.Need-returns-6
 returns-6 c =
@@ -47,9 +32,6 @@ returns-7 c =
     let b = c .before .before .before in
     no-teen _ _ _ (s .0) (s .1) (b .before .if4 .left) (b .if5 .left) (between-high _ _ _ (c .if7 .taken))
 
-sub-result-2 : tie.Need-sub-result-2
-sub-result-2 c = search needs
-
 returns-8 : tie.Need-returns-8
 returns-8 c =
     let s = c .before .before .before .before .before .before .before .pre in
@@ -59,18 +41,5 @@ returns-8 c =
 pub numeral-spec : {M : Type 1} → statement M
 numeral-spec =
     tie.close
-    (tie.spec
-    sub-n
-    shared-slice-read-x
-    returns
-    returns-2
-    sub-result
-    returns-3
-    returns-4
-    returns-5
-    add-y
-    shared-slice-read-y
-    returns-6
-    returns-7
-    sub-result-2
-    returns-8)
+    (tie.spec (λ c. search needs) (λ c. search needs) returns returns-2 (λ c. search needs) returns-3 returns-4 returns-5
+    (λ c. search needs) (λ c. search needs) returns-6 returns-7 (λ c. search needs) returns-8)

@@ -8,28 +8,13 @@ use Rattle.lexer.proofs.scan_text.Tie as tie
 returns : tie.Need-returns
 returns c = answered _ _ _ _ _ _ (scan-long _ (c .if1 .taken)) refl refl
 
-foreign-requires : tie.Need-foreign-requires
-foreign-requires c κs = search needs
-
 returns-2 : tie.Need-returns-2
 returns-2 c = answered _ _ _ _ _ _ (scan-foreign _ (c .before .before .if1 .left) _ (c .before .foreign .ensures) (c .if2 .taken)) refl refl
-
-first-long-requires : tie.Need-first-long-requires
-first-long-requires c κs = search needs
 
 returns-3 : tie.Need-returns-3
 returns-3 c =
     let f = c .before .before .before in
     answered _ _ _ _ _ _ (scan-word _ (f .before .if1 .left) _ (f .foreign .ensures) (c .before .before .if2 .left) _ (c .before .first-long .ensures) (c .if3 .taken)) refl refl
-
-tokens-requires : tie.Need-tokens-requires
-tokens-requires c κs = search needs
-
-same-length : tie.Need-same-length
-same-length c = search needs
-
-same-length-2 : tie.Need-same-length-2
-same-length-2 c = search needs
 
 returns-4 : tie.Need-returns-4
 returns-4 c =
@@ -43,13 +28,5 @@ returns-4 c =
 pub scan-text-spec : {M : Type 1} → statement M
 scan-text-spec =
     tie.close
-    (tie.spec
-    returns
-    foreign-requires
-    returns-2
-    first-long-requires
-    returns-3
-    tokens-requires
-    same-length
-    same-length-2
-    returns-4)
+    (tie.spec returns (λ c κs. search needs) returns-2 (λ c κs. search needs) returns-3 (λ c κs. search needs) (λ c. search needs)
+    (λ c. search needs) returns-4)

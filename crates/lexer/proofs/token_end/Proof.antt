@@ -4,17 +4,11 @@ use borrow.Author.Needs.{needs}
 use Rattle.lexer.proofs.token_end.Statement.{statement}
 use Rattle.lexer.proofs.token_end.Tie as tie
 
-word-end-requires : tie.Need-word-end-requires
-word-end-requires c κs = search needs
-
 returns : tie.Need-returns
 returns c = ends-word _ _ _ (c .before .word-end .ensures) (c .if1 .taken)
-
-add-result : tie.Need-add-result
-add-result c = search needs
 
 returns-2 : tie.Need-returns-2
 returns-2 c = ends-sign _ _ _ (c .before .word-end .ensures) (c .before .before .before .pre) (c .if1 .left)
 
 pub token-end-spec : {M : Type 1} → statement M
-token-end-spec = tie.close (tie.spec word-end-requires returns add-result returns-2)
+token-end-spec = tie.close (tie.spec (λ c κs. search needs) returns (λ c. search needs) returns-2)

@@ -15,32 +15,17 @@ Inv-loop text codes₀ starts₀ n₀ at₀ codes starts n at = Midway text code
 abbrev μ-loop : tie.MeasureT-loop
 μ-loop text codes₀ starts₀ n₀ at₀ codes starts n at = length text - at
 
-skip-requires : tie.Need-skip-requires Inv-loop μ-loop
-skip-requires c κs = search needs
-
 loop-holds : tie.Need-loop-holds Inv-loop μ-loop
 loop-holds c = midway-start _ _ _ _ (c .skip .ensures)
-
-token-end-requires : tie.Need-token-end-requires Inv-loop μ-loop
-token-end-requires c κs = search needs
 
 code-requires : tie.Need-code-requires Inv-loop μ-loop
 code-requires c κs = end-after _ _ _ (c .before .loop-test .taken) (c .token-end .ensures)
 
-put-byte-requires : tie.Need-put-byte-requires Inv-loop μ-loop
-put-byte-requires c κs = search needs
-
 cast-put-start : tie.Need-cast-put-start Inv-loop μ-loop
 cast-put-start c = let h = c .before .before .before .before .before .before .before .loop-test .taken in let p = c .before .before .before .before .before .before .before .before .before .before .before .before .before .pre in omega arith
 
-put-start-requires : tie.Need-put-start-requires Inv-loop μ-loop
-put-start-requires c κs = search needs
-
 add-n : tie.Need-add-n Inv-loop μ-loop
 add-n c = let h = c .before .before .before .before .before .before .before .before .before .before .loop-test .taken in let f = c .before .before .before .before .before .before .before .before .before .before .before .loop .inv .few in search needs
-
-skip-requires-2 : tie.Need-skip-requires-2 Inv-loop μ-loop
-skip-requires-2 c κs = search needs
 
 loop-less : tie.Need-loop-less Inv-loop μ-loop
 loop-less c = less-left _ _ _ _ (c .before .before .before .before .before .before .before .before .before .before .before .loop-test .taken) (c .before .before .before .before .before .before .before .before .before .before .token-end .ensures) (c .skip2 .ensures)
@@ -62,20 +47,5 @@ returns c = midway-end _ _ _ _ _ _ _ (c .before .loop .inv) (c .loop-test .left)
 pub tokens-spec : {M : Type 1} → statement M
 tokens-spec =
     tie.close
-    (tie.spec
-    Inv-loop
-    μ-loop
-    skip-requires
-    loop-holds
-    token-end-requires
-    code-requires
-    put-byte-requires
-    cast-put-start
-    put-start-requires
-    add-n
-    skip-requires-2
-    loop-less
-    loop-again
-    same-length
-    same-length-2
-    returns)
+    (tie.spec Inv-loop μ-loop (λ c κs. search needs) loop-holds (λ c κs. search needs) code-requires (λ c κs. search needs) cast-put-start
+    (λ c κs. search needs) add-n (λ c κs. search needs) loop-less loop-again same-length same-length-2 returns)

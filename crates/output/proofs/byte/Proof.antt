@@ -10,17 +10,8 @@ use Rattle.output.proofs.byte.Tie as tie
 returns : tie.Need-returns
 returns c = let a = c .before .args in sym (put-full (a .b) (buffer (a .at) (a .out .now)) (omega (arith, c .if1 .taken)))
 
-add-next : tie.Need-add-next
-add-next c = search needs
-
-slice-write-out : tie.Need-slice-write-out
-slice-write-out c = search needs
-
-same-length : tie.Need-same-length
-same-length c = search needs
-
 returns-2 : tie.Need-returns-2
 returns-2 c = let a = c .before .args in sym (put-room (a .b) (buffer (a .at) (a .out .now)) (c .if1 .left))
 
 pub byte-spec : {M : Type 1} → statement M
-byte-spec = tie.close (tie.spec returns add-next slice-write-out same-length returns-2)
+byte-spec = tie.close (tie.spec returns (λ c. search needs) (λ c. search needs) (λ c. search needs) returns-2)

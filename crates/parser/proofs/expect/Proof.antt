@@ -26,16 +26,10 @@ abbrev μ-loop : tie.MeasureT-loop
 loop-holds : tie.Need-loop-holds Inv-loop μ-loop
 loop-holds c = (omega arith, omega arith, λ z. absurd (omega arith), starts)
 
-token-requires : tie.Need-token-requires Inv-loop μ-loop
-token-requires c κs = search needs
-
 returns : tie.Need-returns Inv-loop μ-loop
 returns c =
     let l = c .before .before .before .loop in
     off-grammar (here _ (l .i) (c .before .before .loop-test .taken) (l .inv .3)) (c .before .token .ensures) (sign-none _ _ _ (c .if1 .taken))
-
-shared-slice-read-if2 : tie.Need-shared-slice-read-if2 Inv-loop μ-loop
-shared-slice-read-if2 c = search needs
 
 returns-2 : tie.Need-returns-2 Inv-loop μ-loop
 returns-2 c =
@@ -49,12 +43,6 @@ add-p c =
     let l = t .before .before in
     let h = within (l .before .before .before .args .codes .now) (l .loop .p) (t .token .ensures) (c .before .before .if1 .left) in
     omega arith
-
-add-i : tie.Need-add-i Inv-loop μ-loop
-add-i c = search needs
-
-loop-less : tie.Need-loop-less Inv-loop μ-loop
-loop-less c = search needs
 
 loop-again : tie.Need-loop-again Inv-loop μ-loop
 loop-again c =
@@ -72,16 +60,5 @@ returns-3 c =
 pub expect-spec : {M : Type 1} → statement M
 expect-spec =
     tie.close
-    (tie.spec
-    Inv-loop
-    μ-loop
-    loop-holds
-    token-requires
-    returns
-    shared-slice-read-if2
-    returns-2
-    add-p
-    add-i
-    loop-less
-    loop-again
-    returns-3)
+    (tie.spec Inv-loop μ-loop loop-holds (λ c κs. search needs) returns (λ c. search needs) returns-2 add-p (λ c. search needs)
+    (λ c. search needs) loop-again returns-3)

@@ -34,15 +34,6 @@ module _ {cs : List ℕ} {r : Step} {end m : ℕ} (q : Reads cs (node root 12 �
       let z : end ≡ length cs = omega arith in
       rw (← answer q e, drop-of-length-le cs h, z)
 
-read-child-requires : tie.Need-read-child-requires
-read-child-requires c κs = search needs
-
-enum-known-s : tie.Need-enum-known-s
-enum-known-s c = search needs
-
-enum-told : tie.Need-enum-told
-enum-told c = search needs
-
 returns : tie.Need-returns
 returns c = refused (c .before .before .read-child .ensures) (c .enum-told .given .1)
 
@@ -58,4 +49,4 @@ returns-3 c =
 
 pub parse-spec : {M : Type 1} → statement M
 parse-spec =
-    tie.close (tie.spec read-child-requires enum-known-s enum-told returns returns-2 returns-3)
+    tie.close (tie.spec (λ c κs. search needs) (λ c. search needs) (λ c. search needs) returns returns-2 returns-3)

@@ -5,9 +5,6 @@ use Rattle.parser.proofs.Laws.{starts, off-grammar, closes, within, num
 use Rattle.parser.proofs.read_number.Statement.{statement}
 use Rattle.parser.proofs.read_number.Tie as tie
 
-token-requires : tie.Need-token-requires
-token-requires c κs = search needs
-
 returns : tie.Need-returns
 returns c = off-grammar starts (c .before .token .ensures) (number-below _ _ _ _ (omega arith))
 
@@ -28,4 +25,4 @@ returns-4 : tie.Need-returns-4
 returns-4 c = closes starts (c .before .before .before .token .ensures) (number-takes _ _ _ _ (omega arith) (omega arith))
 
 pub read-number-spec : {M : Type 1} → statement M
-read-number-spec = tie.close (tie.spec token-requires returns returns-2 returns-3 add-t9 returns-4)
+read-number-spec = tie.close (tie.spec (λ c κs. search needs) returns returns-2 returns-3 add-t9 returns-4)

@@ -19,20 +19,11 @@ abbrev μ-loop : tie.MeasureT-loop
 loop-holds : tie.Need-loop-holds Inv-loop μ-loop
 loop-holds c = starts
 
-token-requires : tie.Need-token-requires Inv-loop μ-loop
-token-requires c κs = search needs
-
 add-p : tie.Need-add-p Inv-loop μ-loop
 add-p c =
     let l = c .before .before in
     let h = within (l .before .before .args .codes .now) (l .loop .comma) (c .before .token .ensures) (λ z. omega arith) in
     omega arith
-
-token-requires-2 : tie.Need-token-requires-2 Inv-loop μ-loop
-token-requires-2 c κs = search needs
-
-read-switch-requires : tie.Need-read-switch-requires Inv-loop μ-loop
-read-switch-requires c κs = search needs
 
 returns : tie.Need-returns Inv-loop μ-loop
 returns c =
@@ -66,16 +57,5 @@ returns-2 c = off-grammar (c .before .before .loop .inv) (c .before .token .ensu
 pub read-params-spec : {M : Type 1} → statement M
 read-params-spec =
     tie.close
-    (tie.spec
-    Inv-loop
-    μ-loop
-    loop-holds
-    token-requires
-    add-p
-    token-requires-2
-    read-switch-requires
-    returns
-    add-comma
-    loop-less
-    loop-again
-    returns-2)
+    (tie.spec Inv-loop μ-loop loop-holds (λ c κs. search needs) add-p (λ c κs. search needs) (λ c κs. search needs) returns add-comma
+    loop-less loop-again returns-2)

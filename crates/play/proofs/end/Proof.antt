@@ -4,31 +4,14 @@ use borrow.Author.Needs.{needs}
 use Rattle.play.proofs.end.Statement.{statement}
 use Rattle.play.proofs.end.Tie as tie
 
-slice-aggregate-closing : tie.Need-slice-aggregate-closing
-slice-aggregate-closing c = search needs
-
-closing-requires : tie.Need-closing-requires
-closing-requires c κs = search needs
-
 array-share-prefix-out : tie.Need-array-share-prefix-out
 array-share-prefix-out c = written _ _ _ _ (c .before .closing .ensures) .0
 
 slice-aggregate-write-all : tie.Need-slice-aggregate-write-all
 slice-aggregate-write-all c = written _ _ _ _ (c .before .before .closing .ensures) .1
 
-write-all-requires : tie.Need-write-all-requires
-write-all-requires c κs = search needs
-
-returns : tie.Need-returns
-returns c = search needs
-
 pub end-spec : {M : Type 1} → statement M
 end-spec =
     tie.close
-    (tie.spec
-    slice-aggregate-closing
-    closing-requires
-    array-share-prefix-out
-    slice-aggregate-write-all
-    write-all-requires
-    returns)
+    (tie.spec (λ c. search needs) (λ c κs. search needs) array-share-prefix-out slice-aggregate-write-all (λ c κs. search needs)
+    (λ c. search needs))

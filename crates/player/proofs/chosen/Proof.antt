@@ -19,38 +19,8 @@ Inv-loop listing bits out₀ from n₀ at₀ e₀ out n at e =
 abbrev μ-loop : tie.MeasureT-loop
 μ-loop listing bits out₀ from n₀ at₀ e₀ out n at e = length listing - at
 
-after-first-requires : tie.Need-after-first-requires Inv-loop μ-loop
-after-first-requires c κs = search needs
-
 loop-holds : tie.Need-loop-holds Inv-loop μ-loop
 loop-holds c = let a = c .before .before .before .args in (omega arith, refl, ap (λ ls. put-all (chosen-of ls (a .bits .now) 0) (buffer (a .from) (a .out .now))) (c .after-first .ensures))
-
-find-requires : tie.Need-find-requires Inv-loop μ-loop
-find-requires c κs = search needs
-
-bit-requires : tie.Need-bit-requires Inv-loop μ-loop
-bit-requires c κs = search needs
-
-sub-item : tie.Need-sub-item Inv-loop μ-loop
-sub-item c = search needs
-
-part-item-start : tie.Need-part-item-start Inv-loop μ-loop
-part-item-start c = search needs
-
-part-item-end : tie.Need-part-item-end Inv-loop μ-loop
-part-item-end c = search needs
-
-item-requires : tie.Need-item-requires Inv-loop μ-loop
-item-requires c κs = search needs
-
-add-at : tie.Need-add-at Inv-loop μ-loop
-add-at c = search needs
-
-add-e : tie.Need-add-e Inv-loop μ-loop
-add-e c = search needs
-
-loop-less : tie.Need-loop-less Inv-loop μ-loop
-loop-less c = search needs
 
 loop-again : tie.Need-loop-again Inv-loop μ-loop
 loop-again c =
@@ -73,20 +43,6 @@ returns c = let l = c .before .loop in chosen-done (c .before .before .before .b
 pub chosen-spec : {M : Type 1} → statement M
 chosen-spec =
     tie.close
-    (tie.spec
-    Inv-loop
-    μ-loop
-    after-first-requires
-    loop-holds
-    find-requires
-    bit-requires
-    sub-item
-    part-item-start
-    part-item-end
-    item-requires
-    add-at
-    add-e
-    loop-less
-    loop-again
-    same-length
-    returns)
+    (tie.spec Inv-loop μ-loop (λ c κs. search needs) loop-holds (λ c κs. search needs) (λ c κs. search needs) (λ c. search needs)
+    (λ c. search needs) (λ c. search needs) (λ c κs. search needs) (λ c. search needs) (λ c. search needs) (λ c. search needs) loop-again
+    same-length returns)

@@ -8,29 +8,8 @@ use borrow.Author.Needs.{needs}
 use Rattle.player.proofs.opening.Statement.{statement}
 use Rattle.player.proofs.opening.Tie as tie
 
-find-requires : tie.Need-find-requires
-find-requires c κs = search needs
-
 slice-aggregate-bytes : tie.Need-slice-aggregate-bytes
 slice-aggregate-bytes c = sym (length-take-le (c .before .before .find .result) (c .before .before .before .before .before .before .args .listing .now) (c .before .before .find .ensures .1))
-
-bytes-requires : tie.Need-bytes-requires
-bytes-requires c κs = search needs
-
-slice-aggregate-bytes-2 : tie.Need-slice-aggregate-bytes-2
-slice-aggregate-bytes-2 c = search needs
-
-bytes-requires-2 : tie.Need-bytes-requires-2
-bytes-requires-2 c κs = search needs
-
-blank-requires : tie.Need-blank-requires
-blank-requires c κs = search needs
-
-state-requires : tie.Need-state-requires
-state-requires c κs = search needs
-
-same-length : tie.Need-same-length
-same-length c = search needs
 
 returns : tie.Need-returns
 unfolding opening-text
@@ -43,13 +22,5 @@ returns c =
 pub opening-spec : {M : Type 1} → statement M
 opening-spec =
     tie.close
-    (tie.spec
-    find-requires
-    slice-aggregate-bytes
-    bytes-requires
-    slice-aggregate-bytes-2
-    bytes-requires-2
-    blank-requires
-    state-requires
-    same-length
-    returns)
+    (tie.spec (λ c κs. search needs) slice-aggregate-bytes (λ c κs. search needs) (λ c. search needs) (λ c κs. search needs)
+    (λ c κs. search needs) (λ c κs. search needs) (λ c. search needs) returns)

@@ -6,23 +6,11 @@ use borrow.Author.Needs.{needs}
 use Rattle.player.proofs.refused.Statement.{statement}
 use Rattle.player.proofs.refused.Tie as tie
 
-enum-told : tie.Need-enum-told
-enum-told c = search needs
-
-enum-known-answer : tie.Need-enum-known-answer
-enum-known-answer c = search needs
-
-refused-requires : tie.Need-refused-requires
-refused-requires c κs = search needs
-
 returns : tie.Need-returns
 returns c = same-put _ _ _ (none-put _) (ap refused-text (sym (c .enum-told .given .1)))
-
-same-length : tie.Need-same-length
-same-length c = search needs
 
 returns-2 : tie.Need-returns-2
 returns-2 c = same-put _ _ _ (c .before .before .refused .ensures) (ap refused-text (sym (c .before .before .before .before .before .answer .given .1)))
 
 pub refused-spec : {M : Type 1} → statement M
-refused-spec = tie.close (tie.spec enum-told enum-known-answer refused-requires returns same-length returns-2)
+refused-spec = tie.close (tie.spec (λ c. search needs) (λ c. search needs) (λ c κs. search needs) returns (λ c. search needs) returns-2)

@@ -10,32 +10,11 @@ use borrow.Author.Needs.{needs}
 use Rattle.player.proofs.says.Statement.{statement}
 use Rattle.player.proofs.says.Tie as tie
 
-find-requires : tie.Need-find-requires
-find-requires c κs = search needs
-
 slice-aggregate-equal : tie.Need-slice-aggregate-equal
 slice-aggregate-equal c = sym (length-take-le (c .before .find .result) (c .before .before .before .before .args .line .now) (c .before .find .ensures .1))
 
-equal-requires : tie.Need-equal-requires
-equal-requires c κs = search needs
-
 returns : tie.Need-returns
 returns c = let a = c .before .before .before .before .before .before .args in says-number (a .line .now) (a .said .now) (c .before .before .before .find .result) (c .before .before .before .find .ensures .0) (c .before .equal .result) (c .before .equal .ensures) (c .if1 .taken)
-
-add-from : tie.Need-add-from
-add-from c = search needs
-
-sub-equal : tie.Need-sub-equal
-sub-equal c = search needs
-
-part-equal-start : tie.Need-part-equal-start
-part-equal-start c = search needs
-
-part-equal-end : tie.Need-part-equal-end
-part-equal-end c = search needs
-
-equal-requires-2 : tie.Need-equal-requires-2
-equal-requires-2 c κs = search needs
 
 returns-2 : tie.Need-returns-2
 returns-2 c =
@@ -49,15 +28,5 @@ returns-3 c = let a = c .before .before .before .before .before .before .before 
 pub says-spec : {M : Type 1} → statement M
 says-spec =
     tie.close
-    (tie.spec
-    find-requires
-    slice-aggregate-equal
-    equal-requires
-    returns
-    add-from
-    sub-equal
-    part-equal-start
-    part-equal-end
-    equal-requires-2
-    returns-2
-    returns-3)
+    (tie.spec (λ c κs. search needs) slice-aggregate-equal (λ c κs. search needs) returns (λ c. search needs) (λ c. search needs)
+    (λ c. search needs) (λ c. search needs) (λ c κs. search needs) returns-2 returns-3)

@@ -17,26 +17,8 @@ Inv-loop listing said at₀ e₀ at e = (e ≤ at) × (e + before-saying (lines 
 abbrev μ-loop : tie.MeasureT-loop
 μ-loop listing said at₀ e₀ at e = length listing - at
 
-after-first-requires : tie.Need-after-first-requires Inv-loop μ-loop
-after-first-requires c κs = search needs
-
 loop-holds : tie.Need-loop-holds Inv-loop μ-loop
 loop-holds c = let q = ap (λ (ls : List (List ℕ)). before-saying ls (c .before .before .before .args .said .now)) (c .after-first .ensures) in (omega arith, omega (arith, q))
-
-find-requires : tie.Need-find-requires Inv-loop μ-loop
-find-requires c κs = search needs
-
-sub-says : tie.Need-sub-says Inv-loop μ-loop
-sub-says c = search needs
-
-part-says-start : tie.Need-part-says-start Inv-loop μ-loop
-part-says-start c = search needs
-
-part-says-end : tie.Need-part-says-end Inv-loop μ-loop
-part-says-end c = search needs
-
-says-requires : tie.Need-says-requires Inv-loop μ-loop
-says-requires c κs = search needs
 
 returns : tie.Need-returns Inv-loop μ-loop
 returns c =
@@ -45,15 +27,6 @@ returns c =
     let f = c .before .before .before .find in
     let z = seek-found (a .listing .now) (a .said .now) (l .at) (f .result) (c .before .says .result) (c .before .before .before .before .loop-test .taken) (f .ensures .0) (c .before .says .ensures) (c .if1 .taken) in
     omega (arith, l .inv .1, z)
-
-add-at : tie.Need-add-at Inv-loop μ-loop
-add-at c = search needs
-
-add-e : tie.Need-add-e Inv-loop μ-loop
-add-e c = search needs
-
-loop-less : tie.Need-loop-less Inv-loop μ-loop
-loop-less c = search needs
 
 loop-again : tie.Need-loop-again Inv-loop μ-loop
 loop-again c =
@@ -69,19 +42,5 @@ returns-2 c = let l = c .before .loop in let z = seek-done (c .before .before .b
 pub seek-spec : {M : Type 1} → statement M
 seek-spec =
     tie.close
-    (tie.spec
-    Inv-loop
-    μ-loop
-    after-first-requires
-    loop-holds
-    find-requires
-    sub-says
-    part-says-start
-    part-says-end
-    says-requires
-    returns
-    add-at
-    add-e
-    loop-less
-    loop-again
-    returns-2)
+    (tie.spec Inv-loop μ-loop (λ c κs. search needs) loop-holds (λ c κs. search needs) (λ c. search needs) (λ c. search needs)
+    (λ c. search needs) (λ c κs. search needs) returns (λ c. search needs) (λ c. search needs) (λ c. search needs) loop-again returns-2)

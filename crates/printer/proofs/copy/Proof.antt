@@ -17,26 +17,11 @@ Inv-loop text out₀ n₀ at₀ out n at = (length out ≡ length out₀) × Cop
 abbrev μ-loop : tie.MeasureT-loop
 μ-loop text out₀ n₀ at₀ out n at = length text - at
 
-skip-requires : tie.Need-skip-requires Inv-loop μ-loop
-skip-requires c κs = search needs
-
 loop-holds : tie.Need-loop-holds Inv-loop μ-loop
 loop-holds c = (refl, copied-start (c .before .before .before .args .text .now) (c .before .before .before .args .out .now) (c .skip .result) (c .skip .ensures))
 
-shared-slice-read-put-byte : tie.Need-shared-slice-read-put-byte Inv-loop μ-loop
-shared-slice-read-put-byte c = search needs
-
-put-byte-requires : tie.Need-put-byte-requires Inv-loop μ-loop
-put-byte-requires c κs = search needs
-
 add-n : tie.Need-add-n Inv-loop μ-loop
 add-n c = let l = c .before .before .before .before .before .before .loop in omega (arith, l .inv .1 .few)
-
-add-skip : tie.Need-add-skip Inv-loop μ-loop
-add-skip c = search needs
-
-skip-requires-2 : tie.Need-skip-requires-2 Inv-loop μ-loop
-skip-requires-2 c κs = search needs
 
 loop-less : tie.Need-loop-less Inv-loop μ-loop
 loop-less c = omega (arith, c .skip2 .ensures, c .before .before .before .before .before .before .loop-test .taken)
@@ -64,17 +49,5 @@ returns c =
 pub copy-spec : {M : Type 1} → statement M
 copy-spec =
     tie.close
-    (tie.spec
-    Inv-loop
-    μ-loop
-    skip-requires
-    loop-holds
-    shared-slice-read-put-byte
-    put-byte-requires
-    add-n
-    add-skip
-    skip-requires-2
-    loop-less
-    loop-again
-    same-length
-    returns)
+    (tie.spec Inv-loop μ-loop (λ c κs. search needs) loop-holds (λ c. search needs) (λ c κs. search needs) add-n (λ c. search needs)
+    (λ c κs. search needs) loop-less loop-again same-length returns)

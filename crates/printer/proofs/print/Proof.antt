@@ -12,15 +12,6 @@ returns c =
     let a = c .before .before .before .args in
     short-answers (a .text .now) (a .out .now) (c .if1 .taken)
 
-read-requires : tie.Need-read-requires
-read-requires c κs = search needs
-
-print-read-requires : tie.Need-print-read-requires
-print-read-requires c κs = search needs
-
-same-length : tie.Need-same-length
-same-length c = search needs
-
 returns-2 : tie.Need-returns-2
 returns-2 c =
     let a = c .before .before .before .before .before .before .before .before .args in
@@ -28,4 +19,4 @@ returns-2 c =
     long-answers (a .text .now) (a .out .now) (p .last .1 .0) _ (p .result) (c .before .before .before .before .before .if1 .left) (c .before .before .before .before .read .ensures) (p .ensures)
 
 pub print-spec : {M : Type 1} → statement M
-print-spec = tie.close (tie.spec returns read-requires print-read-requires same-length returns-2)
+print-spec = tie.close (tie.spec returns (λ c κs. search needs) (λ c κs. search needs) (λ c. search needs) returns-2)

@@ -3,25 +3,10 @@ use borrow.Author.Needs.{needs}
 use Rattle.printer.proofs.print_read.Statement.{statement}
 use Rattle.printer.proofs.print_read.Tie as tie
 
-enum-told : tie.Need-enum-told
-enum-told c = search needs
-
-enum-told-2 : tie.Need-enum-told-2
-enum-told-2 c = search needs
-
-passed-on-requires : tie.Need-passed-on-requires
-passed-on-requires c κs = search needs
-
 returns : tie.Need-returns
 returns c =
     let a = c .before .before .before .before .before .args in
     refused-answers (a .text .now) (a .out .now) (a .answer) _ _ (c .passed-on .result) (c .before .enum-told2 .given .1) (c .passed-on .ensures)
-
-copy-requires : tie.Need-copy-requires
-copy-requires c κs = search needs
-
-same-length : tie.Need-same-length
-same-length c = search needs
 
 returns-2 : tie.Need-returns-2
 returns-2 c =
@@ -30,4 +15,4 @@ returns-2 c =
     done-answers (a .text .now) (a .out .now) (copy .last .1 .0) (a .answer) (copy .result) (c .before .before .before .before .enum-told .given .1) (copy .ensures .0) (copy .ensures .1)
 
 pub print-read-spec : {M : Type 1} → statement M
-print-read-spec = tie.close (tie.spec enum-told enum-told-2 passed-on-requires returns copy-requires same-length returns-2)
+print-read-spec = tie.close (tie.spec (λ c. search needs) (λ c. search needs) (λ c κs. search needs) returns (λ c κs. search needs) (λ c. search needs) returns-2)

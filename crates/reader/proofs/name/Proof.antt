@@ -9,26 +9,11 @@ use Rattle.rules.proofs.place.Reads as place-reads
 use Rattle.rules.proofs.token.Reads as token-reads
 use Rattle.rules.proofs.within.Reads as within-reads
 
-token-requires : tie.Need-token-requires
-token-requires c κs = search needs
-
-either-requires : tie.Need-either-requires
-either-requires c κs = search needs
-
-place-requires : tie.Need-place-requires
-place-requires c κs = search needs
-
 returns : tie.Need-returns
 returns c =
     let a = c .before .before .before .before .before .before .args in
     name-first (a .codes .now) (a .starts .now) (a .key) _ _ _ (c .before .before .before .token .ensures) (c .before .before .either .ensures)
     (c .before .if1 .taken) (c .place .ensures)
-
-within-requires : tie.Need-within-requires
-within-requires c κs = search needs
-
-place-requires-2 : tie.Need-place-requires-2
-place-requires-2 c κs = search needs
 
 returns-2 : tie.Need-returns-2
 returns-2 c =
@@ -46,12 +31,5 @@ returns-3 c =
 pub name-spec : {M : Type 1} → statement M
 name-spec =
     tie.close
-    (tie.spec
-    token-requires
-    either-requires
-    place-requires
-    returns
-    within-requires
-    place-requires-2
-    returns-2
-    returns-3)
+    (tie.spec (λ c κs. search needs) (λ c κs. search needs) (λ c κs. search needs) returns (λ c κs. search needs) (λ c κs. search needs)
+    returns-2 returns-3)

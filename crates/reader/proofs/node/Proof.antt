@@ -3,27 +3,6 @@ use borrow.Author.Needs.{needs}
 use Rattle.reader.proofs.node.Statement.{statement}
 use Rattle.reader.proofs.node.Tie as tie
 
-token-requires : tie.Need-token-requires
-token-requires c κs = search needs
-
-size-requires : tie.Need-size-requires
-size-requires c κs = search needs
-
-kind-requires : tie.Need-kind-requires
-kind-requires c κs = search needs
-
-solid-requires : tie.Need-solid-requires
-solid-requires c κs = search needs
-
-strong-requires : tie.Need-strong-requires
-strong-requires c κs = search needs
-
-place-requires : tie.Need-place-requires
-place-requires c κs = search needs
-
-name-requires : tie.Need-name-requires
-name-requires c κs = search needs
-
 returns : tie.Need-returns
 returns c =
     let a = c .before .before .before .before .before .before .before .before .before .args in
@@ -36,12 +15,5 @@ returns c =
 pub node-spec : {M : Type 1} → statement M
 node-spec =
     tie.close
-    (tie.spec
-    token-requires
-    size-requires
-    kind-requires
-    solid-requires
-    strong-requires
-    place-requires
-    name-requires
-    returns)
+    (tie.spec (λ c κs. search needs) (λ c κs. search needs) (λ c κs. search needs) (λ c κs. search needs) (λ c κs. search needs)
+    (λ c κs. search needs) (λ c κs. search needs) returns)

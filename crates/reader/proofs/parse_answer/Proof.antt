@@ -4,15 +4,6 @@ use borrow.Author.Needs.{needs}
 use Rattle.reader.proofs.parse_answer.Statement.{statement}
 use Rattle.reader.proofs.parse_answer.Tie as tie
 
-enum-told : tie.Need-enum-told
-enum-told c = search needs
-
-enum-known-s : tie.Need-enum-known-s
-enum-known-s c = search needs
-
-place-requires : tie.Need-place-requires
-place-requires c κs = search needs
-
 returns : tie.Need-returns
 returns c =
     let a = c .before .before .before .before .args in
@@ -22,4 +13,4 @@ returns-2 : tie.Need-returns-2
 returns-2 c = rw (c .before .before .s .given .1, c .place .ensures)
 
 pub parse-answer-spec : {M : Type 1} → statement M
-parse-answer-spec = tie.close (tie.spec enum-told enum-known-s place-requires returns returns-2)
+parse-answer-spec = tie.close (tie.spec (λ c. search needs) (λ c. search needs) (λ c κs. search needs) returns returns-2)

@@ -8,9 +8,6 @@ use Rattle.reader.proofs.place.Reads as reads
 use Rattle.reader.proofs.place.Lts as lts
 use Rattle.rules.proofs.place.Reads as place-reads
 
-place-requires : tie.Need-place-requires
-place-requires c κs = search needs
-
 returns : tie.Need-returns
 returns c =
     let a = c .before .before .before .before .args in
@@ -22,4 +19,4 @@ returns-2 c =
     place-past (a .starts .now) (a .k) (length (a .text .now)) (c .if1 .left)
 
 pub place-spec : {M : Type 1} → statement M
-place-spec = tie.close (tie.spec place-requires returns returns-2)
+place-spec = tie.close (tie.spec (λ c κs. search needs) returns returns-2)

@@ -1,10 +1,10 @@
 use mathlib.Core.Path.{sym, _∙_, ap}
 use Prim.Native.Nat.{ℕ}
 use lib.ListN.{length, replicate, length-replicate}
-use Rattle.reader.proofs.Stages.{Columns, columns, stopped-away, whole-judged}
-use Rattle.reader.specs.Answers.{away}
+use Rattle.reader.proofs.Stages.{Columns, columns, stopped-no-diagram, whole-judged}
+use Rattle.reader.specs.Answers.{no-diagram}
 use Rattle.grammar.specs.Machine.{outcome}
-use Rattle.rules.specs.Heads.{heads, name-in}
+use Rattle.rules.specs.TokenNodes.{token-nodes, name-in}
 use native.Mathlib.Omega.{arith}
 use borrow.Author.Needs.{needs}
 use Rattle.reader.proofs.read_tokens.Statement.{statement}
@@ -14,7 +14,7 @@ use Rattle.reader.proofs.read_tokens.Lts as lts
 use Rattle.parser.proofs.parse.Reads as parse-reads
 use Rattle.reader.proofs.judge.Reads as judge-reads
 use Rattle.reader.proofs.parse_answer.Reads as parse-answer-reads
-use Rattle.reader.proofs.turned_away.Reads as turned-away-reads
+use Rattle.reader.proofs.no_diagram.Reads as no-diagram-reads
 use Rattle.rules.proofs.nodes.Reads as nodes-reads
 
 -- What is known once the columns are there.
@@ -32,37 +32,13 @@ found c =
     (length (c .before .before .before .before .before .before .before .before .before .args .codes .now)) (parse .result) (told .0 .0) (told .0 .1 .0)
     (parse .ensures) (told .1) (length-replicate {A = ℕ} 256 0) (length-replicate {A = ℕ} 256 0) (c .nodes .ensures .0) (c .nodes .ensures .1 .0) (c .nodes .ensures .1 .1)
 
-parse-requires : tie.Need-parse-requires
-parse-requires c κs = search needs
-
-enum-told : tie.Need-enum-told
-enum-told c = search needs
-
-enum-told-2 : tie.Need-enum-told-2
-enum-told-2 c = search needs
-
-parse-answer-requires : tie.Need-parse-answer-requires
-parse-answer-requires c κs = search needs
-
-turned-away-requires : tie.Need-turned-away-requires
-turned-away-requires c κs = search needs
-
 returns : tie.Need-returns
 returns c =
     let a = c .before .before .before .before .before .before .before .before .args in
-    c .turned-away .ensures
-    ∙ (ap away (c .before .parse-answer .ensures)
-    ∙ stopped-away (a .text .now) (a .starts .now) (heads (name-in (a .text .now) (a .starts .now)) 0 0 (a .codes .now)) (length (a .codes .now)) (outcome (a .codes .now)) _ _ _
+    c .no-diagram .ensures
+    ∙ (ap no-diagram (c .before .parse-answer .ensures)
+    ∙ stopped-no-diagram (a .text .now) (a .starts .now) (token-nodes (name-in (a .text .now) (a .starts .now)) 0 0 (a .codes .now)) (length (a .codes .now)) (outcome (a .codes .now)) _ _ _
     (c .before .before .before .before .parse .ensures) (c .before .before .enum-told2 .given .1))
-
-slice-aggregate-nodes : tie.Need-slice-aggregate-nodes
-slice-aggregate-nodes c = search needs
-
-slice-aggregate-nodes-2 : tie.Need-slice-aggregate-nodes-2
-slice-aggregate-nodes-2 c = search needs
-
-nodes-requires : tie.Need-nodes-requires
-nodes-requires c κs = search needs
 
 array-share-prefix-keys : tie.Need-array-share-prefix-keys
 array-share-prefix-keys c = found (c .before .before) .first .room
@@ -89,19 +65,6 @@ returns-2 c =
 pub read-tokens-spec : {M : Type 1} → statement M
 read-tokens-spec =
     tie.close
-    (tie.spec
-    parse-requires
-    enum-told
-    enum-told-2
-    parse-answer-requires
-    turned-away-requires
-    returns
-    slice-aggregate-nodes
-    slice-aggregate-nodes-2
-    nodes-requires
-    array-share-prefix-keys
-    slice-aggregate-judge
-    array-share-prefix-depths
-    slice-aggregate-judge-2
-    judge-requires
-    returns-2)
+    (tie.spec (λ c κs. search needs) (λ c. search needs) (λ c. search needs) (λ c κs. search needs) (λ c κs. search needs) returns
+    (λ c. search needs) (λ c. search needs) (λ c κs. search needs) array-share-prefix-keys slice-aggregate-judge array-share-prefix-depths
+    slice-aggregate-judge-2 judge-requires returns-2)

@@ -6,17 +6,8 @@ use Rattle.reader.proofs.scan_answer.Tie as tie
 use Rattle.reader.proofs.scan_answer.Reads as reads
 use Rattle.reader.proofs.scan_answer.Lts as lts
 
-enum-told : tie.Need-enum-told
-enum-told c = search needs
-
-enum-known-s : tie.Need-enum-known-s
-enum-known-s c = search needs
-
-returns : tie.Need-returns
-returns c = search needs
-
 returns-2 : tie.Need-returns-2
 returns-2 c = ap scan-answer (sym (c .before .s .given .1))
 
 pub scan-answer-spec : {M : Type 1} → statement M
-scan-answer-spec = tie.close (tie.spec enum-told enum-known-s returns returns-2)
+scan-answer-spec = tie.close (tie.spec (λ c. search needs) (λ c. search needs) (λ c. search needs) returns-2)

@@ -8,15 +8,6 @@ use Rattle.reader.proofs.numeral.Reads as numeral-reads
 use Rattle.rules.proofs.token.Reads as token-reads
 use Rattle.rules.proofs.within.Reads as within-reads
 
-token-requires : tie.Need-token-requires
-token-requires c κs = search needs
-
-within-requires : tie.Need-within-requires
-within-requires c κs = search needs
-
-numeral-requires : tie.Need-numeral-requires
-numeral-requires c κs = search needs
-
 returns : tie.Need-returns
 returns c =
     let a = c .before .before .before .before .before .args in
@@ -29,4 +20,4 @@ returns-2 c =
     size-none (a .codes .now) (a .key) _ _ (c .before .before .token .ensures) (c .before .within .ensures) (c .if1 .left)
 
 pub size-spec : {M : Type 1} → statement M
-size-spec = tie.close (tie.spec token-requires within-requires numeral-requires returns returns-2)
+size-spec = tie.close (tie.spec (λ c κs. search needs) (λ c κs. search needs) (λ c κs. search needs) returns returns-2)

@@ -20,38 +20,8 @@ Inv-loop codes starts keys depths copies events d₀ i₀ d i = (i ≤ length ke
 abbrev μ-loop : tie.MeasureT-loop
 μ-loop codes starts keys depths copies events d₀ i₀ d i = length keys - i
 
-empty-requires : tie.Need-empty-requires Inv-loop μ-loop
-empty-requires c κs = search needs
-
 loop-holds : tie.Need-loop-holds Inv-loop μ-loop
 loop-holds c = (search needs, ap (λ (d : Diagram). d .nodes) (c .empty .ensures))
-
-mul-node : tie.Need-mul-node Inv-loop μ-loop
-mul-node c = search needs
-
-shared-slice-read-node : tie.Need-shared-slice-read-node Inv-loop μ-loop
-shared-slice-read-node c = search needs
-
-mul-node-2 : tie.Need-mul-node-2 Inv-loop μ-loop
-mul-node-2 c = search needs
-
-shared-slice-read-node-2 : tie.Need-shared-slice-read-node-2 Inv-loop μ-loop
-shared-slice-read-node-2 c = search needs
-
-node-requires : tie.Need-node-requires Inv-loop μ-loop
-node-requires c κs = search needs
-
-mul-n : tie.Need-mul-n Inv-loop μ-loop
-mul-n c = search needs
-
-element-set-from-n : tie.Need-element-set-from-n Inv-loop μ-loop
-element-set-from-n c = search needs
-
-add-i : tie.Need-add-i Inv-loop μ-loop
-add-i c = search needs
-
-loop-less : tie.Need-loop-less Inv-loop μ-loop
-loop-less c = search needs
 
 loop-again : tie.Need-loop-again Inv-loop μ-loop
 loop-again c =
@@ -79,19 +49,6 @@ returns c =
 pub store-spec : {M : Type 1} → statement M
 store-spec =
     tie.close
-    (tie.spec
-    Inv-loop
-    μ-loop
-    empty-requires
-    loop-holds
-    mul-node
-    shared-slice-read-node
-    mul-node-2
-    shared-slice-read-node-2
-    node-requires
-    mul-n
-    element-set-from-n
-    add-i
-    loop-less
-    loop-again
+    (tie.spec Inv-loop μ-loop (λ c κs. search needs) loop-holds (λ c. search needs) (λ c. search needs) (λ c. search needs)
+    (λ c. search needs) (λ c κs. search needs) (λ c. search needs) (λ c. search needs) (λ c. search needs) (λ c. search needs) loop-again
     returns)

@@ -3,12 +3,6 @@ use borrow.Author.Needs.{needs}
 use Rattle.reader.proofs.strong.Statement.{statement}
 use Rattle.reader.proofs.strong.Tie as tie
 
-token-requires : tie.Need-token-requires
-token-requires c κs = search needs
-
-strong-requires : tie.Need-strong-requires
-strong-requires c κs = search needs
-
 returns : tie.Need-returns
 returns c =
     let a = c .before .before .before .before .args in
@@ -20,4 +14,4 @@ returns-2 c =
     strong-none (a .codes .now) (a .key) _ (c .before .token .ensures) (c .if1 .left)
 
 pub strong-spec : {M : Type 1} → statement M
-strong-spec = tie.close (tie.spec token-requires strong-requires returns returns-2)
+strong-spec = tie.close (tie.spec (λ c κs. search needs) (λ c κs. search needs) returns returns-2)

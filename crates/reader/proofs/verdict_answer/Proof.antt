@@ -6,17 +6,8 @@ use Rattle.reader.proofs.verdict_answer.Tie as tie
 use Rattle.reader.proofs.verdict_answer.Reads as reads
 use Rattle.reader.proofs.verdict_answer.Lts as lts
 
-enum-told : tie.Need-enum-told
-enum-told c = search needs
-
-enum-known-v : tie.Need-enum-known-v
-enum-known-v c = search needs
-
-returns : tie.Need-returns
-returns c = search needs
-
 returns-2 : tie.Need-returns-2
 returns-2 c = ap verdict-answer (sym (c .before .v .given .1))
 
 pub verdict-answer-spec : {M : Type 1} → statement M
-verdict-answer-spec = tie.close (tie.spec enum-told enum-known-v returns returns-2)
+verdict-answer-spec = tie.close (tie.spec (λ c. search needs) (λ c. search needs) (λ c. search needs) returns-2)

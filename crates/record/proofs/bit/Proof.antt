@@ -10,21 +10,9 @@ use Rattle.record.proofs.bit.Tie as tie
 returns : tie.Need-returns
 returns c = sym (bit-out _ _ (c .if1 .taken))
 
-mul-w : tie.Need-mul-w
-mul-w c = search needs
-
-element-copy-out-w : tie.Need-element-copy-out-w
-element-copy-out-w c = search needs
-
-sub-down : tie.Need-sub-down
-sub-down c = search needs
-
-shr-result : tie.Need-shr-result
-shr-result c = search needs
-
 returns-2 : tie.Need-returns-2
 unfolding bit-at
 returns-2 c = rw (lt-ltb (c .before .before .args .e) 512 (c .before .if1 .left)) refl
 
 pub bit-spec : {M : Type 1} → statement M
-bit-spec = tie.close (tie.spec returns mul-w element-copy-out-w sub-down shr-result returns-2)
+bit-spec = tie.close (tie.spec returns (λ c. search needs) (λ c. search needs) (λ c. search needs) (λ c. search needs) returns-2)

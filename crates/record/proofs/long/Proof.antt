@@ -4,21 +4,6 @@ use borrow.Author.Needs.{needs}
 use Rattle.record.proofs.long.Statement.{statement}
 use Rattle.record.proofs.long.Tie as tie
 
-quad-requires : tie.Need-quad-requires
-quad-requires c κs = search needs
-
-mul-result : tie.Need-mul-result
-mul-result c = search needs
-
-add-quad : tie.Need-add-quad
-add-quad c = search needs
-
-quad-requires-2 : tie.Need-quad-requires-2
-quad-requires-2 c κs = search needs
-
-add-result : tie.Need-add-result
-add-result c = search needs
-
 returns : tie.Need-returns
 returns c =
     let a = c .before .before .before .args in
@@ -26,4 +11,4 @@ returns c =
 
 pub long-spec : {M : Type 1} → statement M
 long-spec =
-    tie.close (tie.spec quad-requires mul-result add-quad quad-requires-2 add-result returns)
+    tie.close (tie.spec (λ c κs. search needs) (λ c. search needs) (λ c. search needs) (λ c κs. search needs) (λ c. search needs) returns)

@@ -4,7 +4,7 @@ use Prim.Native.Nat.{_≤_, _-_, _*_}
 use native.Mathlib.Omega.{arith}
 use borrow.Author.Needs.{needs}
 use Rattle.record.specs.Bits.{clear-between}
-use Rattle.record.proofs.Beyond.{past-start, past-more, past-end}
+use Rattle.record.proofs.PastEvents.{past-start, past-more, past-end}
 use Rattle.record.proofs.set_past.Statement.{statement}
 use Rattle.record.proofs.set_past.Tie as tie
 
@@ -16,24 +16,6 @@ abbrev μ-loop : tie.MeasureT-loop
 
 loop-holds : tie.Need-loop-holds Inv-loop μ-loop
 loop-holds c = (omega arith, past-start (c .args .bits .now) (c .args .first))
-
-mul-past : tie.Need-mul-past Inv-loop μ-loop
-mul-past c = search needs
-
-element-copy-out-past : tie.Need-element-copy-out-past Inv-loop μ-loop
-element-copy-out-past c = search needs
-
-mul-past-2 : tie.Need-mul-past-2 Inv-loop μ-loop
-mul-past-2 c = search needs
-
-past-requires : tie.Need-past-requires Inv-loop μ-loop
-past-requires c κs = search needs
-
-add-i : tie.Need-add-i Inv-loop μ-loop
-add-i c = search needs
-
-loop-less : tie.Need-loop-less Inv-loop μ-loop
-loop-less c = search needs
 
 loop-again : tie.Need-loop-again Inv-loop μ-loop
 loop-again c =
@@ -52,15 +34,5 @@ returns c =
 pub set-past-spec : {M : Type 1} → statement M
 set-past-spec =
     tie.close
-    (tie.spec
-    Inv-loop
-    μ-loop
-    loop-holds
-    mul-past
-    element-copy-out-past
-    mul-past-2
-    past-requires
-    add-i
-    loop-less
-    loop-again
-    returns)
+    (tie.spec Inv-loop μ-loop loop-holds (λ c. search needs) (λ c. search needs) (λ c. search needs) (λ c κs. search needs)
+    (λ c. search needs) (λ c. search needs) loop-again returns)

@@ -3,14 +3,8 @@ use borrow.Author.Needs.{needs}
 use Rattle.rules.proofs.code.Statement.{statement}
 use Rattle.rules.proofs.code.Tie as tie
 
-number-requires : tie.Need-number-requires
-number-requires c κs = search needs
-
-token-requires : tie.Need-token-requires
-token-requires c κs = search needs
-
 returns : tie.Need-returns
 returns c = rw (← c .before .number .ensures, ← add-zero (c .before .number .result)) (c .token .ensures)
 
 pub code-spec : {M : Type 1} → statement M
-code-spec = tie.close (tie.spec number-requires token-requires returns)
+code-spec = tie.close (tie.spec (λ c κs. search needs) (λ c κs. search needs) returns)

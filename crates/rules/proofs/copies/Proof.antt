@@ -19,9 +19,6 @@ Inv-loop codes keys depths i n₀ j₀ n j = ((nm : ℕ → Name) → (capped (n
 abbrev μ-loop : tie.MeasureT-loop
 μ-loop codes keys depths i n₀ j₀ n j = j
 
-enclosing-requires : tie.Need-enclosing-requires Inv-loop μ-loop
-enclosing-requires c κs = search needs
-
 loop-holds : tie.Need-loop-holds Inv-loop μ-loop
 loop-holds c =
     let s = c .before .before .before .before .args in
@@ -38,26 +35,8 @@ loop-holds c =
       omega arith,
     )
 
-sub-size : tie.Need-sub-size Inv-loop μ-loop
-sub-size c = search needs
-
-size-requires : tie.Need-size-requires Inv-loop μ-loop
-size-requires c κs = search needs
-
 mul-cap : tie.Need-mul-cap Inv-loop μ-loop
 mul-cap c = record { fits = small-product (c .before .before .loop .n) (c .size .result) (c .before .before .loop .inv .1) (c .size .ensures .1) }
-
-cap-requires : tie.Need-cap-requires Inv-loop μ-loop
-cap-requires c κs = search needs
-
-sub-enclosing : tie.Need-sub-enclosing Inv-loop μ-loop
-sub-enclosing c = search needs
-
-enclosing-requires-2 : tie.Need-enclosing-requires-2 Inv-loop μ-loop
-enclosing-requires-2 c κs = search needs
-
-loop-less : tie.Need-loop-less Inv-loop μ-loop
-loop-less c = search needs
 
 loop-again : tie.Need-loop-again Inv-loop μ-loop
 loop-again c =
@@ -95,17 +74,5 @@ returns c =
 pub copies-spec : {M : Type 1} → statement M
 copies-spec =
     tie.close
-    (tie.spec
-    Inv-loop
-    μ-loop
-    enclosing-requires
-    loop-holds
-    sub-size
-    size-requires
-    mul-cap
-    cap-requires
-    sub-enclosing
-    enclosing-requires-2
-    loop-less
-    loop-again
-    returns)
+    (tie.spec Inv-loop μ-loop (λ c κs. search needs) loop-holds (λ c. search needs) (λ c κs. search needs) mul-cap (λ c κs. search needs)
+    (λ c. search needs) (λ c κs. search needs) (λ c. search needs) loop-again returns)

@@ -10,9 +10,6 @@ use Rattle.rules.proofs.counted.Tie as tie
 returns : tie.Need-returns
 returns c = λ nm. let s = c .before .before .before .before .args in rw (not-true (s .events) (c .if1 .taken))
 
-code-requires : tie.Need-code-requires
-code-requires c κs = search needs
-
 returns-2 : tie.Need-returns-2
 returns-2 c = λ nm.
     let s = c .before .before .before .before .before .before .args in
@@ -29,12 +26,6 @@ returns-3 c = λ nm.
     let ds = s .depths .now in
     rw (not-false (s .events) (c .before .before .before .if1 .left)) (sym (event-none nm cs ks ds (s .i) (rw (c .before .before .code .ensures) at (c .before .if2 .left)) (rw (c .before .before .code .ensures) at (c .if3 .taken)) (from nm cs ks ds (s .i + 1))))
 
-count-requires : tie.Need-count-requires
-count-requires c κs = search needs
-
-add-if4 : tie.Need-add-if4
-add-if4 c = search needs
-
 returns-4 : tie.Need-returns-4
 returns-4 c = λ nm.
     let s = c .before .before .before .before .before .before .before .before .before .args in
@@ -42,12 +33,6 @@ returns-4 c = λ nm.
     let ks = s .keys .now in
     let ds = s .depths .now in
     rw (not-false (s .events) (c .before .before .before .before .before .if1 .left)) (sym (event-last nm cs ks ds (s .i) (rw (c .before .before .before .before .code .ensures) at (c .before .before .if3 .left)) (c .before .count .result) (c .before .count .ensures .0 nm cs) (c .if4 .taken)))
-
-add-code : tie.Need-add-code
-add-code c = search needs
-
-code-requires-2 : tie.Need-code-requires-2
-code-requires-2 c κs = search needs
 
 returns-5 : tie.Need-returns-5
 returns-5 c = λ nm.
@@ -61,14 +46,5 @@ returns-5 c = λ nm.
 pub counted-spec : {M : Type 1} → statement M
 counted-spec =
     tie.close
-    (tie.spec
-    returns
-    code-requires
-    returns-2
-    returns-3
-    count-requires
-    add-if4
-    returns-4
-    add-code
-    code-requires-2
-    returns-5)
+    (tie.spec returns (λ c κs. search needs) returns-2 returns-3 (λ c κs. search needs) (λ c. search needs) returns-4 (λ c. search needs)
+    (λ c κs. search needs) returns-5)

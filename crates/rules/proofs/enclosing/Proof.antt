@@ -16,23 +16,8 @@ Inv-loop codes keys depths i d₀ j₀ d j = ((nm : ℕ → Name) → nearest (g
 abbrev μ-loop : tie.MeasureT-loop
 μ-loop codes keys depths i d₀ j₀ d j = j
 
-number-requires : tie.Need-number-requires Inv-loop μ-loop
-number-requires c κs = search needs
-
 loop-holds : tie.Need-loop-holds Inv-loop μ-loop
 loop-holds c = (λ nm. rw (c .number .ensures), omega arith)
-
-sub-next : tie.Need-sub-next Inv-loop μ-loop
-sub-next c = search needs
-
-number-requires-2 : tie.Need-number-requires-2 Inv-loop μ-loop
-number-requires-2 c κs = search needs
-
-code-requires : tie.Need-code-requires Inv-loop μ-loop
-code-requires c κs = search needs
-
-within-requires : tie.Need-within-requires Inv-loop μ-loop
-within-requires c κs = search needs
 
 returns : tie.Need-returns Inv-loop μ-loop
 returns c =
@@ -44,9 +29,6 @@ returns c =
     let e = rw (c .before .before .code .ensures) at (sym (c .before .within .ensures) ∙ c .if2 .taken) in
     (λ nm. nearest-here nm cs ks ds (l .j) (c .before .before .before .before .before .loop-test .taken) (l .d) (rw (c .before .before .before .before .number2 .ensures) at (c .before .before .before .if1 .taken)) e ∙ sym (l .inv .0 nm), l .inv .1)
 
-loop-less : tie.Need-loop-less Inv-loop μ-loop
-loop-less c = search needs
-
 loop-again : tie.Need-loop-again Inv-loop μ-loop
 loop-again c =
     let s = c .before .before .before .before .before .before .before .before .before .before .before .args in
@@ -56,9 +38,6 @@ loop-again c =
     let l = c .before .before .before .before .before .before .loop in
     let e = rw (c .before .before .code .ensures) at (sym (c .before .within .ensures) ∙ c .if2 .left) in
     (λ nm. rw (c .before .before .before .before .number2 .ensures) (l .inv .0 nm ∙ nearest-up nm cs ks ds (l .j) (c .before .before .before .before .before .loop-test .taken) (l .d) (rw (c .before .before .before .before .number2 .ensures) at (c .before .before .before .if1 .taken)) e), omega arith)
-
-loop-less-2 : tie.Need-loop-less-2 Inv-loop μ-loop
-loop-less-2 c = search needs
 
 loop-again-2 : tie.Need-loop-again-2 Inv-loop μ-loop
 loop-again-2 c =
@@ -81,18 +60,5 @@ returns-2 c =
 pub enclosing-spec : {M : Type 1} → statement M
 enclosing-spec =
     tie.close
-    (tie.spec
-    Inv-loop
-    μ-loop
-    number-requires
-    loop-holds
-    sub-next
-    number-requires-2
-    code-requires
-    within-requires
-    returns
-    loop-less
-    loop-again
-    loop-less-2
-    loop-again-2
-    returns-2)
+    (tie.spec Inv-loop μ-loop (λ c κs. search needs) loop-holds (λ c. search needs) (λ c κs. search needs) (λ c κs. search needs)
+    (λ c κs. search needs) returns (λ c. search needs) loop-again (λ c. search needs) loop-again-2 returns-2)

@@ -8,26 +8,8 @@ use Rattle.rules.proofs.LawsTokens.{ending-one, ending-two}
 use Rattle.rules.proofs.ending.Statement.{statement}
 use Rattle.rules.proofs.ending.Tie as tie
 
-add-reach : tie.Need-add-reach
-add-reach c = search needs
-
-reach-requires : tie.Need-reach-requires
-reach-requires c κs = search needs
-
-shared-slice-read-c : tie.Need-shared-slice-read-c
-shared-slice-read-c c = search needs
-
-reach-requires-2 : tie.Need-reach-requires-2
-reach-requires-2 c κs = search needs
-
 returns : tie.Need-returns
 returns c = let s = c .before .before .before .before .before .args in c .reach2 .ensures ∙ ending-two (s .codes .now) (s .k) (or-l _ (eq-eqb _ 7 (c .before .if1 .taken))) _ (c .before .before .before .reach .ensures)
-
-within-requires : tie.Need-within-requires
-within-requires c κs = search needs
-
-reach-requires-3 : tie.Need-reach-requires-3
-reach-requires-3 c κs = search needs
 
 returns-2 : tie.Need-returns-2
 returns-2 c = let s = c .before .before .before .before .before .before .before .args in c .reach3 .ensures ∙ ending-two (s .codes .now) (s .k) (or-r (eqb (getD (s .codes .now) (s .k) 0) 7) (sym (c .before .before .within .ensures) ∙ c .before .if2 .taken)) _ (c .before .before .before .before .before .reach .ensures)
@@ -38,13 +20,5 @@ returns-3 c = let s = c .before .before .before .before .before .before .args in
 pub ending-spec : {M : Type 1} → statement M
 ending-spec =
     tie.close
-    (tie.spec
-    add-reach
-    reach-requires
-    shared-slice-read-c
-    reach-requires-2
-    returns
-    within-requires
-    reach-requires-3
-    returns-2
-    returns-3)
+    (tie.spec (λ c. search needs) (λ c κs. search needs) (λ c. search needs) (λ c κs. search needs) returns (λ c κs. search needs)
+    (λ c κs. search needs) returns-2 returns-3)

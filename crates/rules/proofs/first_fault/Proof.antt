@@ -6,7 +6,7 @@ use borrow.Author.Tests.{not-true, not-false}
 use borrow.Author.Needs.{needs}
 use Rattle.rules.specs.declared.Found.the-variants.{At}
 use Rattle.rules.specs.Kept.{fault}
-use Rattle.rules.specs.Heads.{name-in, by-columns}
+use Rattle.rules.specs.TokenNodes.{name-in, by-columns}
 use Rattle.rules.specs.Columns.{earlier, from, rule-of, before}
 use Rattle.rules.proofs.LawsNodes.{fault-end, fault-here, fault-later}
 use Rattle.rules.proofs.first_fault.Statement.{statement}
@@ -18,18 +18,9 @@ Inv-loop text codes starts keys depths marks rule end i₀ i = fault (rule-of ru
 abbrev μ-loop : tie.MeasureT-loop
 μ-loop text codes starts keys depths marks rule end i₀ i = end - i
 
-count-requires : tie.Need-count-requires Inv-loop μ-loop
-count-requires c κs = search needs
-
 loop-holds : tie.Need-loop-holds Inv-loop μ-loop
 unfolding before
 loop-holds c = refl
-
-kept-requires : tie.Need-kept-requires Inv-loop μ-loop
-kept-requires c κs = search needs
-
-number-requires : tie.Need-number-requires Inv-loop μ-loop
-number-requires c κs = search needs
 
 returns : tie.Need-returns Inv-loop μ-loop
 returns c =
@@ -43,12 +34,6 @@ returns c =
     let q = c .before .before .before .before .before .count .ensures .0 nm cs in
     let k = sym (c .before .before .kept .ensures) ∙ not-true _ (c .before .if1 .taken) in
     ap At (c .number .ensures) ∙ sym (l .inv ∙ fault-here nm cs ks ds n q (l .i) (rule-of (s .rule)) (c .before .before .before .loop-test .taken) k)
-
-add-i : tie.Need-add-i Inv-loop μ-loop
-add-i c = search needs
-
-loop-less : tie.Need-loop-less Inv-loop μ-loop
-loop-less c = search needs
 
 loop-again : tie.Need-loop-again Inv-loop μ-loop
 loop-again c =
@@ -78,15 +63,5 @@ returns-2 c =
 pub first-fault-spec : {M : Type 1} → statement M
 first-fault-spec =
     tie.close
-    (tie.spec
-    Inv-loop
-    μ-loop
-    count-requires
-    loop-holds
-    kept-requires
-    number-requires
-    returns
-    add-i
-    loop-less
-    loop-again
-    returns-2)
+    (tie.spec Inv-loop μ-loop (λ c κs. search needs) loop-holds (λ c κs. search needs) (λ c κs. search needs) returns (λ c. search needs)
+    (λ c. search needs) loop-again returns-2)

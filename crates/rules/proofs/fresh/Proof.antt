@@ -5,7 +5,7 @@ use lib.ListN.{getD}
 use borrow.Author.Needs.{needs}
 use Rattle.diagram.specs.Names.{new}
 use Rattle.rules.specs.Kept.{around}
-use Rattle.rules.specs.Heads.{name-in}
+use Rattle.rules.specs.TokenNodes.{name-in}
 use Rattle.rules.specs.Columns.{fresh-at, name-at, earlier}
 use Rattle.rules.proofs.LawsNodes.{around-of, Copying, around-start, copying-start, around-first, around-step, around-end, new-twice, new-other}
 use Rattle.rules.proofs.fresh.Statement.{statement}
@@ -16,12 +16,6 @@ Inv-loop text codes starts keys depths i own j₀ j = (fresh-at text starts code
 
 abbrev μ-loop : tie.MeasureT-loop
 μ-loop text codes starts keys depths i own j₀ j = j
-
-name-requires : tie.Need-name-requires Inv-loop μ-loop
-name-requires c κs = search needs
-
-enclosing-requires : tie.Need-enclosing-requires Inv-loop μ-loop
-enclosing-requires c κs = search needs
 
 loop-holds : tie.Need-loop-holds Inv-loop μ-loop
 loop-holds c =
@@ -36,15 +30,6 @@ loop-holds c =
     let e = c .enclosing .ensures .0 nm in
     (ap (new (nm (getD ks (s .i) 0 + 2))) (around-start d hs l e), copying-start d hs l e)
 
-sub-name : tie.Need-sub-name Inv-loop μ-loop
-sub-name c = search needs
-
-name-requires-2 : tie.Need-name-requires-2 Inv-loop μ-loop
-name-requires-2 c κs = search needs
-
-same-requires : tie.Need-same-requires Inv-loop μ-loop
-same-requires c κs = search needs
-
 returns : tie.Need-returns Inv-loop μ-loop
 returns c =
     let s = c .before .before .before .before .before .before .before .before .before .before .before .before .args in
@@ -57,15 +42,6 @@ returns c =
     let m = nm (getD ks (s .i) 0 + 2) in
     let f = rw (c .before .before .before .before .before .before .name .ensures, c .before .before .name2 .ensures) at (sym (c .before .same .ensures) ∙ c .if1 .taken) in
     sym (l .inv .0 ∙ ap (new m) (around-first nm cs ks ds (l .j) (c .before .before .before .loop-test .taken) (l .inv .1)) ∙ new-twice m n (around (getD ds (l .j - 1) 0) (earlier nm cs ks ds (l .j - 1))) f)
-
-sub-enclosing : tie.Need-sub-enclosing Inv-loop μ-loop
-sub-enclosing c = search needs
-
-enclosing-requires-2 : tie.Need-enclosing-requires-2 Inv-loop μ-loop
-enclosing-requires-2 c κs = search needs
-
-loop-less : tie.Need-loop-less Inv-loop μ-loop
-loop-less c = search needs
 
 loop-again : tie.Need-loop-again Inv-loop μ-loop
 loop-again c =
@@ -96,18 +72,5 @@ returns-2 c =
 pub fresh-spec : {M : Type 1} → statement M
 fresh-spec =
     tie.close
-    (tie.spec
-    Inv-loop
-    μ-loop
-    name-requires
-    enclosing-requires
-    loop-holds
-    sub-name
-    name-requires-2
-    same-requires
-    returns
-    sub-enclosing
-    enclosing-requires-2
-    loop-less
-    loop-again
-    returns-2)
+    (tie.spec Inv-loop μ-loop (λ c κs. search needs) (λ c κs. search needs) loop-holds (λ c. search needs) (λ c κs. search needs)
+    (λ c κs. search needs) returns (λ c. search needs) (λ c κs. search needs) (λ c. search needs) loop-again returns-2)

@@ -9,7 +9,7 @@ use borrow.Author.Tests.{not-true, not-false}
 use borrow.Author.Needs.{needs}
 use Rattle.diagram.specs.Names.{equal, same}
 use Rattle.rules.specs.Kept.{around}
-use Rattle.rules.specs.Heads.{name-in, pars-back}
+use Rattle.rules.specs.TokenNodes.{name-in, pars-back}
 use Rattle.rules.specs.Columns.{listed-at, earlier}
 use Rattle.rules.proofs.LawsNodes.{around-of, Copying, around-start, copying-start, around-first, around-step, around-end, listed-end, listed-none, listed-more}
 use Rattle.rules.proofs.listed.Statement.{statement}
@@ -20,15 +20,6 @@ Inv-loop text codes starts keys depths i k m₀ j₀ m j = (listed-at text start
 
 abbrev μ-loop : tie.MeasureT-loop
 μ-loop text codes starts keys depths i k m₀ j₀ m j = j
-
-number-requires : tie.Need-number-requires Inv-loop μ-loop
-number-requires c κs = search needs
-
-pars-requires : tie.Need-pars-requires Inv-loop μ-loop
-pars-requires c κs = search needs
-
-enclosing-requires : tie.Need-enclosing-requires Inv-loop μ-loop
-enclosing-requires c κs = search needs
 
 loop-holds : tie.Need-loop-holds Inv-loop μ-loop
 loop-holds c =
@@ -56,27 +47,6 @@ returns c =
     let e = around-first nm cs ks ds (l .j) (c .before .loop-test .taken) (l .inv .1) in
     sym (l .inv .0 ∙ ap (equal same (pars-back nm k (l .m))) e ∙ listed-none nm k (l .m) (nm (getD ks (l .j - 1) 0 + 2)) (around (getD ds (l .j - 1) 0) (earlier nm cs ks ds (l .j - 1))) (c .if1 .taken))
 
-sub-m : tie.Need-sub-m Inv-loop μ-loop
-sub-m c = search needs
-
-add-place : tie.Need-add-place Inv-loop μ-loop
-add-place c = search needs
-
-add-place-2 : tie.Need-add-place-2 Inv-loop μ-loop
-add-place-2 c = search needs
-
-place-requires : tie.Need-place-requires Inv-loop μ-loop
-place-requires c κs = search needs
-
-sub-name : tie.Need-sub-name Inv-loop μ-loop
-sub-name c = search needs
-
-name-requires : tie.Need-name-requires Inv-loop μ-loop
-name-requires c κs = search needs
-
-same-requires : tie.Need-same-requires Inv-loop μ-loop
-same-requires c κs = search needs
-
 returns-2 : tie.Need-returns-2 Inv-loop μ-loop
 returns-2 c =
     let s = c .before .before .before .before .before .before .before .before .before .before .before .before .before .before .before .args in
@@ -93,15 +63,6 @@ returns-2 c =
     let ns = around (getD ds (l .j - 1) 0) (earlier nm cs ks ds (l .j - 1)) in
     let e = around-first nm cs ks ds (l .j) (c .before .before .before .before .before .loop-test .taken) (l .inv .1) in
     sym (l .inv .0 ∙ ap (equal same (pars-back nm (k + 4) (l .m))) e ∙ listed-more nm (k + 4) (l .m) n ns (omega arith) ∙ ap (λ b. b && equal same (pars-back nm (k + 4) (l .m - 1)) ns) f)
-
-sub-enclosing : tie.Need-sub-enclosing Inv-loop μ-loop
-sub-enclosing c = search needs
-
-enclosing-requires-2 : tie.Need-enclosing-requires-2 Inv-loop μ-loop
-enclosing-requires-2 c κs = search needs
-
-loop-less : tie.Need-loop-less Inv-loop μ-loop
-loop-less c = search needs
 
 loop-again : tie.Need-loop-again Inv-loop μ-loop
 loop-again c =
@@ -141,24 +102,6 @@ returns-3 c =
 pub listed-spec : {M : Type 1} → statement M
 listed-spec =
     tie.close
-    (tie.spec
-    Inv-loop
-    μ-loop
-    number-requires
-    pars-requires
-    enclosing-requires
-    loop-holds
-    returns
-    sub-m
-    add-place
-    add-place-2
-    place-requires
-    sub-name
-    name-requires
-    same-requires
-    returns-2
-    sub-enclosing
-    enclosing-requires-2
-    loop-less
-    loop-again
-    returns-3)
+    (tie.spec Inv-loop μ-loop (λ c κs. search needs) (λ c κs. search needs) (λ c κs. search needs) loop-holds returns (λ c. search needs)
+    (λ c. search needs) (λ c. search needs) (λ c κs. search needs) (λ c. search needs) (λ c κs. search needs) (λ c κs. search needs)
+    returns-2 (λ c. search needs) (λ c κs. search needs) (λ c. search needs) loop-again returns-3)

@@ -19,29 +19,8 @@ abbrev μ-loop : tie.MeasureT-loop
 loop-holds : tie.Need-loop-holds Inv-loop μ-loop
 loop-holds c = (refl, λ k h. let z : ⊥ = omega arith in absurd z)
 
-same-length : tie.Need-same-length Inv-loop μ-loop
-same-length c = search needs
-
 returns : tie.Need-returns Inv-loop μ-loop
 returns c = λ k inside room. c .before .before .loop .inv .1 k (omega arith) room
-
-name-requires : tie.Need-name-requires Inv-loop μ-loop
-name-requires c κs = search needs
-
-mark-requires : tie.Need-mark-requires Inv-loop μ-loop
-mark-requires c κs = search needs
-
-mul-marks : tie.Need-mul-marks Inv-loop μ-loop
-mul-marks c = search needs
-
-slice-write-marks : tie.Need-slice-write-marks Inv-loop μ-loop
-slice-write-marks c = search needs
-
-add-k : tie.Need-add-k Inv-loop μ-loop
-add-k c = search needs
-
-loop-less : tie.Need-loop-less Inv-loop μ-loop
-loop-less c = search needs
 
 loop-again : tie.Need-loop-again Inv-loop μ-loop
 loop-again c =
@@ -49,27 +28,11 @@ loop-again c =
     let l = c .before .before .before .before .loop in
     (length-set (l .marks) (l .k) _ ∙ l .inv .0, written-more (s .text .now) (s .starts .now) (s .keys .now) (l .marks) (l .k) (l .inv .1) _ (c .before .before .if1 .left) (c .mark .ensures ∙ ap (λ at. mark-of (word-at (s .text .now) at)) (c .before .name .ensures)))
 
-same-length-2 : tie.Need-same-length-2 Inv-loop μ-loop
-same-length-2 c = search needs
-
 returns-2 : tie.Need-returns-2 Inv-loop μ-loop
 returns-2 c = λ k inside room. c .before .loop .inv .1 k (omega arith) room
 
 pub mark-names-spec : {M : Type 1} → statement M
 mark-names-spec =
     tie.close
-    (tie.spec
-    Inv-loop
-    μ-loop
-    loop-holds
-    same-length
-    returns
-    name-requires
-    mark-requires
-    mul-marks
-    slice-write-marks
-    add-k
-    loop-less
-    loop-again
-    same-length-2
-    returns-2)
+    (tie.spec Inv-loop μ-loop loop-holds (λ c. search needs) returns (λ c κs. search needs) (λ c κs. search needs) (λ c. search needs)
+    (λ c. search needs) (λ c. search needs) (λ c. search needs) loop-again (λ c. search needs) returns-2)

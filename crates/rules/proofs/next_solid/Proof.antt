@@ -15,14 +15,8 @@ Inv-loop codes keys depths d i end j₀ j = (nm : ℕ → Name) → next-solid d
 abbrev μ-loop : tie.MeasureT-loop
 μ-loop codes keys depths d i end j₀ j = end - j
 
-count-requires : tie.Need-count-requires Inv-loop μ-loop
-count-requires c κs = search needs
-
 loop-holds : tie.Need-loop-holds Inv-loop μ-loop
 loop-holds c = λ nm. refl
-
-number-requires : tie.Need-number-requires Inv-loop μ-loop
-number-requires c κs = search needs
 
 returns : tie.Need-returns Inv-loop μ-loop
 returns c = λ nm.
@@ -35,12 +29,6 @@ returns c = λ nm.
     let q = c .before .before .before .before .count .ensures .0 nm cs in
     from-past nm cs ks ds n q n (le-refl n) ∙ sym (l .inv nm ∙ solid-over nm cs ks ds n q (l .j) (s .d) (c .before .before .loop-test .taken) (rw (c .before .number .ensures) at (c .if1 .taken)))
 
-number-requires-2 : tie.Need-number-requires-2 Inv-loop μ-loop
-number-requires-2 c κs = search needs
-
-solid-child-requires : tie.Need-solid-child-requires Inv-loop μ-loop
-solid-child-requires c κs = search needs
-
 returns-2 : tie.Need-returns-2 Inv-loop μ-loop
 returns-2 c = λ nm.
     let s = c .before .before .before .before .before .before .before .before .before .before .before .args in
@@ -51,12 +39,6 @@ returns-2 c = λ nm.
     let n = c .before .before .before .before .before .before .before .count .result in
     let q = c .before .before .before .before .before .before .before .count .ensures .0 nm cs in
     sym (l .inv nm ∙ solid-here nm cs ks ds n q (l .j) (s .d) (c .before .before .before .before .before .loop-test .taken) (rw (c .before .before .before .before .number .ensures) at (c .before .before .before .if1 .left)) (rw (c .before .before .before .before .number .ensures, c .before .before .number2 .ensures) at (sym (c .before .solid-child .ensures) ∙ c .if2 .taken)))
-
-add-j : tie.Need-add-j Inv-loop μ-loop
-add-j c = search needs
-
-loop-less : tie.Need-loop-less Inv-loop μ-loop
-loop-less c = search needs
 
 loop-again : tie.Need-loop-again Inv-loop μ-loop
 loop-again c = λ nm.
@@ -83,17 +65,5 @@ returns-3 c = λ nm.
 pub next-solid-spec : {M : Type 1} → statement M
 next-solid-spec =
     tie.close
-    (tie.spec
-    Inv-loop
-    μ-loop
-    count-requires
-    loop-holds
-    number-requires
-    returns
-    number-requires-2
-    solid-child-requires
-    returns-2
-    add-j
-    loop-less
-    loop-again
-    returns-3)
+    (tie.spec Inv-loop μ-loop (λ c κs. search needs) loop-holds (λ c κs. search needs) returns (λ c κs. search needs) (λ c κs. search needs)
+    returns-2 (λ c. search needs) (λ c. search needs) loop-again returns-3)

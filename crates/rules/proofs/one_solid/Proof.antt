@@ -6,18 +6,6 @@ use Rattle.rules.proofs.LawsNodes.{solids-none, solids-two, solids-one}
 use Rattle.rules.proofs.one_solid.Statement.{statement}
 use Rattle.rules.proofs.one_solid.Tie as tie
 
-number-requires : tie.Need-number-requires
-number-requires c κs = search needs
-
-count-requires : tie.Need-count-requires
-count-requires c κs = search needs
-
-add-next-solid : tie.Need-add-next-solid
-add-next-solid c = search needs
-
-next-solid-requires : tie.Need-next-solid-requires
-next-solid-requires c κs = search needs
-
 returns : tie.Need-returns
 returns c = λ nm.
     let s = c .before .before .before .before .before .before .before .args in
@@ -30,12 +18,6 @@ returns c = λ nm.
     let f = c .before .next-solid .result in
     let e = rw (c .before .before .before .number .ensures) at (c .before .next-solid .ensures nm) in
     sym (solids-none nm cs ks ds n q d (s .i + 1) f e (c .if1 .taken))
-
-add-next-solid-2 : tie.Need-add-next-solid-2
-add-next-solid-2 c = search needs
-
-next-solid-requires-2 : tie.Need-next-solid-requires-2
-next-solid-requires-2 c κs = search needs
 
 returns-2 : tie.Need-returns-2
 returns-2 c = λ nm.
@@ -51,12 +33,6 @@ returns-2 c = λ nm.
     let e = rw (c .before .before .before .before .before .number .ensures) at (c .before .before .before .next-solid .ensures nm) in
     let r = rw (c .before .before .before .before .before .number .ensures) at (c .before .next-solid2 .ensures nm) in
     sym (solids-two nm cs ks ds n q d (s .i + 1) f e (c .before .before .if1 .left) g r (c .if2 .taken))
-
-code-requires : tie.Need-code-requires
-code-requires c κs = search needs
-
-may-be-requires : tie.Need-may-be-requires
-may-be-requires c κs = search needs
 
 returns-3 : tie.Need-returns-3
 returns-3 c = λ nm.
@@ -76,15 +52,5 @@ returns-3 c = λ nm.
 pub one-solid-spec : {M : Type 1} → statement M
 one-solid-spec =
     tie.close
-    (tie.spec
-    number-requires
-    count-requires
-    add-next-solid
-    next-solid-requires
-    returns
-    add-next-solid-2
-    next-solid-requires-2
-    returns-2
-    code-requires
-    may-be-requires
-    returns-3)
+    (tie.spec (λ c κs. search needs) (λ c κs. search needs) (λ c. search needs) (λ c κs. search needs) returns (λ c. search needs)
+    (λ c κs. search needs) returns-2 (λ c κs. search needs) (λ c κs. search needs) returns-3)

@@ -5,9 +5,6 @@ use borrow.Author.Needs.{needs}
 use Rattle.rules.proofs.opened.Statement.{statement}
 use Rattle.rules.proofs.opened.Tie as tie
 
-add-result : tie.Need-add-result
-add-result c = search needs
-
 returns : tie.Need-returns
 returns c = simp (eq-eqb _ _ (c .if1 .taken)) (add-one _)
 
@@ -17,11 +14,8 @@ returns-2 c = simp (ne-eqb _ _ (c .before .if1 .left), ne-eqb _ _ (c .if2 .taken
 returns-3 : tie.Need-returns-3
 returns-3 c = simp (ne-eqb _ _ (c .before .before .if1 .left), eq-eqb _ _ (c .before .if2 .left)) (omega arith)
 
-sub-result : tie.Need-sub-result
-sub-result c = search needs
-
 returns-4 : tie.Need-returns-4
 returns-4 c = simp (ne-eqb _ _ (c .before .before .if1 .left), eq-eqb _ _ (c .before .if2 .left))
 
 pub opened-spec : {M : Type 1} → statement M
-opened-spec = tie.close (tie.spec add-result returns returns-2 returns-3 sub-result returns-4)
+opened-spec = tie.close (tie.spec (λ c. search needs) returns returns-2 returns-3 (λ c. search needs) returns-4)

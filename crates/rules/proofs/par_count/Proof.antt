@@ -4,7 +4,7 @@ use Prim.Native.Nat.{_+_, _-_, _≤_}
 use native.Mathlib.Omega.{arith}
 use lib.ListN.{length, drop}
 use borrow.Author.Needs.{needs}
-use Rattle.rules.specs.Heads.{par-count}
+use Rattle.rules.specs.TokenNodes.{par-count}
 use Rattle.rules.proofs.LawsTokens.{pars-end, pars-stop, pars-more}
 use Rattle.rules.proofs.par_count.Statement.{statement}
 use Rattle.rules.proofs.par_count.Tie as tie
@@ -18,29 +18,11 @@ abbrev μ-loop : tie.MeasureT-loop
 loop-holds : tie.Need-loop-holds Inv-loop μ-loop
 loop-holds c = (omega arith, omega arith, omega arith)
 
-sub-if1 : tie.Need-sub-if1 Inv-loop μ-loop
-sub-if1 c = search needs
-
 returns : tie.Need-returns Inv-loop μ-loop
 returns c = let l = c .before .before .loop in (omega (arith, pars-end (c .before .before .before .args .codes .now) (l .i) (omega arith)), omega arith)
 
-add-if2 : tie.Need-add-if2 Inv-loop μ-loop
-add-if2 c = search needs
-
-shared-slice-read-if2 : tie.Need-shared-slice-read-if2 Inv-loop μ-loop
-shared-slice-read-if2 c = search needs
-
 returns-2 : tie.Need-returns-2 Inv-loop μ-loop
 returns-2 c = let l = c .before .before .before .before .loop in (omega (arith, pars-stop (c .before .before .before .before .before .args .codes .now) (l .i) (omega arith) (c .if2 .taken)), omega arith)
-
-add-n : tie.Need-add-n Inv-loop μ-loop
-add-n c = search needs
-
-add-i : tie.Need-add-i Inv-loop μ-loop
-add-i c = search needs
-
-loop-less : tie.Need-loop-less Inv-loop μ-loop
-loop-less c = search needs
 
 loop-again : tie.Need-loop-again Inv-loop μ-loop
 loop-again c = let l = c .before .before .before .before .loop in (omega arith, omega arith, omega (arith, pars-more (c .before .before .before .before .before .args .codes .now) (l .i) (omega arith) (c .if2 .left)))
@@ -51,17 +33,5 @@ returns-3 c = let l = c .before .loop in (omega (arith, pars-end (c .before .bef
 pub par-count-spec : {M : Type 1} → statement M
 par-count-spec =
     tie.close
-    (tie.spec
-    Inv-loop
-    μ-loop
-    loop-holds
-    sub-if1
-    returns
-    add-if2
-    shared-slice-read-if2
-    returns-2
-    add-n
-    add-i
-    loop-less
-    loop-again
-    returns-3)
+    (tie.spec Inv-loop μ-loop loop-holds (λ c. search needs) returns (λ c. search needs) (λ c. search needs) returns-2 (λ c. search needs)
+    (λ c. search needs) (λ c. search needs) loop-again returns-3)

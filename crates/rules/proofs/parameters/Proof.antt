@@ -1,13 +1,10 @@
 use mathlib.Core.Path.{sym, _∙_}
 use native.Mathlib.Omega.{arith}
 use borrow.Author.Needs.{needs}
-use Rattle.rules.specs.Heads.{name-in}
+use Rattle.rules.specs.TokenNodes.{name-in}
 use Rattle.rules.proofs.LawsRules.{parameters-many, parameters-copying, parameters-flow, parameters-other}
 use Rattle.rules.proofs.parameters.Statement.{statement}
 use Rattle.rules.proofs.parameters.Tie as tie
-
-surrounding-requires : tie.Need-surrounding-requires
-surrounding-requires c κs = search needs
 
 returns : tie.Need-returns
 returns c =
@@ -19,15 +16,6 @@ returns c =
     let h = rw (c .before .surrounding .ensures nm) at (c .if1 .taken) in
     sym (parameters-many nm cs ks ds (s .i) (omega arith))
 
-code-requires : tie.Need-code-requires
-code-requires c κs = search needs
-
-within-requires : tie.Need-within-requires
-within-requires c κs = search needs
-
-fresh-requires : tie.Need-fresh-requires
-fresh-requires c κs = search needs
-
 returns-2 : tie.Need-returns-2
 returns-2 c =
     let s = c .before .before .before .before .before .before .before .before .before .before .before .args in
@@ -37,9 +25,6 @@ returns-2 c =
     let nm = name-in (s .text .now) (s .starts .now) in
     let few = rw (c .before .before .before .before .before .surrounding .ensures nm) at (c .before .before .before .before .if1 .left) in
     c .fresh .ensures ∙ sym (parameters-copying nm cs ks ds (s .i) few (rw (c .before .before .before .code .ensures) at (sym (c .before .before .within .ensures) ∙ c .before .if2 .taken)))
-
-listed-requires : tie.Need-listed-requires
-listed-requires c κs = search needs
 
 returns-3 : tie.Need-returns-3
 returns-3 c =
@@ -64,13 +49,5 @@ returns-4 c =
 pub parameters-spec : {M : Type 1} → statement M
 parameters-spec =
     tie.close
-    (tie.spec
-    surrounding-requires
-    returns
-    code-requires
-    within-requires
-    fresh-requires
-    returns-2
-    listed-requires
-    returns-3
-    returns-4)
+    (tie.spec (λ c κs. search needs) returns (λ c κs. search needs) (λ c κs. search needs) (λ c κs. search needs) returns-2
+    (λ c κs. search needs) returns-3 returns-4)

@@ -8,21 +8,12 @@ use Rattle.rules.proofs.pars.Tie as tie
 returns : tie.Need-returns
 returns c = let s = c .before .before .args in (pars-none (s .codes .now) (s .k) (omega arith), omega arith)
 
-sub-if2 : tie.Need-sub-if2
-sub-if2 c = search needs
-
 returns-2 : tie.Need-returns-2
 returns-2 c = let s = c .before .before .before .args in (pars-none (s .codes .now) (s .k) (omega arith), omega arith)
-
-add-par-count : tie.Need-add-par-count
-add-par-count c = search needs
-
-par-count-requires : tie.Need-par-count-requires
-par-count-requires c κs = search needs
 
 returns-3 : tie.Need-returns-3
 returns-3 c = let s = c .before .before .before .before .args in (rw (drop-drop 3 (s .k) (s .codes .now)) (c .par-count .ensures .0), omega arith)
 
 pub pars-spec : {M : Type 1} → statement M
 pars-spec =
-    tie.close (tie.spec returns sub-if2 returns-2 add-par-count par-count-requires returns-3)
+    tie.close (tie.spec returns (λ c. search needs) returns-2 (λ c. search needs) (λ c κs. search needs) returns-3)

@@ -4,7 +4,7 @@ use Prim.Native.Nat.{_+_, _-_, _≤_}
 use native.Mathlib.Omega.{arith}
 use lib.ListN.{length, drop}
 use borrow.Author.Needs.{needs}
-use Rattle.rules.specs.Heads.{reach}
+use Rattle.rules.specs.TokenNodes.{reach}
 use Rattle.rules.proofs.LawsTokens.{reach-end, reach-open, reach-close, reach-last, reach-other}
 use Rattle.rules.proofs.reach.Statement.{statement}
 use Rattle.rules.proofs.reach.Tie as tie
@@ -18,35 +18,14 @@ abbrev μ-loop : tie.MeasureT-loop
 loop-holds : tie.Need-loop-holds Inv-loop μ-loop
 loop-holds c = (omega arith, refl)
 
-shared-slice-read-c : tie.Need-shared-slice-read-c Inv-loop μ-loop
-shared-slice-read-c c = search needs
-
-add-i : tie.Need-add-i Inv-loop μ-loop
-add-i c = search needs
-
-add-l : tie.Need-add-l Inv-loop μ-loop
-add-l c = search needs
-
-loop-less : tie.Need-loop-less Inv-loop μ-loop
-loop-less c = search needs
-
 loop-again : tie.Need-loop-again Inv-loop μ-loop
 loop-again c = let l = c .before .before .before .loop in (omega arith, sym (reach-open _ (l .i) (l .l) (c .before .before .loop-test .taken) (c .if1 .taken)) ∙ l .inv .1)
 
 returns : tie.Need-returns Inv-loop μ-loop
 returns c = let l = c .before .before .before .before .before .loop in (sym (reach-last _ (l .i) (l .l) (c .before .before .before .before .loop-test .taken) (c .before .if2 .taken) (c .if3 .taken)) ∙ l .inv .1)
 
-sub-l : tie.Need-sub-l Inv-loop μ-loop
-sub-l c = search needs
-
-loop-less-2 : tie.Need-loop-less-2 Inv-loop μ-loop
-loop-less-2 c = search needs
-
 loop-again-2 : tie.Need-loop-again-2 Inv-loop μ-loop
 loop-again-2 c = let l = c .before .before .before .before .before .loop in (omega arith, sym (reach-close _ (l .i) (l .l) (c .before .before .before .before .loop-test .taken) (c .before .if2 .taken) (c .if3 .left)) ∙ l .inv .1)
-
-loop-less-3 : tie.Need-loop-less-3 Inv-loop μ-loop
-loop-less-3 c = search needs
 
 loop-again-3 : tie.Need-loop-again-3 Inv-loop μ-loop
 loop-again-3 c = let l = c .before .before .before .before .loop in (omega arith, sym (reach-other _ (l .i) (l .l) (c .before .before .before .loop-test .taken) (c .before .if1 .left) (c .if2 .left)) ∙ l .inv .1)
@@ -57,19 +36,5 @@ returns-2 c = let l = c .before .loop in sym (reach-end _ (l .i) (l .l) (c .loop
 pub reach-spec : {M : Type 1} → statement M
 reach-spec =
     tie.close
-    (tie.spec
-    Inv-loop
-    μ-loop
-    loop-holds
-    shared-slice-read-c
-    add-i
-    add-l
-    loop-less
-    loop-again
-    returns
-    sub-l
-    loop-less-2
-    loop-again-2
-    loop-less-3
-    loop-again-3
-    returns-2)
+    (tie.spec Inv-loop μ-loop loop-holds (λ c. search needs) (λ c. search needs) (λ c. search needs) (λ c. search needs) loop-again returns
+    (λ c. search needs) (λ c. search needs) loop-again-2 (λ c. search needs) loop-again-3 returns-2)

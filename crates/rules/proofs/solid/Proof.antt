@@ -7,17 +7,8 @@ use Rattle.rules.proofs.solid.Tie as tie
 returns : tie.Need-returns
 returns c = solid-none _ _ (c .if1 .taken)
 
-ending-requires : tie.Need-ending-requires
-ending-requires c κs = search needs
-
-token-requires : tie.Need-token-requires
-token-requires c κs = search needs
-
 returns-2 : tie.Need-returns-2
 returns-2 c = let s = c .before .before .before .before .before .args in rw (solid-at (s .codes .now) (s .k) _ (c .before .before .ending .ensures), ← c .before .token .ensures, ne-eqb _ 1 (c .if2 .taken))
-
-token-requires-2 : tie.Need-token-requires-2
-token-requires-2 c κs = search needs
 
 returns-3 : tie.Need-returns-3
 returns-3 c = let s = c .before .before .before .before .before .before .args in rw (solid-at (s .codes .now) (s .k) _ (c .before .before .before .ending .ensures), ← c .before .before .token .ensures, ← c .token2 .ensures, eq-eqb _ 1 (c .before .if2 .left))
@@ -25,4 +16,4 @@ returns-3 c = let s = c .before .before .before .before .before .before .args in
 pub solid-spec : {M : Type 1} → statement M
 solid-spec =
     tie.close
-    (tie.spec returns ending-requires token-requires returns-2 token-requires-2 returns-3)
+    (tie.spec returns (λ c κs. search needs) (λ c κs. search needs) returns-2 (λ c κs. search needs) returns-3)

@@ -5,17 +5,11 @@ use borrow.Author.Needs.{needs}
 use Rattle.rules.proofs.solid_child.Statement.{statement}
 use Rattle.rules.proofs.solid_child.Tie as tie
 
-sub-if1 : tie.Need-sub-if1
-sub-if1 c = search needs
-
 returns : tie.Need-returns
 returns c = let s = c .before .before .args in rw (ne-eqb (s .e) (suc (s .d)) (λ q. c .if1 .taken (omega arith)))
-
-solid-requires : tie.Need-solid-requires
-solid-requires c κs = search needs
 
 returns-2 : tie.Need-returns-2
 returns-2 c = let s = c .before .before .before .args in rw (eq-eqb (s .e) (suc (s .d)) (omega arith)) (c .solid .ensures)
 
 pub solid-child-spec : {M : Type 1} → statement M
-solid-child-spec = tie.close (tie.spec sub-if1 returns solid-requires returns-2)
+solid-child-spec = tie.close (tie.spec (λ c. search needs) returns (λ c κs. search needs) returns-2)

@@ -16,9 +16,6 @@ Inv-loop codes keys depths i n₀ j₀ n j = ((nm : ℕ → Name) → (n + lengt
 abbrev μ-loop : tie.MeasureT-loop
 μ-loop codes keys depths i n₀ j₀ n j = j
 
-enclosing-requires : tie.Need-enclosing-requires Inv-loop μ-loop
-enclosing-requires c κs = search needs
-
 loop-holds : tie.Need-loop-holds Inv-loop μ-loop
 loop-holds c =
     let s = c .before .before .before .before .args in
@@ -28,18 +25,6 @@ loop-holds c =
     let d = getD ds (s .i) 0 in
     let e = c .enclosing .ensures .0 in
     (λ nm. (omega (arith, ap length (around-start d (earlier nm cs ks ds (s .i)) _ (e nm))), copying-start d (earlier nm cs ks ds (s .i)) _ (e nm)), omega arith)
-
-add-n : tie.Need-add-n Inv-loop μ-loop
-add-n c = search needs
-
-sub-enclosing : tie.Need-sub-enclosing Inv-loop μ-loop
-sub-enclosing c = search needs
-
-enclosing-requires-2 : tie.Need-enclosing-requires-2 Inv-loop μ-loop
-enclosing-requires-2 c κs = search needs
-
-loop-less : tie.Need-loop-less Inv-loop μ-loop
-loop-less c = search needs
 
 loop-again : tie.Need-loop-again Inv-loop μ-loop
 loop-again c =
@@ -69,14 +54,5 @@ returns c = λ nm.
 pub surrounding-spec : {M : Type 1} → statement M
 surrounding-spec =
     tie.close
-    (tie.spec
-    Inv-loop
-    μ-loop
-    enclosing-requires
-    loop-holds
-    add-n
-    sub-enclosing
-    enclosing-requires-2
-    loop-less
-    loop-again
-    returns)
+    (tie.spec Inv-loop μ-loop (λ c κs. search needs) loop-holds (λ c. search needs) (λ c. search needs) (λ c κs. search needs)
+    (λ c. search needs) loop-again returns)

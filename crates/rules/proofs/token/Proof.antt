@@ -8,21 +8,9 @@ use Rattle.rules.proofs.token.Tie as tie
 returns : tie.Need-returns
 returns c = let s = c .before .args in past-end (s .codes .now) (s .k + s .on) (omega arith)
 
-sub-if2 : tie.Need-sub-if2
-sub-if2 c = search needs
-
 returns-2 : tie.Need-returns-2
 returns-2 c = let s = c .before .before .args in past-end (s .codes .now) (s .k + s .on) (omega arith)
 
-add-result : tie.Need-add-result
-add-result c = search needs
-
-shared-slice-read-result : tie.Need-shared-slice-read-result
-shared-slice-read-result c = search needs
-
-returns-3 : tie.Need-returns-3
-returns-3 c = search needs
-
 pub token-spec : {M : Type 1} → statement M
 token-spec =
-    tie.close (tie.spec returns sub-if2 returns-2 add-result shared-slice-read-result returns-3)
+    tie.close (tie.spec returns (λ c. search needs) returns-2 (λ c. search needs) (λ c. search needs) (λ c. search needs))

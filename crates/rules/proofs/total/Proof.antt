@@ -7,7 +7,7 @@ use native.Mathlib.Omega.{arith}
 use lib.ListN.{getD}
 use borrow.Author.Needs.{needs}
 use Rattle.diagram.specs.Tree.{Name}
-use Rattle.rules.specs.Heads.{by-columns}
+use Rattle.rules.specs.TokenNodes.{by-columns}
 use Rattle.rules.specs.Counted.{total, capped, times}
 use Rattle.rules.specs.Columns.{earlier, from, counting, before}
 use Rattle.rules.proofs.LawsCounted.{capped-self, sum-step, total-end, total-more, total-same}
@@ -20,30 +20,9 @@ Inv-loop codes keys depths events end n₀ i₀ n i = ((nm : ℕ → Name) → c
 abbrev μ-loop : tie.MeasureT-loop
 μ-loop codes keys depths events end n₀ i₀ n i = end - i
 
-count-requires : tie.Need-count-requires Inv-loop μ-loop
-count-requires c κs = search needs
-
 loop-holds : tie.Need-loop-holds Inv-loop μ-loop
 unfolding before
 loop-holds c = (λ nm. rw (zero-add (total (counting (c .before .before .before .before .args .events)) [] (by-columns nm (c .before .before .before .before .args .codes .now) (c .before .before .before .before .args .keys .now) (c .before .before .before .before .args .depths .now)))), omega arith)
-
-add-i : tie.Need-add-i Inv-loop μ-loop
-add-i c = search needs
-
-counted-requires : tie.Need-counted-requires Inv-loop μ-loop
-counted-requires c κs = search needs
-
-copies-requires : tie.Need-copies-requires Inv-loop μ-loop
-copies-requires c κs = search needs
-
-add-cap : tie.Need-add-cap Inv-loop μ-loop
-add-cap c = search needs
-
-cap-requires : tie.Need-cap-requires Inv-loop μ-loop
-cap-requires c κs = search needs
-
-loop-less : tie.Need-loop-less Inv-loop μ-loop
-loop-less c = search needs
 
 loop-again : tie.Need-loop-again Inv-loop μ-loop
 loop-again c =
@@ -64,9 +43,6 @@ loop-again c =
           ∙ l .inv .0 nm,
       c .cap .ensures .1,
     )
-
-loop-less-2 : tie.Need-loop-less-2 Inv-loop μ-loop
-loop-less-2 c = search needs
 
 loop-again-2 : tie.Need-loop-again-2 Inv-loop μ-loop
 loop-again-2 c =
@@ -101,18 +77,5 @@ returns c = λ nm.
 pub total-spec : {M : Type 1} → statement M
 total-spec =
     tie.close
-    (tie.spec
-    Inv-loop
-    μ-loop
-    count-requires
-    loop-holds
-    add-i
-    counted-requires
-    copies-requires
-    add-cap
-    cap-requires
-    loop-less
-    loop-again
-    loop-less-2
-    loop-again-2
-    returns)
+    (tie.spec Inv-loop μ-loop (λ c κs. search needs) loop-holds (λ c. search needs) (λ c κs. search needs) (λ c κs. search needs)
+    (λ c. search needs) (λ c κs. search needs) (λ c. search needs) loop-again (λ c. search needs) loop-again-2 returns)

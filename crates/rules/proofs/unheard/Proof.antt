@@ -6,7 +6,7 @@ use native.Mathlib.Omega.{arith}
 use lib.ListN.{getD}
 use borrow.Author.Tests.{not-false}
 use borrow.Author.Needs.{needs}
-use Rattle.rules.specs.Heads.{name-in}
+use Rattle.rules.specs.TokenNodes.{name-in}
 use Rattle.rules.specs.Kept.{unheard}
 use Rattle.rules.specs.Columns.{name-at, earlier}
 use Rattle.rules.proofs.LawsNodes.{unheard-none, unheard-other, unheard-twice, unheard-end, titled-code}
@@ -20,29 +20,8 @@ Inv-loop text codes starts keys marks i own j₀ j = (j ≤ i) × ((ds : List �
 abbrev μ-loop : tie.MeasureT-loop
 μ-loop text codes starts keys marks i own j₀ j = j
 
-name-requires : tie.Need-name-requires Inv-loop μ-loop
-name-requires c κs = search needs
-
 loop-holds : tie.Need-loop-holds Inv-loop μ-loop
 loop-holds c = (omega arith, λ ds. refl)
-
-sub-j : tie.Need-sub-j Inv-loop μ-loop
-sub-j c = search needs
-
-differ-requires : tie.Need-differ-requires Inv-loop μ-loop
-differ-requires c κs = search needs
-
-code-requires : tie.Need-code-requires Inv-loop μ-loop
-code-requires c κs = search needs
-
-either-requires : tie.Need-either-requires Inv-loop μ-loop
-either-requires c κs = search needs
-
-name-requires-2 : tie.Need-name-requires-2 Inv-loop μ-loop
-name-requires-2 c κs = search needs
-
-same-requires : tie.Need-same-requires Inv-loop μ-loop
-same-requires c κs = search needs
 
 returns : tie.Need-returns Inv-loop μ-loop
 returns c = λ ds.
@@ -52,9 +31,6 @@ returns c = λ ds.
     let nm = name-in (s .text .now) (s .starts .now) in
     let j = c .before .before .before .before .before .before .before .before .before .loop .j in
     sym (c .before .before .before .before .before .before .before .before .before .loop .inv .1 ds ∙ unheard-twice nm cs ks ds j (c .before .before .before .before .before .before .before .before .loop-test .taken) (nm (getD ks (s .i) 0 + 2)) (titled-code nm cs ks ds (j - 1) ∙ (rw (c .before .before .before .before .before .code .ensures) at (sym (c .before .before .before .before .either .ensures) ∙ c .before .before .before .if2 .taken))) (rw (c .before .before .before .before .before .before .before .before .before .before .name .ensures, c .before .before .name2 .ensures) at (sym (c .before .same .ensures) ∙ c .if3 .taken)))
-
-loop-less : tie.Need-loop-less Inv-loop μ-loop
-loop-less c = search needs
 
 loop-again : tie.Need-loop-again Inv-loop μ-loop
 loop-again c = (
@@ -68,9 +44,6 @@ loop-again c = (
       c .before .before .before .before .before .before .before .before .before .loop .inv .1 ds ∙ unheard-other nm cs ks ds j (c .before .before .before .before .before .before .before .before .loop-test .taken) (nm (getD ks (s .i) 0 + 2)) (titled-code nm cs ks ds (j - 1) ∙ (rw (c .before .before .before .before .before .code .ensures) at (sym (c .before .before .before .before .either .ensures) ∙ c .before .before .before .if2 .taken))) (rw (c .before .before .before .before .before .before .before .before .before .before .name .ensures, c .before .before .name2 .ensures) at (sym (c .before .same .ensures) ∙ c .if3 .left)),
 )
 
-loop-less-2 : tie.Need-loop-less-2 Inv-loop μ-loop
-loop-less-2 c = search needs
-
 loop-again-2 : tie.Need-loop-again-2 Inv-loop μ-loop
 loop-again-2 c = (
   omega arith,
@@ -82,9 +55,6 @@ loop-again-2 c = (
       let j = c .before .before .before .before .before .before .loop .j in
       c .before .before .before .before .before .before .loop .inv .1 ds ∙ unheard-none nm cs ks ds j (c .before .before .before .before .before .loop-test .taken) (nm (getD ks (s .i) 0 + 2)) (titled-code nm cs ks ds (j - 1) ∙ (rw (c .before .before .code .ensures) at (sym (c .before .either .ensures) ∙ c .if2 .left))),
 )
-
-loop-less-3 : tie.Need-loop-less-3 Inv-loop μ-loop
-loop-less-3 c = search needs
 
 loop-again-3 : tie.Need-loop-again-3 Inv-loop μ-loop
 loop-again-3 c =
@@ -104,22 +74,6 @@ returns-2 c = λ ds.
 pub unheard-spec : {M : Type 1} → statement M
 unheard-spec =
     tie.close
-    (tie.spec
-    Inv-loop
-    μ-loop
-    name-requires
-    loop-holds
-    sub-j
-    differ-requires
-    code-requires
-    either-requires
-    name-requires-2
-    same-requires
-    returns
-    loop-less
-    loop-again
-    loop-less-2
-    loop-again-2
-    loop-less-3
-    loop-again-3
-    returns-2)
+    (tie.spec Inv-loop μ-loop (λ c κs. search needs) loop-holds (λ c. search needs) (λ c κs. search needs) (λ c κs. search needs)
+    (λ c κs. search needs) (λ c κs. search needs) (λ c κs. search needs) returns (λ c. search needs) loop-again (λ c. search needs)
+    loop-again-2 (λ c. search needs) loop-again-3 returns-2)

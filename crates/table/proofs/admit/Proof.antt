@@ -6,15 +6,6 @@ use Rattle.table.proofs.Answered.{looked-wrong, looked-12, looked-13, l
 use Rattle.table.proofs.admit.Statement.{statement}
 use Rattle.table.proofs.admit.Tie as tie
 
-measure-requires : tie.Need-measure-requires
-measure-requires c κs = search needs
-
-enum-known-size : tie.Need-enum-known-size
-enum-known-size c = search needs
-
-enum-told : tie.Need-enum-told
-enum-told c = search needs
-
 returns : tie.Need-returns
 returns c = looked-wrong _ _ _ (sym (c .before .before .measure .ensures) ∙ c .enum-told .given .1)
 
@@ -26,9 +17,6 @@ work-out-requires c κs = (
   of-shaped _ _ _ (sym (c .before .before .before .before .before .measure .ensures) ∙ c .before .before .before .size .given .1),
   c .before .before .before .before .before .before .before .pre,
 )
-
-set-past-requires : tie.Need-set-past-requires
-set-past-requires c κs = search needs
 
 returns-2 : tie.Need-returns-2
 returns-2 c =
@@ -54,14 +42,5 @@ returns-4 c =
 pub admit-spec : {M : Type 1} → statement M
 admit-spec =
     tie.close
-    (tie.spec
-    measure-requires
-    enum-known-size
-    enum-told
-    returns
-    events-sound-requires
-    work-out-requires
-    set-past-requires
-    returns-2
-    returns-3
-    returns-4)
+    (tie.spec (λ c κs. search needs) (λ c. search needs) (λ c. search needs) returns events-sound-requires work-out-requires
+    (λ c κs. search needs) returns-2 returns-3 returns-4)

@@ -6,15 +6,6 @@ use Rattle.table.proofs.Sizes.{checked, wrong-unsound, sound-as, of-sha
 use Rattle.table.proofs.check.Statement.{statement}
 use Rattle.table.proofs.check.Tie as tie
 
-measure-requires : tie.Need-measure-requires
-measure-requires c κs = search needs
-
-enum-known-size : tie.Need-enum-known-size
-enum-known-size c = search needs
-
-enum-told : tie.Need-enum-told
-enum-told c = search needs
-
 returns : tie.Need-returns
 returns c =
     checked _ false (wrong-unsound _ (sym (c .before .before .measure .ensures) ∙ c .enum-told .given .1))
@@ -42,12 +33,5 @@ returns-3 c =
 pub check-spec : {M : Type 1} → statement M
 check-spec =
     tie.close
-    (tie.spec
-    measure-requires
-    enum-known-size
-    enum-told
-    returns
-    events-sound-requires
-    rows-sound-requires
-    returns-2
+    (tie.spec (λ c κs. search needs) (λ c. search needs) (λ c. search needs) returns events-sound-requires rows-sound-requires returns-2
     returns-3)

@@ -5,12 +5,9 @@ use Rattle.table.proofs.Events.{end-none, end-own}
 use Rattle.table.proofs.event_sound.Statement.{statement}
 use Rattle.table.proofs.event_sound.Tie as tie
 
-add-result : tie.Need-add-result
-add-result c = search needs
-
 returns : tie.Need-returns
 returns c =
     ⊎-elim (λ z. rw (z .1) (end-none _ _ _ (z .0 .taken))) (λ z. rw (z .1) (end-own _ _ _ (z .0 .left))) (c .if1 .came)
 
 pub event-sound-spec : {M : Type 1} → statement M
-event-sound-spec = tie.close (tie.spec add-result returns)
+event-sound-spec = tie.close (tie.spec (λ c. search needs) returns)

@@ -18,24 +18,6 @@ loop-holds : tie.Need-loop-holds Inv-loop μ-loop
 unfolding events-sound
 loop-holds c = (omega arith, refl)
 
-mul-word : tie.Need-mul-word Inv-loop μ-loop
-mul-word c = search needs
-
-add-word : tie.Need-add-word Inv-loop μ-loop
-add-word c = search needs
-
-word-requires : tie.Need-word-requires Inv-loop μ-loop
-word-requires c κs = search needs
-
-event-sound-requires : tie.Need-event-sound-requires Inv-loop μ-loop
-event-sound-requires c κs = search needs
-
-add-i : tie.Need-add-i Inv-loop μ-loop
-add-i c = search needs
-
-loop-less : tie.Need-loop-less Inv-loop μ-loop
-loop-less c = search needs
-
 loop-again : tie.Need-loop-again Inv-loop μ-loop
 unfolding events-sound
 loop-again c = (omega arith, rw add-one (cc))
@@ -46,15 +28,5 @@ returns c = let h : c .before .loop .i ≡ c .before .before .before .args .n = 
 pub events-sound-spec : {M : Type 1} → statement M
 events-sound-spec =
     tie.close
-    (tie.spec
-    Inv-loop
-    μ-loop
-    loop-holds
-    mul-word
-    add-word
-    word-requires
-    event-sound-requires
-    add-i
-    loop-less
-    loop-again
-    returns)
+    (tie.spec Inv-loop μ-loop loop-holds (λ c. search needs) (λ c. search needs) (λ c κs. search needs) (λ c κs. search needs)
+    (λ c. search needs) (λ c. search needs) loop-again returns)

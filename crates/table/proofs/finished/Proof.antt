@@ -11,18 +11,9 @@ use Rattle.table.proofs.finished.Tie as tie
 admit-requires : tie.Need-admit-requires
 admit-requires c κs = refl
 
-enum-told : tie.Need-enum-told
-enum-told c = search needs
-
-enum-told-2 : tie.Need-enum-told-2
-enum-told-2 c = search needs
-
-unasked-requires : tie.Need-unasked-requires
-unasked-requires c κs = search needs
-
 returns : tie.Need-returns
 returns c =
-    c .unasked .ensures ∙ finished-passed _ _ _ _ _ (c .before .enum-told2 .given .1) (c .before .before .before .admit .ensures .0)
+    c .as-finish .ensures ∙ finished-passed _ _ _ _ _ (c .before .enum-told2 .given .1) (c .before .before .before .admit .ensures .0)
 
 -- The first look let the call go on.
 admitted : (c : tie.After-enum-told)
@@ -55,14 +46,5 @@ returns-3 c =
 pub finished-spec : {M : Type 1} → statement M
 finished-spec =
     tie.close
-    (tie.spec
-    admit-requires
-    enum-told
-    enum-told-2
-    unasked-requires
-    returns
-    half-requires
-    sub-last
-    array-read-if1
-    returns-2
-    returns-3)
+    (tie.spec admit-requires (λ c. search needs) (λ c. search needs) (λ c κs. search needs) returns half-requires sub-last array-read-if1
+    returns-2 returns-3)

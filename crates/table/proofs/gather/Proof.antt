@@ -20,30 +20,12 @@ loop-holds : tie.Need-loop-holds Inv-loop μ-loop
 unfolding offered
 loop-holds c = (omega arith, refl)
 
-mul-word : tie.Need-mul-word Inv-loop μ-loop
-mul-word c = search needs
-
-add-word : tie.Need-add-word Inv-loop μ-loop
-add-word c = search needs
-
-word-requires : tie.Need-word-requires Inv-loop μ-loop
-word-requires c κs = search needs
-
 element-copy-out-if1 : tie.Need-element-copy-out-if1 Inv-loop μ-loop
 element-copy-out-if1 c =
     let start = c .before .before .before .before in
     let a = start .args in
     let l = c .before .before .loop in
     gather-below-most (a .t .now) (a .values .now) (a .n) (a .m) (l .e) (c .word .result) (start .pre .0) (start .pre .1) (omega arith) (c .word .ensures .0)
-
-set-requires : tie.Need-set-requires Inv-loop μ-loop
-set-requires c κs = search needs
-
-add-e : tie.Need-add-e Inv-loop μ-loop
-add-e c = search needs
-
-loop-less : tie.Need-loop-less Inv-loop μ-loop
-loop-less c = search needs
 
 loop-again : tie.Need-loop-again Inv-loop μ-loop
 loop-again c =
@@ -67,16 +49,5 @@ returns c = let q : c .before .loop .e ≡ c .before .before .before .args .n = 
 pub gather-spec : {M : Type 1} → statement M
 gather-spec =
     tie.close
-    (tie.spec
-    Inv-loop
-    μ-loop
-    loop-holds
-    mul-word
-    add-word
-    word-requires
-    element-copy-out-if1
-    set-requires
-    add-e
-    loop-less
-    loop-again
-    returns)
+    (tie.spec Inv-loop μ-loop loop-holds (λ c. search needs) (λ c. search needs) (λ c κs. search needs) element-copy-out-if1
+    (λ c κs. search needs) (λ c. search needs) (λ c. search needs) loop-again returns)

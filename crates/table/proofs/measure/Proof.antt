@@ -9,24 +9,6 @@ use Rattle.table.proofs.measure.Tie as tie
 returns : tie.Need-returns
 returns c = short-wrong _ (c .if1 .taken)
 
-half-requires : tie.Need-half-requires
-half-requires c κs = search needs
-
-half-requires-2 : tie.Need-half-requires-2
-half-requires-2 c κs = search needs
-
-mul-most : tie.Need-mul-most
-mul-most c = search needs
-
-add-most : tie.Need-add-most
-add-most c = search needs
-
-mul-most-2 : tie.Need-mul-most-2
-mul-most-2 c = search needs
-
-add-most-2 : tie.Need-add-most-2
-add-most-2 c = search needs
-
 returns-2 : tie.Need-returns-2
 returns-2 c =
     measured _ _ _ true (omega arith) (c .before .before .half .ensures .0) (c .before .half2 .ensures .0) (c .if2 .taken)
@@ -38,13 +20,5 @@ returns-3 c =
 pub measure-spec : {M : Type 1} → statement M
 measure-spec =
     tie.close
-    (tie.spec
-    returns
-    half-requires
-    half-requires-2
-    mul-most
-    add-most
-    mul-most-2
-    add-most-2
-    returns-2
-    returns-3)
+    (tie.spec returns (λ c κs. search needs) (λ c κs. search needs) (λ c. search needs) (λ c. search needs) (λ c. search needs)
+    (λ c. search needs) returns-2 returns-3)

@@ -16,12 +16,6 @@ returns c = offer-1 _ _ _ (omega arith)
 admit-requires : tie.Need-admit-requires
 admit-requires c κs = refl
 
-enum-told : tie.Need-enum-told
-enum-told c = search needs
-
-enum-told-2 : tie.Need-enum-told-2
-enum-told-2 c = search needs
-
 returns-2 : tie.Need-returns-2
 returns-2 c =
     let looked = c .before .before in
@@ -43,9 +37,6 @@ gather-requires : tie.Need-gather-requires
 gather-requires c κs =
     gather-ready _ _ (admitted (c .before .before .before)) _ _ (c .before .before .half .ensures .0) (c .before .half2 .ensures .0)
 
-store-requires : tie.Need-store-requires
-store-requires c κs = search needs
-
 same-length : tie.Need-same-length
 same-length c = ap length (c .before .before .store .ensures) ∙ fill-length _ _
 
@@ -61,15 +52,5 @@ returns-3 c =
 pub offer-spec : {M : Type 1} → statement M
 offer-spec =
     tie.close
-    (tie.spec
-    returns
-    admit-requires
-    enum-told
-    enum-told-2
-    returns-2
-    half-requires
-    half-requires-2
-    gather-requires
-    store-requires
-    same-length
-    returns-3)
+    (tie.spec returns admit-requires (λ c. search needs) (λ c. search needs) returns-2 half-requires half-requires-2 gather-requires
+    (λ c κs. search needs) same-length returns-3)

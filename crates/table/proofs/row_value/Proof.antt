@@ -8,9 +8,6 @@ use Rattle.table.proofs.Rows.{left-below-most, right-below-most}
 use Rattle.table.proofs.row_value.Statement.{statement}
 use Rattle.table.proofs.row_value.Tie as tie
 
-bit-requires : tie.Need-bit-requires
-bit-requires c κs = search needs
-
 returns : tie.Need-returns
 unfolding row-value
 returns c = simp (eq-eqb (kind-of (c .before .before .args .w)) 0 (c .before .if1 .taken)) (c .bit .ensures)
@@ -39,11 +36,4 @@ returns-4 c =
 pub row-value-spec : {M : Type 1} → statement M
 row-value-spec =
     tie.close
-    (tie.spec
-    bit-requires
-    returns
-    element-copy-out-x
-    returns-2
-    element-copy-out-y
-    returns-3
-    returns-4)
+    (tie.spec (λ c κs. search needs) returns element-copy-out-x returns-2 element-copy-out-y returns-3 returns-4)

@@ -13,12 +13,6 @@ use Rattle.table.proofs.step.Tie as tie
 admit-requires : tie.Need-admit-requires
 admit-requires c κs = refl
 
-enum-told : tie.Need-enum-told
-enum-told c = search needs
-
-enum-told-2 : tie.Need-enum-told-2
-enum-told-2 c = search needs
-
 returns : tie.Need-returns
 returns c = step-passed _ _ _ _ _ _ (c .enum-told2 .given .1) (c .before .before .admit .ensures .0)
 
@@ -52,12 +46,6 @@ word-requires c κs = in-table _ _ (admitted (c .before .before)) _ (below c)
 array-read-if2 : tie.Need-array-read-if2
 array-read-if2 c = guard-below-most _ _ (admitted (c .before .before .before)) _ _ (below (c .before)) (c .word .ensures .0)
 
-set-requires : tie.Need-set-requires
-set-requires c κs = search needs
-
-clear-requires : tie.Need-clear-requires
-clear-requires c κs = search needs
-
 returns-3 : tie.Need-returns-3
 returns-3 c =
     let word = c .before .before .before in
@@ -78,18 +66,5 @@ returns-4 c =
 pub step-spec : {M : Type 1} → statement M
 step-spec =
     tie.close
-    (tie.spec
-    admit-requires
-    enum-told
-    enum-told-2
-    returns
-    half-requires
-    returns-2
-    mul-word
-    add-word
-    word-requires
-    array-read-if2
-    set-requires
-    clear-requires
-    returns-3
-    returns-4)
+    (tie.spec admit-requires (λ c. search needs) (λ c. search needs) returns half-requires returns-2 mul-word add-word word-requires
+    array-read-if2 (λ c κs. search needs) (λ c κs. search needs) returns-3 returns-4)

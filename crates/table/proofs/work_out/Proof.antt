@@ -20,27 +20,9 @@ Inv-loop t n m bits values₀ base ok₀ i₀ values ok i =
 abbrev μ-loop : tie.MeasureT-loop
 μ-loop t n m bits values₀ base ok₀ i₀ values ok i = m - i
 
-mul-base : tie.Need-mul-base Inv-loop μ-loop
-mul-base c = search needs
-
-add-base : tie.Need-add-base Inv-loop μ-loop
-add-base c = search needs
-
 loop-holds : tie.Need-loop-holds Inv-loop μ-loop
 unfolding rows-sound row-values
 loop-holds c = (omega arith, c .before .pre .1, refl, λ y. refl)
-
-mul-word : tie.Need-mul-word Inv-loop μ-loop
-mul-word c = search needs
-
-add-word : tie.Need-add-word Inv-loop μ-loop
-add-word c = search needs
-
-word-requires : tie.Need-word-requires Inv-loop μ-loop
-word-requires c κs = search needs
-
-row-sound-requires : tie.Need-row-sound-requires Inv-loop μ-loop
-row-sound-requires c κs = search needs
 
 row-value-requires : tie.Need-row-value-requires Inv-loop μ-loop
 row-value-requires c κs =
@@ -57,12 +39,6 @@ row-value-requires c κs =
 
 element-write-values : tie.Need-element-write-values Inv-loop μ-loop
 element-write-values c = omega (arith, c .before .before .before .before .before .before .before .before .pre .0 .m-most)
-
-add-i : tie.Need-add-i Inv-loop μ-loop
-add-i c = search needs
-
-loop-less : tie.Need-loop-less Inv-loop μ-loop
-loop-less c = search needs
 
 loop-again : tie.Need-loop-again Inv-loop μ-loop
 loop-again c =
@@ -94,19 +70,6 @@ returns c =
 pub work-out-spec : {M : Type 1} → statement M
 work-out-spec =
     tie.close
-    (tie.spec
-    Inv-loop
-    μ-loop
-    mul-base
-    add-base
-    loop-holds
-    mul-word
-    add-word
-    word-requires
-    row-sound-requires
-    row-value-requires
-    element-write-values
-    add-i
-    loop-less
-    loop-again
+    (tie.spec Inv-loop μ-loop (λ c. search needs) (λ c. search needs) loop-holds (λ c. search needs) (λ c. search needs)
+    (λ c κs. search needs) (λ c κs. search needs) row-value-requires element-write-values (λ c. search needs) (λ c. search needs) loop-again
     returns)

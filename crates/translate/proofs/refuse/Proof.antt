@@ -4,31 +4,14 @@ use borrow.Author.Needs.{needs}
 use Rattle.translate.proofs.refuse.Statement.{statement}
 use Rattle.translate.proofs.refuse.Tie as tie
 
-slice-aggregate-refused : tie.Need-slice-aggregate-refused
-slice-aggregate-refused c = search needs
-
-refused-requires : tie.Need-refused-requires
-refused-requires c κs = search needs
-
 array-share-prefix-out : tie.Need-array-share-prefix-out
 array-share-prefix-out c = written _ _ _ _ (c .before .refused .ensures) .0
 
 slice-aggregate-write-all : tie.Need-slice-aggregate-write-all
 slice-aggregate-write-all c = written _ _ _ _ (c .before .before .refused .ensures) .1
 
-write-all-requires : tie.Need-write-all-requires
-write-all-requires c κs = search needs
-
-returns : tie.Need-returns
-returns c = search needs
-
 pub refuse-spec : {M : Type 1} → statement M
 refuse-spec =
     tie.close
-    (tie.spec
-    slice-aggregate-refused
-    refused-requires
-    array-share-prefix-out
-    slice-aggregate-write-all
-    write-all-requires
-    returns)
+    (tie.spec (λ c. search needs) (λ c κs. search needs) array-share-prefix-out slice-aggregate-write-all (λ c κs. search needs)
+    (λ c. search needs))

@@ -7,12 +7,6 @@ use Rattle.translator.proofs.write.Lts as lts
 use Rattle.expansion.proofs.expand.Reads as expand-reads
 use Rattle.guards.proofs.lay.Reads as lay-reads
 
-slice-aggregate-expand : tie.Need-slice-aggregate-expand
-slice-aggregate-expand c = search needs
-
-expand-requires : tie.Need-expand-requires
-expand-requires c κs = search needs
-
 array-share-prefix-codes : tie.Need-array-share-prefix-codes
 array-share-prefix-codes c =
     let b = c .before .before .before .before in
@@ -25,12 +19,6 @@ slice-aggregate-lay c =
     let e = c .before .before .expand in
     numbers-there (b .args .d) (b .pre .0) (e .result) (e .last .1 .0) (e .ensures .0) (e .ensures .1)
 
-lay-requires : tie.Need-lay-requires
-lay-requires c κs = search needs
-
-same-length : tie.Need-same-length
-same-length c = search needs
-
 returns : tie.Need-returns
 returns c =
     let b = c .before .before .before .before .before .before .before .before .before in
@@ -42,11 +30,5 @@ returns c =
 pub write-spec : {M : Type 1} → statement M
 write-spec =
     tie.close
-    (tie.spec
-    slice-aggregate-expand
-    expand-requires
-    array-share-prefix-codes
-    slice-aggregate-lay
-    lay-requires
-    same-length
-    returns)
+    (tie.spec (λ c. search needs) (λ c κs. search needs) array-share-prefix-codes slice-aggregate-lay (λ c κs. search needs)
+    (λ c. search needs) returns)

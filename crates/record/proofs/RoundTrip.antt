@@ -17,7 +17,7 @@ use Rattle.record.specs.Bits.{Words, bit-at}
 use Rattle.record.specs.Bytes.{Bytes, field, words-of, byte-of, bytes-of}
 use Rattle.record.proofs.Fields.{field-joined}
 use Rattle.record.proofs.Bytes.{bytes-length, byte-at}
-use Rattle.record.proofs.Beyond.{low-same, word-bit}
+use Rattle.record.proofs.PastEvents.{low-same, word-bit}
 
 -- ---- the words of a record's bytes, one after the other
 abbrev words-from : ℕ → List ℕ → ℕ → List ℕ

@@ -7,7 +7,7 @@ use denote.Triple.Clauses.{AtExit}
 use borrow.Fn.Claims.{AllOf}
 use borrow.Fn.Read.{Read, no-know, all-models, r-fact, r-last, r-top}
 use borrow.Fn.World.{ArgsD, ResD}
-use Rattle.update.proofs.step as thin
+use Rattle.inplace.proofs.step as thin
 
 module _ (κs : Lfts 2) (a : ArgsD thin.signature κs) where
   abbrev asking : Read (λ w. emp (w .𝓤)) no-know (λ w. thin.clauses (w .𝓤) (w .H) (w .𝓖 .A) (w .𝓜 .mem) (w .𝓡 .run) κs a .requires tt)

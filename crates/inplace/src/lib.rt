@@ -1,5 +1,5 @@
 ghost use mathlib.Core.Path.{_≡_};
-ghost use Rattle.update.specs.Updates.{answer-of, left-of};
+ghost use Rattle.inplace.specs.Updates.{answer-of, left-of};
 use record::Record;
 use table::Answer;
 

@@ -12,10 +12,10 @@ use Rattle.diagram.specs.Tree.{Name, Way, all, some, one, Flow, flow, Children,
 use Rattle.lexer.specs.Words.{code}
 use Rattle.grammar.specs.Tokens.{opening, closing, comma, colon, key, bit, digits, group-key, replicator-key, pars-tokens, ref-tokens, flow-tokens, children-tokens, child-tokens, member-tokens, members-tokens}
 use Rattle.grammar.proofs.Codes.{coded-opening, coded-closing, coded-comma, coded-colon, coded-key, coded-bit}
-use Rattle.rules.specs.Heads.{flowing, copying, reach, extent, solid-of}
+use Rattle.rules.specs.TokenNodes.{flowing, copying, reach, extent, solid-of}
 use Rattle.rules.proofs.Trees.{group-code, replicator-code}
 use Rattle.rules.proofs.Around.{group-copies, group-flows, replicator-copies, replicator-flows}
-use Rattle.rules.proofs.HeadedTokens.{pars-append, flow-append, child-append, member-append, group-told, replicator-told, all-told, flow-told, children-told, child-told, member-told, members-told}
+use Rattle.rules.proofs.NodeTokens.{pars-append, flow-append, child-append, member-append, group-told, replicator-told, all-told, flow-told, children-told, child-told, member-told, members-told}
 
 -- The tokens us come down to ts, with every parenthesis between them ended.
 abbrev Balanced : List Name → List Name → Type 0

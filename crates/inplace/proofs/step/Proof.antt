@@ -1,4 +1,4 @@
--- `update::step` meets its contract: a walk of its MIR, by hand, since the borrow checker covers no reference to a struct. The record's borrow is opened,
+-- `inplace::step` meets its contract: a walk of its MIR, by hand, since the borrow checker covers no reference to a struct. The record's borrow is opened,
 -- the record is copied, `table::step` is called on the copy, the record that it returns is stored, and the borrow is closed at that record. All that the
 -- proof knows of `table::step` is that it meets its contract.
 use mathlib.Core.Path.{_≡_, refl, ap}
@@ -60,11 +60,11 @@ use Rattle.table.proofs.step as callee
 use Rattle.table.proofs.step.Symbol as callee-def
 use Rattle.table.proofs.step.Symbol.{name as #table·step}
 use Rattle.table.proofs.step.Met as callee-thm
-use Rattle.update.proofs.step.Key.{name as #update·step}
-use Rattle.update.proofs.step as f
-use Rattle.update.proofs.step.Statement as stated
-use Rattle.update.proofs.step.Code as code
-use Rattle.update.proofs.Both.{says-both}
+use Rattle.inplace.proofs.step.Key.{name as #update·step}
+use Rattle.inplace.proofs.step as f
+use Rattle.inplace.proofs.step.Statement as stated
+use Rattle.inplace.proofs.step.Code as code
+use Rattle.inplace.proofs.Both.{says-both}
 
 -- at exit the table and the event are as they were passed, and the record's borrow is still owned
 abbrev stayed : Stays (f.ended .signature .params) (f.ended .kept)

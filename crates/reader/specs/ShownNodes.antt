@@ -16,14 +16,14 @@ use Rattle.lexer.specs.Words.{word-at}
 
 -- A node's kind, with its size where it has one; its solid mark; whether a flow's sw is 1, false for any other node; its depth; and the name of a
 -- leaf or flow or the par of a replicator.
-pub record View : Type 0 where
+pub record ShownNode : Type 0 where
   pub kind : Kind
   pub solid : Bool
   pub strong : Bool
   pub depth : ℕ
   pub name : Name
 
-abbrev pub shown : Kind → Bool → Bool → ℕ → Name → View
+abbrev pub shown : Kind → Bool → Bool → ℕ → Name → ShownNode
 shown k b sw d n = record { kind = k; solid = b; strong = sw; depth = d; name = n }
 
 abbrev pub has-name : Kind → Bool
@@ -37,12 +37,12 @@ has-name (Some size) = true
 has-name (One size) = true
 has-name Loop = false
 
-unfoldable pub view : List ℕ → Node → View
-view text n = shown (n .kind) (n .solid) (n .strong) (n .depth) (cond (has-name (n .kind)) (word-at text (n .name)) [])
+unfoldable pub shown-node : List ℕ → Node → ShownNode
+shown-node text n = shown (n .kind) (n .solid) (n .strong) (n .depth) (cond (has-name (n .kind)) (word-at text (n .name)) [])
 
 -- The nodes that count.
-unfoldable pub views : List ℕ → Diagram → List View
-views text d = map (view text) (take (d .count) (d .nodes))
+unfoldable pub shown-nodes : List ℕ → Diagram → List ShownNode
+shown-nodes text d = map (shown-node text) (take (d .count) (d .nodes))
 
 abbrev pub group-kind : Way → Kind
 group-kind all = And
@@ -56,31 +56,31 @@ replicator-kind one size = One size
 
 -- The nodes of a tree, of which the first is at depth d and is a solid child or not, and then those given.
 unfoldable mutual
-  pub flow-views : Flow → Bool → ℕ → List View → List View
-  flow-views (flow n ps sw c r cs) b d vs = shown FlowNode b sw d n ∷ child-views c r (suc d) (children-views cs (suc d) vs)
+  pub flow-shown-nodes : Flow → Bool → ℕ → List ShownNode → List ShownNode
+  flow-shown-nodes (flow n ps sw c r cs) b d vs = shown FlowNode b sw d n ∷ child-shown-nodes c r (suc d) (children-shown-nodes cs (suc d) vs)
 
-  pub children-views : Children → ℕ → List View → List View
-  children-views none d vs = vs
-  children-views (next c r cs) d vs = child-views c r d (children-views cs d vs)
+  pub children-shown-nodes : Children → ℕ → List ShownNode → List ShownNode
+  children-shown-nodes none d vs = vs
+  children-shown-nodes (next c r cs) d vs = child-shown-nodes c r d (children-shown-nodes cs d vs)
 
-  pub child-views : Child → Bool → ℕ → List View → List View
-  child-views (plain m) b d vs = member-views m b d vs
-  child-views (loop m) b d vs = shown Loop b false d [] ∷ member-views m false (suc d) vs
-  child-views (group y m e ms) b d vs =
-      shown (group-kind y) b false d [] ∷ member-views m false (suc d) (member-views e false (suc d) (members-views ms (suc d) vs))
-  child-views (replicator y par size m) b d vs = shown (replicator-kind y size) b false d par ∷ member-views m false (suc d) vs
+  pub child-shown-nodes : Child → Bool → ℕ → List ShownNode → List ShownNode
+  child-shown-nodes (plain m) b d vs = member-shown-nodes m b d vs
+  child-shown-nodes (loop m) b d vs = shown Loop b false d [] ∷ member-shown-nodes m false (suc d) vs
+  child-shown-nodes (group y m e ms) b d vs =
+      shown (group-kind y) b false d [] ∷ member-shown-nodes m false (suc d) (member-shown-nodes e false (suc d) (members-shown-nodes ms (suc d) vs))
+  child-shown-nodes (replicator y par size m) b d vs = shown (replicator-kind y size) b false d par ∷ member-shown-nodes m false (suc d) vs
 
-  pub member-views : Member → Bool → ℕ → List View → List View
-  member-views (leaf n) b d vs = shown Leaf b false d n ∷ vs
-  member-views (inner f) b d vs = flow-views f b d vs
+  pub member-shown-nodes : Member → Bool → ℕ → List ShownNode → List ShownNode
+  member-shown-nodes (leaf n) b d vs = shown Leaf b false d n ∷ vs
+  member-shown-nodes (inner f) b d vs = flow-shown-nodes f b d vs
 
-  pub members-views : Members → ℕ → List View → List View
-  members-views end d vs = vs
-  members-views (also m ms) d vs = member-views m false d (members-views ms d vs)
+  pub members-shown-nodes : Members → ℕ → List ShownNode → List ShownNode
+  members-shown-nodes end d vs = vs
+  members-shown-nodes (also m ms) d vs = member-shown-nodes m false d (members-shown-nodes ms d vs)
 
 -- The diagram holds the nodes of the tree, with their number and how many node copies and events they have.
 pub record Shows (text : List ℕ) (d : Flow) (g : Diagram) : Type 0 where
-  pub nodes : views text g ≡ flow-views d false 1 []
+  pub nodes : shown-nodes text g ≡ flow-shown-nodes d false 1 []
   pub count : g .count ≡ flow-nodes d
   pub copies : g .copies ≡ flow-copies d
   pub events : g .events ≡ flow-events d

@@ -9,25 +9,25 @@ use lib.Seq.{drop-drop}
 use Rattle.diagram.specs.Tree.{Name}
 use Rattle.base.proofs.Truth.{cases}
 use Rattle.grammar.specs.Limits.{keyed, count-of}
-use Rattle.rules.specs.Heads.{Head, head, heads, opened, keys, depths, by-columns}
+use Rattle.rules.specs.TokenNodes.{TokenNode, token-node, token-nodes, opened, keys, depths, by-columns}
 
 -- The tokens from k on, one further.
 further : (cs ds : List ℕ) (k c : ℕ) → drop k cs ≡ c ∷ ds → drop (suc k) cs ≡ ds
 further cs ds k c e = ap (λ (j : ℕ). drop j cs) (sym (add-one k)) ∙ sym (drop-drop 1 k cs) ∙ ap (drop 1) e
 
 module _ (nm : ℕ → Name) (cs : List ℕ) where
-  columns-from : (ds : List ℕ) (p k : ℕ) → drop k cs ≡ ds → by-columns nm cs (keys k ds) (depths p ds) ≡ heads nm p k ds
-  unfolding by-columns keys depths heads
+  columns-from : (ds : List ℕ) (p k : ℕ) → drop k cs ≡ ds → by-columns nm cs (keys k ds) (depths p ds) ≡ token-nodes nm p k ds
+  unfolding by-columns keys depths token-nodes
   columns-from [] p k e = refl
   columns-from (c ∷ ds) p k e =
       let q = further cs ds k c e in
       ⊎-elim
-      (λ y. rw y (ap₂ {C = List Head} (λ (l : List ℕ) (hs : List Head). head nm (suc p) k l ∷ hs) e (columns-from ds p (suc k) q)))
+      (λ y. rw y (ap₂ {C = List TokenNode} (λ (l : List ℕ) (hs : List TokenNode). token-node nm (suc p) k l ∷ hs) e (columns-from ds p (suc k) q)))
       (λ n. rw n (columns-from ds (opened p c) (suc k) q))
       (cases (keyed c))
 
-  pub columns-heads : by-columns nm cs (keys 0 cs) (depths 0 cs) ≡ heads nm 0 0 cs
-  columns-heads = columns-from cs 0 0 refl
+  pub columns-token-nodes : by-columns nm cs (keys 0 cs) (depths 0 cs) ≡ token-nodes nm 0 0 cs
+  columns-token-nodes = columns-from cs 0 0 refl
 
 pub keys-count : (k : ℕ) (cs : List ℕ) → length (keys k cs) ≡ count-of keyed cs
 unfolding keys count-of

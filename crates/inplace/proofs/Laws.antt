@@ -6,7 +6,7 @@ use Rattle.record.specs.declared.Record.{Record}
 use Rattle.table.specs.declared.Answer.the-variants.{Refused}
 use Rattle.table.specs.declared.Stepped.{Stepped}
 use Rattle.table.proofs.Laws.{step-refused}
-use Rattle.update.specs.Updates.{answer-of, left-of}
+use Rattle.inplace.specs.Updates.{answer-of, left-of}
 
 -- A refusal leaves the lent record as it was.
 pub refused-untouched : (t : List ℕ) (before : Record) (e number place : ℕ) → answer-of t before e ≡ Refused number place → left-of t before e ≡ before

@@ -15,20 +15,20 @@ use Rattle.grammar.specs.Derives.{Grammatical}
 use Rattle.grammar.specs.Tokens.{opening, closing, comma, colon, key, bit, digits, group-key, replicator-key, pars-tokens, ref-tokens, flow-tokens, children-tokens, child-tokens, member-tokens, members-tokens}
 use Rattle.grammar.proofs.Codes.{coded-opening, coded-closing, coded-comma, coded-colon, coded-key, coded-bit, bit-value}
 use Rattle.grammar.proofs.LimitedFrom.{numeral-unkeyed}
-use Rattle.rules.specs.Heads.{Head, flowing, leafy, copying, solid-of, par-count, strong-of, pars-back, head, heads}
-use Rattle.rules.proofs.Trees.{group-code, replicator-code, simple, flow-heads, children-heads, child-heads, member-heads, members-heads}
-use Rattle.rules.proofs.HeadedTokens.{pars-append, child-append, member-append, pars-long, children-long, child-long, member-long, members-long, group-told, replicator-told, all-told, flow-told, children-told, child-told, member-told, members-told, flow-tell}
-use Rattle.rules.proofs.HeadedReach.{follows, flow-solid, member-solid, child-solid}
+use Rattle.rules.specs.TokenNodes.{TokenNode, flowing, leafy, copying, solid-of, par-count, strong-of, pars-back, token-node, token-nodes}
+use Rattle.rules.proofs.Trees.{group-code, replicator-code, simple, flow-token-nodes, children-token-nodes, child-token-nodes, member-token-nodes, members-token-nodes}
+use Rattle.rules.proofs.NodeTokens.{pars-append, child-append, member-append, pars-long, children-long, child-long, member-long, members-long, group-told, replicator-told, all-told, flow-told, children-told, child-told, member-told, members-told, flow-tell}
+use Rattle.rules.proofs.NodeReach.{follows, flow-solid, member-solid, child-solid}
 
 -- The name function gives the bytes of each token that is a name, of those of which the first has the number k.
 abbrev pub Agrees : (ℕ → Name) → ℕ → List Name → Type 0
 Agrees nm k ts = (j : ℕ) → code (getD ts j []) ≡ 6 → nm (k + j) ≡ getD ts j []
 
 -- A flow, and a replicator.
-abbrev pub flow-node : ℕ → ℕ → Name → List Name → Bool → Bool → Head
+abbrev pub flow-node : ℕ → ℕ → Name → List Name → Bool → Bool → TokenNode
 flow-node k d n ps sw b = record { key = k; depth = d; code = 7; name = n; size = 0; pars = ps; strong = sw; solid = b }
 
-abbrev pub copy-node : ℕ → ℕ → ℕ → Name → ℕ → Bool → Head
+abbrev pub copy-node : ℕ → ℕ → ℕ → Name → ℕ → Bool → TokenNode
 copy-node k d c par size b = record { key = k; depth = d; code = c; name = par; size = size; pars = []; strong = false; solid = b }
 
 -- The keyword of a constructor, which is a replicator or not.
@@ -101,80 +101,80 @@ module _ (nm : ℕ → Name) where
       ∙ sym (reverse-cons p ps)
 
   -- Tokens that are no keywords.
-  moved : (p : ℕ) {j m : ℕ} (cs : List ℕ) → j ≡ m → heads nm p j cs ≡ heads nm p m cs
-  moved p cs e = ap (λ (i : ℕ). heads nm p i cs) e
+  moved : (p : ℕ) {j m : ℕ} (cs : List ℕ) → j ≡ m → token-nodes nm p j cs ≡ token-nodes nm p m cs
+  moved p cs e = ap (λ (i : ℕ). token-nodes nm p i cs) e
 
-  over-codes : (p k c : ℕ) (cs : List ℕ) → keyed c ≡ false → 3 ≤ c → heads nm p k (c ∷ cs) ≡ heads nm p (suc k) cs
-  unfolding heads
+  over-codes : (p k c : ℕ) (cs : List ℕ) → keyed c ≡ false → 3 ≤ c → token-nodes nm p k (c ∷ cs) ≡ token-nodes nm p (suc k) cs
+  unfolding token-nodes
   over-codes p k c cs e h = rw (e, ne-eqb c 1 (λ q. omega arith), ne-eqb c 2 (λ q. omega arith))
 
-  over-read : (p k c : ℕ) (t : Name) (ts : List Name) → code t ≡ c → keyed c ≡ false → 3 ≤ c → heads nm p k (map code (t ∷ ts)) ≡ heads nm p (suc k) (map code ts)
+  over-read : (p k c : ℕ) (t : Name) (ts : List Name) → code t ≡ c → keyed c ≡ false → 3 ≤ c → token-nodes nm p k (map code (t ∷ ts)) ≡ token-nodes nm p (suc k) (map code ts)
   over-read p k c t ts q e h = rw q (over-codes p k c (map code ts) e h)
 
-  number-read : (p k n : ℕ) (t : Name) (ts : List Name) → code t ≡ 16 + n → heads nm p k (map code (t ∷ ts)) ≡ heads nm p (suc k) (map code ts)
+  number-read : (p k n : ℕ) (t : Name) (ts : List Name) → code t ≡ 16 + n → token-nodes nm p k (map code (t ∷ ts)) ≡ token-nodes nm p (suc k) (map code ts)
   number-read p k n t ts e = over-read p k (16 + n) t ts e (numeral-unkeyed (16 + n) (omega arith)) (omega arith)
 
-  close-codes : (p k : ℕ) (cs : List ℕ) → heads nm (suc p) k (2 ∷ cs) ≡ heads nm p (suc k) cs
-  unfolding heads
+  close-codes : (p k : ℕ) (cs : List ℕ) → token-nodes nm (suc p) k (2 ∷ cs) ≡ token-nodes nm p (suc k) cs
+  unfolding token-nodes
   close-codes p k cs = let e : suc p - 1 ≡ p = omega arith in rw e
 
-  close-read : (p k m : ℕ) (ts : List Name) → m ≡ suc k → heads nm (suc p) k (map code (closing ∷ ts)) ≡ heads nm p m (map code ts)
+  close-read : (p k m : ℕ) (ts : List Name) → m ≡ suc k → token-nodes nm (suc p) k (map code (closing ∷ ts)) ≡ token-nodes nm p m (map code ts)
   close-read p k m ts e = rw (coded-closing .number, e) (close-codes p k (map code ts))
 
   -- From `bit)` on.
-  bit-read : (p k m : ℕ) (r : Bool) (ts : List Name) → m ≡ k + 2 → heads nm (suc p) k (map code (bit r ∷ closing ∷ ts)) ≡ heads nm p m (map code ts)
+  bit-read : (p k m : ℕ) (r : Bool) (ts : List Name) → m ≡ k + 2 → token-nodes nm (suc p) k (map code (bit r ∷ closing ∷ ts)) ≡ token-nodes nm p m (map code ts)
   bit-read p k m r ts e =
       number-read (suc p) k (bit-value r) (bit r) (closing ∷ ts) (coded-bit r .number) ∙ close-read p (suc k) m ts (omega arith)
 
-  open-codes : (p k : ℕ) (cs : List ℕ) → heads nm p k (1 ∷ cs) ≡ heads nm (suc p) (suc k) cs
-  unfolding heads
+  open-codes : (p k : ℕ) (cs : List ℕ) → token-nodes nm p k (1 ∷ cs) ≡ token-nodes nm (suc p) (suc k) cs
+  unfolding token-nodes
   open-codes p k cs = refl
 
-  open-read : (p k m : ℕ) (ts : List Name) → m ≡ suc k → heads nm p k (map code (opening ∷ ts)) ≡ heads nm (suc p) m (map code ts)
+  open-read : (p k m : ℕ) (ts : List Name) → m ≡ suc k → token-nodes nm p k (map code (opening ∷ ts)) ≡ token-nodes nm (suc p) m (map code ts)
   open-read p k m ts e = rw (coded-opening .number, e) (open-codes p k (map code ts))
 
-  ref-read : (p k m : ℕ) (r : Bool) (ts : List Name) → m ≡ k + 3 → heads nm p k (map code (ref-tokens r ts)) ≡ heads nm p m (map code ts)
+  ref-read : (p k m : ℕ) (r : Bool) (ts : List Name) → m ≡ k + 3 → token-nodes nm p k (map code (ref-tokens r ts)) ≡ token-nodes nm p m (map code ts)
   ref-read p k m r ts e = open-read p k (suc k) (bit r ∷ closing ∷ ts) refl ∙ bit-read p (suc k) m r ts (omega arith)
 
-  pars-over : (p k m : ℕ) (ps ts : List Name) → all-told ps → m ≡ k + 2 * length ps → heads nm p k (map code (pars-tokens ps ts)) ≡ heads nm p m (map code ts)
+  pars-over : (p k m : ℕ) (ps ts : List Name) → all-told ps → m ≡ k + 2 * length ps → token-nodes nm p k (map code (pars-tokens ps ts)) ≡ token-nodes nm p m (map code ts)
   pars-over p k m [] ts h e = moved p (map code ts) (omega arith)
   pars-over p k m (q ∷ ps) ts h e =
       over-read p k 3 comma (q ∷ pars-tokens ps ts) (coded-comma .number) refl (omega arith) ∙ over-read p (suc k) 6 q (pars-tokens ps ts) (h .0) refl (omega arith) ∙ pars-over p (suc (suc k)) m ps ts (h .1) (omega arith)
 
   -- The nodes by their first tokens.
-  node-codes : (p k c : ℕ) (cs : List ℕ) → keyed c ≡ true → heads nm p k (c ∷ cs) ≡ head nm (suc p) k (c ∷ cs) ∷ heads nm p (suc k) cs
-  unfolding heads
+  node-codes : (p k c : ℕ) (cs : List ℕ) → keyed c ≡ true → token-nodes nm p k (c ∷ cs) ≡ token-node nm (suc p) k (c ∷ cs) ∷ token-nodes nm p (suc k) cs
+  unfolding token-nodes
   node-codes p k c cs e = rw e
 
-  node-read : (p k c m : ℕ) (t : Name) (us : List Name) (h : Head) → code t ≡ c → keyed c ≡ true → head nm (suc p) k (map code (t ∷ opening ∷ us)) ≡ h → m ≡ k + 2
-      → heads nm p k (map code (t ∷ opening ∷ us)) ≡ h ∷ heads nm (suc p) m (map code us)
+  node-read : (p k c m : ℕ) (t : Name) (us : List Name) (h : TokenNode) → code t ≡ c → keyed c ≡ true → token-node nm (suc p) k (map code (t ∷ opening ∷ us)) ≡ h → m ≡ k + 2
+      → token-nodes nm p k (map code (t ∷ opening ∷ us)) ≡ h ∷ token-nodes nm (suc p) m (map code us)
   node-read p k c m t us h e q s r =
       node-codes p k (code t) (map code (opening ∷ us)) (rw e q)
-      ∙ ap₂ {C = List Head} (λ (x : Head) (l : List Head). x ∷ l) s (open-read p (suc k) m us (omega arith))
+      ∙ ap₂ {C = List TokenNode} (λ (x : TokenNode) (l : List TokenNode). x ∷ l) s (open-read p (suc k) m us (omega arith))
 
-  bare-head : (d k c : ℕ) (t : Name) (us : List Name) (b : Bool) → code t ≡ c → Builds false c → solid-of (map code (t ∷ us)) ≡ b
-      → head nm d k (map code (t ∷ us)) ≡ simple k d c [] b
-  unfolding head
-  bare-head d k c t us b e h s = rw (← s, e, h .1, h .2, h .3) refl
+  bare-token-node : (d k c : ℕ) (t : Name) (us : List Name) (b : Bool) → code t ≡ c → Builds false c → solid-of (map code (t ∷ us)) ≡ b
+      → token-node nm d k (map code (t ∷ us)) ≡ simple k d c [] b
+  unfolding token-node
+  bare-token-node d k c t us b e h s = rw (← s, e, h .1, h .2, h .3) refl
 
-  leaf-head : (d k : ℕ) (t n : Name) (us : List Name) (b : Bool) → code t ≡ 8 → nm (k + 2) ≡ n → solid-of (map code (t ∷ us)) ≡ b
-      → head nm d k (map code (t ∷ us)) ≡ simple k d 8 n b
-  unfolding head
-  leaf-head d k t n us b e a s = rw (← s, ← a, e) refl
+  leaf-token-node : (d k : ℕ) (t n : Name) (us : List Name) (b : Bool) → code t ≡ 8 → nm (k + 2) ≡ n → solid-of (map code (t ∷ us)) ≡ b
+      → token-node nm d k (map code (t ∷ us)) ≡ simple k d 8 n b
+  unfolding token-node
+  leaf-token-node d k t n us b e a s = rw (← s, ← a, e) refl
 
-  replicator-head : (d k c size : ℕ) (t par x y z : Name) (us : List Name) (b : Bool) → code t ≡ c → Builds true c → code z ≡ 16 + size → nm (k + 2) ≡ par
+  replicator-token-node : (d k c size : ℕ) (t par x y z : Name) (us : List Name) (b : Bool) → code t ≡ c → Builds true c → code z ≡ 16 + size → nm (k + 2) ≡ par
       → solid-of (map code (t ∷ opening ∷ x ∷ y ∷ z ∷ us)) ≡ b
-      → head nm d k (map code (t ∷ opening ∷ x ∷ y ∷ z ∷ us)) ≡ copy-node k d c par size b
-  unfolding head
-  replicator-head d k c size t par x y z us b e h g a s =
+      → token-node nm d k (map code (t ∷ opening ∷ x ∷ y ∷ z ∷ us)) ≡ copy-node k d c par size b
+  unfolding token-node
+  replicator-token-node d k c size t par x y z us b e h g a s =
       let q : size ≡ 16 + size - 16 = omega arith in
       rw (← s, ← a, e, h .1, h .2, h .3, q, g) refl
 
-  flow-head : (d k : ℕ) (t n : Name) (ps : List Name) (sw : Bool) (us : List Name) (b : Bool) → code t ≡ 7 → nm (k + 2) ≡ n
+  flow-token-node : (d k : ℕ) (t n : Name) (ps : List Name) (sw : Bool) (us : List Name) (b : Bool) → code t ≡ 7 → nm (k + 2) ≡ n
       → pars-back nm (k + 4) (par-count (map code us)) ≡ ps → strong-of (map code us) ≡ sw → solid-of (map code (t ∷ opening ∷ n ∷ us)) ≡ b
-      → head nm d k (map code (t ∷ opening ∷ n ∷ us)) ≡ flow-node k d n ps sw b
-  unfolding head
-  flow-head d k t n ps sw us b e a q w s = rw (← s, ← w, ← q, e, a) refl
+      → token-node nm d k (map code (t ∷ opening ∷ n ∷ us)) ≡ flow-node k d n ps sw b
+  unfolding token-node
+  flow-token-node d k t n ps sw us b e a q w s = rw (← s, ← w, ← q, e, a) refl
 
   -- Agreement on what stands after a child and its ref, after a member, and after the front of a flow.
   list-on : (k : ℕ) (c : Child) (r : Bool) (us : List Name) → Agrees nm k (child-tokens c (ref-tokens r us)) → Agrees nm (k + (length (child-tokens c []) + 3)) us
@@ -196,9 +196,9 @@ module _ (nm : ℕ → Name) where
   flow-front : (p k : ℕ) (n : Name) (ps : List Name) (sw : Bool) (us : List Name) (b : Bool) → code n ≡ 6 → all-told ps
       → Agrees nm k (key 0 ∷ opening ∷ n ∷ pars-tokens ps (comma ∷ bit sw ∷ closing ∷ opening ∷ us))
       → solid-of (map code (key 0 ∷ opening ∷ n ∷ pars-tokens ps (comma ∷ bit sw ∷ closing ∷ opening ∷ us))) ≡ b
-      → heads nm p k (map code (key 0 ∷ opening ∷ n ∷ pars-tokens ps (comma ∷ bit sw ∷ closing ∷ opening ∷ us)))
+      → token-nodes nm p k (map code (key 0 ∷ opening ∷ n ∷ pars-tokens ps (comma ∷ bit sw ∷ closing ∷ opening ∷ us)))
       ≡ flow-node k (suc p) n (reverse ps) sw b
-      ∷ heads nm (suc p) (k + (7 + 2 * length ps)) (map code us)
+      ∷ token-nodes nm (suc p) (k + (7 + 2 * length ps)) (map code us)
   flow-front p k n ps sw us b e h a s =
       let vs = pars-tokens ps (comma ∷ bit sw ∷ closing ∷ opening ∷ us) in
       let q : pars-back nm (k + 4) (par-count (map code vs)) ≡ reverse ps =
@@ -207,8 +207,8 @@ module _ (nm : ℕ → Name) where
       (on k (key 0 ∷ opening ∷ n ∷ []) vs (key 0 ∷ opening ∷ n ∷ vs) (k + 3) refl refl a)) in
       let c = coded-key 0 (omega arith) .number in
       node-read p k 7 (k + 2) (key 0) (n ∷ vs) (flow-node k (suc p) n (reverse ps) sw b) c refl
-      (flow-head (suc p) k (key 0) n (reverse ps) sw vs b c (a 2 e) q (strong-told ps sw (closing ∷ opening ∷ us) h) s) refl
-      ∙ ap (λ (l : List Head). flow-node k (suc p) n (reverse ps) sw b ∷ l)
+      (flow-token-node (suc p) k (key 0) n (reverse ps) sw vs b c (a 2 e) q (strong-told ps sw (closing ∷ opening ∷ us) h) s) refl
+      ∙ ap (λ (l : List TokenNode). flow-node k (suc p) n (reverse ps) sw b ∷ l)
       (over-read (suc p) (k + 2) 6 n vs e refl (omega arith)
       ∙ pars-over (suc p) (suc (k + 2)) (k + 3 + 2 * length ps) ps (comma ∷ bit sw ∷ closing ∷ opening ∷ us) h (omega arith)
       ∙ over-read (suc p) (k + 3 + 2 * length ps) 3 comma (bit sw ∷ closing ∷ opening ∷ us) (coded-comma .number) refl (omega arith)
@@ -219,16 +219,16 @@ module _ (nm : ℕ → Name) where
   replicator-front : (p k size : ℕ) (y : Way) (par : Name) (us : List Name) (b : Bool) → code par ≡ 6 → code (digits size) ≡ 16 + size
       → nm (k + 2) ≡ par
       → solid-of (map code (replicator-key y ∷ opening ∷ par ∷ colon ∷ digits size ∷ closing ∷ opening ∷ us)) ≡ b
-      → heads nm p k (map code (replicator-key y ∷ opening ∷ par ∷ colon ∷ digits size ∷ closing ∷ opening ∷ us))
+      → token-nodes nm p k (map code (replicator-key y ∷ opening ∷ par ∷ colon ∷ digits size ∷ closing ∷ opening ∷ us))
       ≡ copy-node k (suc p) (replicator-code y) par size b
-      ∷ heads nm (suc p) (k + 7) (map code us)
+      ∷ token-nodes nm (suc p) (k + 7) (map code us)
   replicator-front p k size y par us b e g a s =
-      let h : Head = copy-node k (suc p) (replicator-code y) par size b in
+      let h : TokenNode = copy-node k (suc p) (replicator-code y) par size b in
       node-read p k (replicator-code y) (k + 2) (replicator-key y) (par ∷ colon ∷ digits size ∷ closing ∷ opening ∷ us) h (replicator-told y)
       (replicator-builds y .0)
-      (replicator-head (suc p) k (replicator-code y) size (replicator-key y) par par colon (digits size) (closing ∷ opening ∷ us) b (replicator-told y)
+      (replicator-token-node (suc p) k (replicator-code y) size (replicator-key y) par par colon (digits size) (closing ∷ opening ∷ us) b (replicator-told y)
       (replicator-builds y) g a s) refl
-      ∙ ap (λ (l : List Head). h ∷ l)
+      ∙ ap (λ (l : List TokenNode). h ∷ l)
       (over-read (suc p) (k + 2) 6 par (colon ∷ digits size ∷ closing ∷ opening ∷ us) e refl (omega arith)
       ∙ over-read (suc p) (suc (k + 2)) 4 colon (digits size ∷ closing ∷ opening ∷ us) (coded-colon .number) refl (omega arith)
       ∙ number-read (suc p) (suc (suc (k + 2))) size (digits size) (closing ∷ opening ∷ us) g
@@ -237,22 +237,22 @@ module _ (nm : ℕ → Name) where
 
   mutual
     -- The nodes of a part's tokens, and then those of ts: these are the part's own nodes, and then those of ts.
-    unfolding flow-tokens children-tokens child-tokens member-tokens members-tokens flow-told children-told child-told member-told members-told flow-heads children-heads child-heads member-heads members-heads
+    unfolding flow-tokens children-tokens child-tokens member-tokens members-tokens flow-told children-told child-told member-told members-told flow-token-nodes children-token-nodes child-token-nodes member-token-nodes members-token-nodes
 
     flow-read : (f : Flow) (b : Bool) (p k : ℕ) (ts : List Name) → flow-told f → Agrees nm k (flow-tokens f ts) → follows (map code ts) ≡ b
-        → heads nm p k (map code (flow-tokens f ts)) ≡ flow-heads f b (suc p) k (heads nm p (k + length (flow-tokens f [])) (map code ts))
+        → token-nodes nm p k (map code (flow-tokens f ts)) ≡ flow-token-nodes f b (suc p) k (token-nodes nm p (k + length (flow-tokens f [])) (map code ts))
     flow-read (flow n ps sw c r cs) b p k ts h a s =
         let us = children-tokens cs (closing ∷ ts) in
         let j = k + (7 + 2 * length ps) in
         let i = j + (length (child-tokens c []) + 3) in
         let x = body-on k n ps sw (child-tokens c (ref-tokens r us)) a in
         flow-front p k n ps sw (child-tokens c (ref-tokens r us)) b (h .0) (h .1) a (flow-solid (flow n ps sw c r cs) h ts ∙ s)
-        ∙ ap (λ (l : List Head). flow-node k (suc p) n (reverse ps) sw b ∷ l)
+        ∙ ap (λ (l : List TokenNode). flow-node k (suc p) n (reverse ps) sw b ∷ l)
         (child-read c r (suc p) j (ref-tokens r us) (h .2) x (ref-follows r us)
-        ∙ ap (child-heads c r (suc (suc p)) j)
+        ∙ ap (child-token-nodes c r (suc (suc p)) j)
         (ref-read (suc p) (j + length (child-tokens c [])) i r us (omega arith)
         ∙ children-read cs (suc p) i (closing ∷ ts) (h .3) (list-on j c r us x)
-        ∙ ap (children-heads cs (suc (suc p)) i)
+        ∙ ap (children-token-nodes cs (suc (suc p)) i)
         (close-read p (i + length (children-tokens cs [])) (k + length (flow-tokens (flow n ps sw c r cs) [])) ts
         (omega (
           arith,
@@ -262,28 +262,28 @@ module _ (nm : ℕ → Name) where
         )))))
 
     children-read : (cs : Children) (p k : ℕ) (ts : List Name) → children-told cs → Agrees nm k (children-tokens cs ts)
-        → heads nm p k (map code (children-tokens cs ts)) ≡ children-heads cs (suc p) k (heads nm p (k + length (children-tokens cs [])) (map code ts))
+        → token-nodes nm p k (map code (children-tokens cs ts)) ≡ children-token-nodes cs (suc p) k (token-nodes nm p (k + length (children-tokens cs [])) (map code ts))
     children-read none p k ts h a = moved p (map code ts) (omega arith)
     children-read (next c r cs) p k ts h a =
         let us = children-tokens cs ts in
         let i = k + (length (child-tokens c []) + 3) in
         child-read c r p k (ref-tokens r us) (h .0) a (ref-follows r us)
-        ∙ ap (child-heads c r (suc p) k)
+        ∙ ap (child-token-nodes c r (suc p) k)
         (ref-read p (k + length (child-tokens c [])) i r us (omega arith)
         ∙ children-read cs p i ts (h .1) (list-on k c r us a)
-        ∙ ap (children-heads cs (suc p) i) (moved p (map code ts) (omega (arith, child-long c (ref-tokens r (children-tokens cs []))))))
+        ∙ ap (children-token-nodes cs (suc p) i) (moved p (map code ts) (omega (arith, child-long c (ref-tokens r (children-tokens cs []))))))
 
     child-read : (c : Child) (b : Bool) (p k : ℕ) (ts : List Name) → child-told c → Agrees nm k (child-tokens c ts) → follows (map code ts) ≡ b
-        → heads nm p k (map code (child-tokens c ts)) ≡ child-heads c b (suc p) k (heads nm p (k + length (child-tokens c [])) (map code ts))
+        → token-nodes nm p k (map code (child-tokens c ts)) ≡ child-token-nodes c b (suc p) k (token-nodes nm p (k + length (child-tokens c [])) (map code ts))
     child-read (plain m) b p k ts h a s = member-read m b p k ts h a s
     child-read (loop m) b p k ts h a s =
         let us = member-tokens m (closing ∷ ts) in
         let c = coded-key 8 (omega arith) .number in
         node-read p k 15 (k + 2) (key 8) us (simple k (suc p) 15 [] b) c refl
-        (bare-head (suc p) k 15 (key 8) (opening ∷ us) b c (refl, refl, refl, refl) (child-solid (loop m) h ts ∙ s)) refl
-        ∙ ap (λ (l : List Head). simple k (suc p) 15 [] b ∷ l)
+        (bare-token-node (suc p) k 15 (key 8) (opening ∷ us) b c (refl, refl, refl, refl) (child-solid (loop m) h ts ∙ s)) refl
+        ∙ ap (λ (l : List TokenNode). simple k (suc p) 15 [] b ∷ l)
         (member-read m false (suc p) (k + 2) (closing ∷ ts) h (on k (key 8 ∷ opening ∷ []) us (key 8 ∷ opening ∷ us) (k + 2) refl refl a) (closing-follows ts)
-        ∙ ap (member-heads m false (suc (suc p)) (k + 2))
+        ∙ ap (member-token-nodes m false (suc (suc p)) (k + 2))
         (close-read p (k + 2 + length (member-tokens m [])) (k + length (child-tokens (loop m) [])) ts (omega (arith, member-long m (closing ∷ [])))))
     child-read (group y e f ms) b p k ts h a s =
         let us = members-tokens ms (closing ∷ ts) in
@@ -294,14 +294,14 @@ module _ (nm : ℕ → Name) where
         let x = on k (group-key y ∷ opening ∷ []) ws (group-key y ∷ opening ∷ ws) (k + 2) refl refl a in
         let z = member-on (k + 2) e vs x in
         node-read p k (group-code y) (k + 2) (group-key y) ws (simple k (suc p) (group-code y) [] b) (group-told y) (group-builds y .0)
-        (bare-head (suc p) k (group-code y) (group-key y) (opening ∷ ws) b (group-told y) (group-builds y) (child-solid (group y e f ms) h ts ∙ s)) refl
-        ∙ ap (λ (l : List Head). simple k (suc p) (group-code y) [] b ∷ l)
+        (bare-token-node (suc p) k (group-code y) (group-key y) (opening ∷ ws) b (group-told y) (group-builds y) (child-solid (group y e f ms) h ts ∙ s)) refl
+        ∙ ap (λ (l : List TokenNode). simple k (suc p) (group-code y) [] b ∷ l)
         (member-read e false (suc p) (k + 2) vs (h .0) x (member-follows f us)
-        ∙ ap (member-heads e false (suc (suc p)) (k + 2))
+        ∙ ap (member-token-nodes e false (suc (suc p)) (k + 2))
         (member-read f false (suc p) i us (h .1) z (members-follows ms (closing ∷ ts) (closing-follows ts))
-        ∙ ap (member-heads f false (suc (suc p)) i)
+        ∙ ap (member-token-nodes f false (suc (suc p)) i)
         (members-read ms (suc p) j (closing ∷ ts) (h .2) (member-on i f us z) (closing-follows ts)
-        ∙ ap (members-heads ms (suc (suc p)) j)
+        ∙ ap (members-token-nodes ms (suc (suc p)) j)
         (close-read p (j + length (members-tokens ms [])) (k + length (child-tokens (group y e f ms) [])) ts
         (omega (
           arith,
@@ -314,33 +314,33 @@ module _ (nm : ℕ → Name) where
         let front = replicator-key y ∷ opening ∷ par ∷ colon ∷ digits size ∷ closing ∷ opening ∷ [] in
         replicator-front p k size y par us b (h .0) (h .1) (a 2 (h .0)) (child-solid (replicator y par size m) h ts ∙ s)
         ∙ ap
-        (λ (l : List Head). copy-node k (suc p) (replicator-code y) par size b ∷ l)
+        (λ (l : List TokenNode). copy-node k (suc p) (replicator-code y) par size b ∷ l)
         (member-read m false (suc p) (k + 7) (closing ∷ ts) (h .2) (on k front us (front ++ us) (k + 7) refl refl a) (closing-follows ts)
-        ∙ ap (member-heads m false (suc (suc p)) (k + 7))
+        ∙ ap (member-token-nodes m false (suc (suc p)) (k + 7))
         (close-read p (k + 7 + length (member-tokens m [])) (k + length (child-tokens (replicator y par size m) [])) ts
         (omega (arith, member-long m (closing ∷ [])))))
 
     member-read : (m : Member) (b : Bool) (p k : ℕ) (ts : List Name) → member-told m → Agrees nm k (member-tokens m ts) → follows (map code ts) ≡ b
-        → heads nm p k (map code (member-tokens m ts)) ≡ member-heads m b (suc p) k (heads nm p (k + length (member-tokens m [])) (map code ts))
+        → token-nodes nm p k (map code (member-tokens m ts)) ≡ member-token-nodes m b (suc p) k (token-nodes nm p (k + length (member-tokens m [])) (map code ts))
     member-read (leaf n) b p k ts h a s =
         let c = coded-key 1 (omega arith) .number in
         node-read p k 8 (k + 2) (key 1) (n ∷ closing ∷ ts) (simple k (suc p) 8 n b) c refl
-        (leaf-head (suc p) k (key 1) n (opening ∷ n ∷ closing ∷ ts) b c (a 2 h) (member-solid (leaf n) h ts ∙ s)) refl
-        ∙ ap (λ (l : List Head). simple k (suc p) 8 n b ∷ l)
+        (leaf-token-node (suc p) k (key 1) n (opening ∷ n ∷ closing ∷ ts) b c (a 2 h) (member-solid (leaf n) h ts ∙ s)) refl
+        ∙ ap (λ (l : List TokenNode). simple k (suc p) 8 n b ∷ l)
         (over-read (suc p) (k + 2) 6 n (closing ∷ ts) h refl (omega arith) ∙ close-read p (suc (k + 2)) (k + 4) ts (omega arith))
     member-read (inner f) b p k ts h a s = flow-read f b p k ts h a s
 
     members-read : (ms : Members) (p k : ℕ) (ts : List Name) → members-told ms → Agrees nm k (members-tokens ms ts) → follows (map code ts) ≡ false
-        → heads nm p k (map code (members-tokens ms ts)) ≡ members-heads ms (suc p) k (heads nm p (k + length (members-tokens ms [])) (map code ts))
+        → token-nodes nm p k (map code (members-tokens ms ts)) ≡ members-token-nodes ms (suc p) k (token-nodes nm p (k + length (members-tokens ms [])) (map code ts))
     members-read end p k ts h a s = moved p (map code ts) (omega arith)
     members-read (also m ms) p k ts h a s =
         let us = members-tokens ms ts in
         let i = k + length (member-tokens m []) in
         member-read m false p k us (h .0) a (members-follows ms ts s)
-        ∙ ap (member-heads m false (suc p) k)
+        ∙ ap (member-token-nodes m false (suc p) k)
         (members-read ms p i ts (h .1) (member-on k m us a) s
-        ∙ ap (members-heads ms (suc p) i) (moved p (map code ts) (omega (arith, member-long m (members-tokens ms [])))))
+        ∙ ap (members-token-nodes ms (suc p) i) (moved p (map code ts) (omega (arith, member-long m (members-tokens ms [])))))
 
-pub tree-heads : (d : Flow) → Grammatical d → (nm : ℕ → Name) → Agrees nm 0 (flow-tokens d []) → heads nm 0 0 (map code (flow-tokens d [])) ≡ flow-heads d false 1 0 []
-unfolding heads
-tree-heads d g nm a = flow-read nm d false 0 0 [] (flow-tell d (g .names) (g .sizes)) a refl
+pub tree-token-nodes : (d : Flow) → Grammatical d → (nm : ℕ → Name) → Agrees nm 0 (flow-tokens d []) → token-nodes nm 0 0 (map code (flow-tokens d [])) ≡ flow-token-nodes d false 1 0 []
+unfolding token-nodes
+tree-token-nodes d g nm a = flow-read nm d false 0 0 [] (flow-tell d (g .names) (g .sizes)) a refl

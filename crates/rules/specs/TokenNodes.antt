@@ -23,7 +23,7 @@ copying c = between 12 14 c
 
 -- A node: the number of its keyword's token, its depth, its keyword; its name, or its par if it is a replicator; a
 -- replicator's size; a flow's pars, the last of them first, and whether its sw is 1; whether it is a solid child.
-pub record Head : Type 0 where
+pub record TokenNode : Type 0 where
   pub key : ℕ
   pub depth : ℕ
   pub code : ℕ
@@ -64,8 +64,8 @@ pars-back nm k zero = []
 pars-back nm k (suc m) = nm (k + (m + m)) ∷ pars-back nm k m
 
 -- The node at depth d whose keyword is the token k, the first of cs; nm gives the name that a token is.
-unfoldable pub head : (ℕ → Name) → ℕ → ℕ → List ℕ → Head
-head nm d k cs = record {
+unfoldable pub token-node : (ℕ → Name) → ℕ → ℕ → List ℕ → TokenNode
+token-node nm d k cs = record {
   key = k;
   depth = d;
   code = getD cs 0 0;
@@ -81,9 +81,9 @@ abbrev pub opened : ℕ → ℕ → ℕ
 opened p c = cond (eqb c 1) (suc p) (cond (eqb c 2) (p - 1) p)
 
 -- The nodes of the tokens cs, of which the first has the number k, inside p parentheses.
-unfoldable pub heads : (ℕ → Name) → ℕ → ℕ → List ℕ → List Head
-heads nm p k [] = []
-heads nm p k (c ∷ cs) = cond (keyed c) (head nm (suc p) k (c ∷ cs) ∷ heads nm p (suc k) cs) (heads nm (opened p c) (suc k) cs)
+unfoldable pub token-nodes : (ℕ → Name) → ℕ → ℕ → List ℕ → List TokenNode
+token-nodes nm p k [] = []
+token-nodes nm p k (c ∷ cs) = cond (keyed c) (token-node nm (suc p) k (c ∷ cs) ∷ token-nodes nm p (suc k) cs) (token-nodes nm (opened p c) (suc k) cs)
 
 -- The same by two columns of numbers, as the code holds them: the keywords' tokens and the depths.
 unfoldable pub keys : ℕ → List ℕ → List ℕ
@@ -94,10 +94,10 @@ unfoldable pub depths : ℕ → List ℕ → List ℕ
 depths p [] = []
 depths p (c ∷ cs) = cond (keyed c) (suc p ∷ depths p cs) (depths (opened p c) cs)
 
-unfoldable pub by-columns : (ℕ → Name) → List ℕ → List ℕ → List ℕ → List Head
+unfoldable pub by-columns : (ℕ → Name) → List ℕ → List ℕ → List ℕ → List TokenNode
 by-columns nm cs [] ds = []
 by-columns nm cs (k ∷ ks) [] = []
-by-columns nm cs (k ∷ ks) (d ∷ ds) = head nm d k (drop k cs) ∷ by-columns nm cs ks ds
+by-columns nm cs (k ∷ ks) (d ∷ ds) = token-node nm d k (drop k cs) ∷ by-columns nm cs ks ds
 
 -- The name that a token is, by its place in the text.
 abbrev pub name-in : List ℕ → List ℕ → ℕ → Name
