@@ -1,3 +1,6 @@
 pub mod Truth
 pub mod Filled
 pub mod Each
+pub mod Fields
+pub mod Decided
+pub mod Compared

@@ -1,8 +1,33 @@
 ghost use mathlib.Core.Path.{_≡_};
-ghost use lib.ListN.{getD, set};
+ghost use Prim.Native.Nat.{_+_, _^_, _<_};
+ghost use lib.ListN.{length, getD, set};
+ghost use Rattle.base.specs.Equal.{same};
+ghost use Rattle.base.specs.Packed.{field, put-word as put-word-of};
 
-// A number of a column; 0 past its end.
+// A byte and a number of 16 bits, to count with.
+pub fn wide(b: u8) -> usize
+    ensures { λ r. ⌜ (r ≡ b) × (r < 256) ⌝ }
+{
+    b as usize
+}
+
+pub fn wide_short(x: u16) -> usize
+    ensures { λ r. ⌜ (r ≡ x) × (r < 65536) ⌝ }
+{
+    x as usize
+}
+
+// A number of a column; 0 past its end. One for each width.
 pub fn byte(column: &[u8], i: usize) -> u8
+    ensures { λ r. ⌜ r ≡ getD (now (column .entry)) i 0 ⌝ }
+{
+    if column.len() <= i {
+        return 0;
+    }
+    column[i]
+}
+
+pub fn short(column: &[u16], i: usize) -> u16
     ensures { λ r. ⌜ r ≡ getD (now (column .entry)) i 0 ⌝ }
 {
     if column.len() <= i {
@@ -20,7 +45,7 @@ pub fn number(column: &[usize], i: usize) -> usize
     column[i]
 }
 
-// A store that does nothing past the end of what is lent.
+// A store that does nothing past the end of what is lent. One for each width.
 pub fn put_byte(bytes: &mut [u8], n: usize, b: u8)
     ensures { λ r. ⌜ now (bytes .exit) ≡ set (now (bytes .entry)) n b ⌝ }
 {
@@ -30,6 +55,15 @@ pub fn put_byte(bytes: &mut [u8], n: usize, b: u8)
     bytes[n] = b;
 }
 
+pub fn put_short(column: &mut [u16], i: usize, x: u16)
+    ensures { λ r. ⌜ now (column .exit) ≡ set (now (column .entry)) i x ⌝ }
+{
+    if column.len() <= i {
+        return;
+    }
+    column[i] = x;
+}
+
 pub fn put_number(column: &mut [usize], i: usize, v: usize)
     ensures { λ r. ⌜ now (column .exit) ≡ set (now (column .entry)) i v ⌝ }
 {
@@ -37,4 +71,47 @@ pub fn put_number(column: &mut [usize], i: usize, v: usize)
         return;
     }
     column[i] = v;
+}
+
+// The 16 and the 32 bits at i, most significant byte first.
+pub fn half(bytes: &[u8], i: usize) -> usize
+    requires { ⌜ i + 1 < length (now bytes) ⌝ }
+    ensures { λ r. ⌜ (r ≡ field 2 (now (bytes .entry)) i) × (r < 65536) ⌝ }
+{
+    wide(bytes[i]) * 256 + wide(bytes[i + 1])
+}
+
+pub fn word(bytes: &[u8], i: usize) -> usize
+    requires { ⌜ i + 3 < length (now bytes) ⌝ }
+    ensures { λ r. ⌜ (r ≡ field 4 (now (bytes .entry)) i) × (r < 2 ^ 32) ⌝ }
+{
+    half(bytes, i) * 65536 + half(bytes, i + 2)
+}
+
+// 32 bits stored at i, as far as the bytes go.
+pub fn put_word(bytes: &mut [u8], i: usize, w: usize)
+    requires { ⌜ i < 65536 ⌝ }
+    ensures { λ _. ⌜ now (bytes .exit) ≡ put-word-of (now (bytes .entry)) i w ⌝ }
+{
+    put_byte(bytes, i, (w / 16777216 % 256) as u8);
+    put_byte(bytes, i + 1, (w / 65536 % 256) as u8);
+    put_byte(bytes, i + 2, (w / 256 % 256) as u8);
+    put_byte(bytes, i + 3, (w % 256) as u8);
+}
+
+// Whether two runs of bytes are the same.
+pub fn equal(a: &[u8], b: &[u8]) -> bool
+    ensures { λ r. ⌜ r ≡ same (now (a .entry)) (now (b .entry)) ⌝ }
+{
+    if a.len() != b.len() {
+        return false;
+    }
+    let mut i = 0;
+    while i < b.len() {
+        if a[i] != b[i] {
+            return false;
+        }
+        i += 1;
+    }
+    true
 }
