@@ -1,10 +1,11 @@
 -- A number of bytes, read byte by byte: one law for every width.
-use mathlib.Core.Path.{_≡_}
+use mathlib.Core.Path.{_≡_, refl}
 use mathlib.Core.List.{List}
-use Prim.Native.Nat.{ℕ, zero, suc, _+_, _*_, _/_, _%_, _^_}
+use Prim.Native.Nat.{ℕ, zero, suc, _+_, _*_, _/_, _%_, _^_, _≤_}
 use native.Mathlib.Nat.{zero-add, add-zero, mul-assoc, pow-suc}
 use native.Mathlib.Omega.{arith}
-use lib.ListN.{getD, set}
+use lib.ListN.{length, getD, set, List·getD-eq-default}
+use lib.Seq.{set-out}
 use Rattle.base.specs.Packed.{field, put-word}
 
 pub field-one : (t : List ℕ) (at a : ℕ) → a ≡ getD t at 0 → a ≡ field 1 t at
@@ -41,3 +42,18 @@ pub word-put : (i w : ℕ) (o p q r s : List ℕ)
     → s ≡ put-word o i w
 unfolding put-word
 word-put i w o p q r s a b c d = rw (d, c, b, a)
+
+-- Past the end there are only zeros, and nothing is stored.
+past-zero : (s : List ℕ) (i : ℕ) → length s ≤ i → getD s i 0 ≡ 0
+past-zero s i h = List·getD-eq-default s 0 h
+
+pub field-past : (n : ℕ) (s : List ℕ) (at : ℕ) → length s ≤ at → 0 ≡ field n s at
+unfolding field
+field-past zero s at h = refl
+field-past (suc n) s at h = rw (← (field-past n s at h), past-zero s (at + n) (omega arith))
+
+pub word-past : (o : List ℕ) (i w : ℕ) → length o ≤ i → o ≡ put-word o i w
+unfolding put-word
+word-past o i w h =
+    rw (set-out o i (w / 16777216 % 256) (omega arith), set-out o (i + 1) (w / 65536 % 256) (omega arith), set-out o (i + 2) (w / 256 % 256) (omega arith),
+    set-out o (i + 3) (w % 256) (omega arith))

@@ -1,6 +1,6 @@
 ghost use mathlib.Core.Path.{_≡_};
-ghost use Prim.Native.Nat.{_+_, _^_, _<_};
-ghost use lib.ListN.{length, getD, set};
+ghost use Prim.Native.Nat.{_^_, _<_};
+ghost use lib.ListN.{getD, set};
 ghost use Rattle.base.specs.Equal.{same};
 ghost use Rattle.base.specs.Packed.{field, put-word as put-word-of};
 
@@ -73,26 +73,32 @@ pub fn put_number(column: &mut [usize], i: usize, v: usize)
     column[i] = v;
 }
 
-// The 16 and the 32 bits at i, most significant byte first.
+// The 16 and the 32 bits at i, most significant byte first; past the end there are only zeros.
 pub fn half(bytes: &[u8], i: usize) -> usize
-    requires { ⌜ i + 1 < length (now bytes) ⌝ }
     ensures { λ r. ⌜ (r ≡ field 2 (now (bytes .entry)) i) × (r < 65536) ⌝ }
 {
-    wide(bytes[i]) * 256 + wide(bytes[i + 1])
+    if bytes.len() <= i {
+        return 0;
+    }
+    wide(bytes[i]) * 256 + wide(byte(bytes, i + 1))
 }
 
 pub fn word(bytes: &[u8], i: usize) -> usize
-    requires { ⌜ i + 3 < length (now bytes) ⌝ }
     ensures { λ r. ⌜ (r ≡ field 4 (now (bytes .entry)) i) × (r < 2 ^ 32) ⌝ }
 {
+    if bytes.len() <= i {
+        return 0;
+    }
     half(bytes, i) * 65536 + half(bytes, i + 2)
 }
 
 // 32 bits stored at i, as far as the bytes go.
 pub fn put_word(bytes: &mut [u8], i: usize, w: usize)
-    requires { ⌜ i < 65536 ⌝ }
     ensures { λ _. ⌜ now (bytes .exit) ≡ put-word-of (now (bytes .entry)) i w ⌝ }
 {
+    if bytes.len() <= i {
+        return;
+    }
     put_byte(bytes, i, (w / 16777216 % 256) as u8);
     put_byte(bytes, i + 1, (w / 65536 % 256) as u8);
     put_byte(bytes, i + 2, (w / 256 % 256) as u8);
