@@ -55,5 +55,9 @@ field-past (suc n) s at h = rw (← (field-past n s at h), past-zero s (at + n) 
 pub word-past : (o : List ℕ) (i w : ℕ) → length o ≤ i → o ≡ put-word o i w
 unfolding put-word
 word-past o i w h =
-    rw (set-out o i (w / 16777216 % 256) (omega arith), set-out o (i + 1) (w / 65536 % 256) (omega arith), set-out o (i + 2) (w / 256 % 256) (omega arith),
-    set-out o (i + 3) (w % 256) (omega arith))
+    rw (
+      set-out o i (w / 16777216 % 256) (omega arith),
+      set-out o (i + 1) (w / 65536 % 256) (omega arith),
+      set-out o (i + 2) (w / 256 % 256) (omega arith),
+      set-out o (i + 3) (w % 256) (omega arith),
+    )
