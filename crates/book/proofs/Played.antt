@@ -35,11 +35,11 @@ use Rattle.book.specs.Calls.{Call, step, finished, stepped, reported}
 use Rattle.book.specs.Marked.{marked, marked-all, record-after}
 use Rattle.book.specs.Book.{Step-entry, begins, past, below, Finish-entry, whole, part, Admits}
 use Rattle.book.specs.Plays.{play, Plays-by-book}
-use Rattle.book.specs.Tells.{Tells}
+use Rattle.agreement.specs.Agrees.{Agrees}
 use Rattle.book.proofs.Once.{blank-begins, book-begins}
 use Rattle.book.proofs.Marks.{marked-words, marked-bit, marked-more, record-words, record-bit, record-past}
 
-module _ (d : Flow) (k : Keeps d) (few : flow-events d ≤ 512) (t : List ℕ) (T : Tells (expand d) (flow-events d) t) where
+module _ (d : Flow) (k : Keeps d) (few : flow-events d ≤ 512) (t : List ℕ) (T : Agrees (expand d) (flow-events d) t) where
   -- ---- the record after a book that begins a whole run
   -- Neither 12 nor 13: the table is sound, and no bit at or past E is set.
   module _ (book : List ℕ) (h : Begins (expand d) book) where
@@ -141,6 +141,6 @@ module _ (d : Flow) (k : Keeps d) (few : flow-events d ≤ 512) (t : List ℕ) (
   )
 
 -- A table that tells the process of a diagram is played by the book of the diagram.
-pub tells-play : (d : Flow) → Keeps d → flow-events d ≤ 512 → (t : List ℕ) → Tells (expand d) (flow-events d) t → Plays-by-book d t
+pub agreeing-plays : (d : Flow) → Keeps d → flow-events d ≤ 512 → (t : List ℕ) → Agrees (expand d) (flow-events d) t → Plays-by-book d t
 unfolding marked-all
-tells-play d k few t T calls = plays-on d k few t T calls [] (blank-begins d)
+agreeing-plays d k few t T calls = plays-on d k few t T calls [] (blank-begins d)

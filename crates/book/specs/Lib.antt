@@ -2,4 +2,3 @@ pub mod Calls
 pub mod Marked
 pub mod Book
 pub mod Plays
-pub mod Tells

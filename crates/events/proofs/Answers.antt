@@ -35,11 +35,11 @@ use Rattle.labels.specs.Seeks.{spot-of}
 use Rattle.labels.specs.declared.Spot.{Spot}
 use Rattle.labels.proofs.Sought.{Labels, nothing}
 use Rattle.labels.proofs.Labelled.{labelled}
-use Rattle.events.specs.Reading.{Reading, drawing, away}
+use Rattle.reader.specs.Reading.{Reading, drawing, no-drawing}
 use Rattle.events.specs.Labels.{label, label-of, Valued}
 use Rattle.events.specs.Names.{name-of, Placed, Part, Named}
 use Rattle.events.specs.Listing.{first-line, spaced, line, lines, listing, Listed}
-use Rattle.events.specs.Spots.{Word, passed-on, away-line, spot-label, spaced-values, spot-line, spot-lines, spot-listing}
+use Rattle.events.specs.Spots.{Word, passed-on, refusal-line, spot-label, spaced-values, spot-line, spot-lines, spot-listing}
 use Rattle.events.specs.declared.Label.{Label}
 use Rattle.events.specs.declared.Label.the-variants.{Leaf, Reset, Refused}
 use Rattle.events.proofs.Short.{Short, each-at, events-short}
@@ -144,12 +144,12 @@ valued-drawn text o e r q h g =
 
 -- A text that was turned away, by what reading answered.
 abbrev refused-at-reading : (text : List ℕ) (o : ReadResult) (number place : ℕ) → o ≡ read-of text → o .answer ≡ Unread number place → Reading text
-refused-at-reading text o number place q h = away number place (refused-exactly text number place .0 (sym (ap (λ (x : ReadResult). x .answer) q) ∙ h))
+refused-at-reading text o number place q h = no-drawing number place (refused-exactly text number place .0 (sym (ap (λ (x : ReadResult). x .answer) q) ∙ h))
 
-pub valued-away : (text : List ℕ) (o : ReadResult) (e number place : ℕ) (r : Label) → o ≡ read-of text → o .answer ≡ Unread number place → r ≡ passed-on (o .answer)
+pub valued-refused : (text : List ℕ) (o : ReadResult) (e number place : ℕ) (r : Label) → o ≡ read-of text → o .answer ≡ Unread number place → r ≡ passed-on (o .answer)
     → Valued text e r
 unfolding label-of
-valued-away text o e number place r q h g =
+valued-refused text o e number place r q h g =
     record { reading = refused-at-reading text o number place q h; its-label = g ∙ ap passed-on h }
 
 -- The name call. A name is not empty, so it stands inside the text.
@@ -164,10 +164,10 @@ named-inside text at n q h =
     (λ t. let z = ap length (sym q ∙ no-word text at (ltb-true (length text) at t)) in omega arith)
     (λ t. ltb-false (length text) at t)
 
-pub named-away : (text r : RefT (List ℕ)) (o : ReadResult) (e number place : ℕ) → o ≡ read-of (now text) → o .answer ≡ Unread number place → Part text r 0 0 → now r ≡ []
+pub named-refused : (text r : RefT (List ℕ)) (o : ReadResult) (e number place : ℕ) → o ≡ read-of (now text) → o .answer ≡ Unread number place → Part text r 0 0 → now r ≡ []
     → Named text e r
 unfolding name-of Placed
-named-away text r o e number place q h p n =
+named-refused text r o e number place q h p n =
     record { reading = refused-at-reading (now text) o number place q h; its-name = n; place = 0; its-place = refl; its-part = p }
 
 pub named-past : (text r : RefT (List ℕ)) (o : ReadResult) (e : ℕ) → o ≡ read-of (now text) → o .answer ≡ Done → o .diagram .events ≤ e → Part text r 0 0 → now r ≡ []
@@ -259,8 +259,8 @@ listed-drawn text lent left o r q h m w =
     let d = drawn text o q h in
     listed text lent left (drawing (d .tree) (d .its-limits)) (spot-listing text (o .diagram)) r (listing-told text o d) m w
 
-pub listed-away : (text lent left : List ℕ) (o : ReadResult) (number place r : ℕ) → o ≡ read-of text → o .answer ≡ Unread number place → length lent ≡ 32768
-    → buffer r left ≡ put-all (away-line (o .answer)) (buffer 0 lent) → Listed text lent r left
+pub listed-refused : (text lent left : List ℕ) (o : ReadResult) (number place r : ℕ) → o ≡ read-of text → o .answer ≡ Unread number place → length lent ≡ 32768
+    → buffer r left ≡ put-all (refusal-line (o .answer)) (buffer 0 lent) → Listed text lent r left
 unfolding listing
-listed-away text lent left o number place r q h m w =
-    listed text lent left (refused-at-reading text o number place q h) (away-line (o .answer)) r (ap away-line h) m w
+listed-refused text lent left o number place r q h m w =
+    listed text lent left (refused-at-reading text o number place q h) (refusal-line (o .answer)) r (ap refusal-line h) m w

@@ -17,7 +17,7 @@ use Rattle.reader.proofs.Bounds.{read-bounded}
 use Rattle.process.specs.Process.{Event, events}
 use Rattle.process.specs.Expand.{expand}
 use Rattle.process.proofs.Events.{events-counted}
-use Rattle.events.specs.Reading.{Reading, drawing, away}
+use Rattle.reader.specs.Reading.{Reading, drawing, no-drawing}
 use Rattle.events.specs.Listing.{first-line, refused-line, spaced, mark, line, lines, listing}
 use Rattle.events.proofs.Short.{Each, Small, Short, events-short}
 
@@ -72,4 +72,4 @@ listing-short {text} (drawing d a) =
     let c = events-counted d (a .keeps .sizes) in
     simp length-append
     (omega (arith, first-short (flow-events d) (flow-copies d) (omega arith) (omega arith), lines-short 0 (events (expand d)) (omega arith) (events-short text d a)))
-listing-short {text} (away n p r) = let h = near text n p r in omega (arith, refused-short n p (omega arith) (omega arith))
+listing-short {text} (no-drawing n p r) = let h = near text n p r in omega (arith, refused-short n p (omega arith) (omega arith))

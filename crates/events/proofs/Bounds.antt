@@ -20,7 +20,7 @@ use Rattle.process.specs.Expand.{expand}
 use Rattle.labels.specs.Values.{values, packed}
 use Rattle.labels.specs.declared.Values.{Values}
 use Rattle.labels.proofs.Stood.{one-place}
-use Rattle.events.specs.Reading.{Reading, drawing, away}
+use Rattle.reader.specs.Reading.{Reading, drawing, no-drawing}
 use Rattle.events.specs.Labels.{label, label-of, Valued}
 use Rattle.events.specs.Names.{name-of, Placed, Named}
 use Rattle.events.specs.Listing.{listing, Listed}
@@ -28,7 +28,8 @@ use Rattle.events.specs.Reports.{marked, event-marked, report}
 use Rattle.events.specs.Bounds.{Name-bounded, Within, Reason, unread, no-event, Values-bounded, result, refusal, List-bounded}
 use Rattle.events.specs.declared.Label.{Label}
 use Rattle.events.specs.declared.Label.the-variants.{Leaf, Reset, Refused}
-use Rattle.events.proofs.Read.{Same, same-drawing, same-away, one-reading, one-listing}
+use Rattle.reader.proofs.Reading.{Same, same-drawing, same-no-drawing, one-reading}
+use Rattle.events.proofs.Read.{one-listing}
 use Rattle.events.proofs.Short.{Each, Small, Short}
 use Rattle.events.proofs.Bound.{near, listing-short}
 use Rattle.events.proofs.Answers.{short-at}
@@ -90,7 +91,7 @@ reading-bounded {text} (drawing d a) e r q =
       one-of = inr refl;
       near = omega arith;
     })
-reading-bounded {text} (away number place h) e r q =
+reading-bounded {text} (no-drawing number place h) e r q =
     let n = near text number place h in
     refusal
     record {
@@ -137,7 +138,7 @@ refused-told (Refused d j) c k e = ap₂ Refused (ap (λ (x : Report). x .number
 -- And there is no other: the relation says all that the contract of `events::values` says.
 refusal-valued : (text : List ℕ) (e : ℕ) (r : Label) (c k : ℕ) → r ≡ Refused c k → Reason text e c k → Valued text e r
 unfolding label-of
-refusal-valued text e r c k q (unread t) = record { reading = away c k t; its-label = q }
+refusal-valued text e r c k q (unread t) = record { reading = no-drawing c k t; its-label = q }
 refusal-valued text e r c k q (no-event d a h x y) =
     record { reading = drawing d a; its-label = q ∙ (ap₂ Refused x y ∙ rw (le-ltb e (flow-events d) h)) }
 
@@ -157,7 +158,7 @@ name-short {text} (drawing d a) e =
     by-cases (ltb e (flow-events d))
     (λ t. rw t (short-at text d a e (ltb-true e (flow-events d) t) .name))
     (λ t. rw t (omega arith))
-name-short {text} (away number place h) e = omega arith
+name-short {text} (no-drawing number place h) e = omega arith
 
 -- It has a byte, or stands at the text's begin.
 name-near : {text : List ℕ} (w : Reading text) (e place : ℕ) → Placed w e place → (1 ≤ length (name-of w e)) ⊎ (place ≡ 0)
@@ -166,7 +167,7 @@ name-near {text} (drawing d a) e place p =
     by-cases (ltb e (flow-events d))
     (λ t. inl (rw t (short-at text d a e (ltb-true e (flow-events d) t) .some)))
     (λ t. inr (p .1 (ltb-false e (flow-events d) t)))
-name-near {text} (away number at h) e place p = inr p
+name-near {text} (no-drawing number at h) e place p = inr p
 
 pub name-bounded : (text : RefT (List ℕ)) (e : ℕ) (r : RefT (List ℕ)) → Named text e r → Name-bounded text r
 name-bounded text e r n =
@@ -184,12 +185,12 @@ name-bounded text e r n =
 same-label : {text : List ℕ} {v w : Reading text} (e : ℕ) → Same v w → label-of v e ≡ label-of w e
 unfolding label-of
 same-label e (same-drawing d a b) = refl
-same-label e (same-away n p r s) = refl
+same-label e (same-no-drawing n p r s) = refl
 
 same-name : {text : List ℕ} {v w : Reading text} (e : ℕ) → Same v w → name-of v e ≡ name-of w e
 unfolding name-of
 same-name e (same-drawing d a b) = refl
-same-name e (same-away n p r s) = refl
+same-name e (same-no-drawing n p r s) = refl
 
 pub one-label : (text : List ℕ) (e : ℕ) (r s : Label) → Valued text e r → Valued text e s → r ≡ s
 one-label text e r s v w = v .its-label ∙ (same-label e (one-reading (v .reading) (w .reading)) ∙ sym (w .its-label))
@@ -200,7 +201,7 @@ same-place {text} e p q (same-drawing d a b) x y =
     by-cases (ltb e (flow-events d))
     (λ t. let l = ltb-true e (flow-events d) t in one-place text d a (event-of (expand d) e .name) p q (x .0 l) (y .0 l))
     (λ t. let l = ltb-false e (flow-events d) t in x .1 l ∙ sym (y .1 l))
-same-place e p q (same-away n k r s) x y = x ∙ sym y
+same-place e p q (same-no-drawing n k r s) x y = x ∙ sym y
 
 -- A name's bytes, and its address.
 pub one-name : (text : RefT (List ℕ)) (e : ℕ) (r s : RefT (List ℕ)) → Named text e r → Named text e s

@@ -8,7 +8,7 @@ use Rattle.diagram.specs.Count.{flow-events}
 use Rattle.process.specs.Process.{Event, event-of}
 use Rattle.process.specs.Expand.{expand}
 use Rattle.labels.specs.Values.{packed}
-use Rattle.events.specs.Reading.{Reading, drawing, away}
+use Rattle.reader.specs.Reading.{Reading, drawing, no-drawing}
 use Rattle.events.specs.declared.Label.{Label}
 use Rattle.events.specs.declared.Label.the-variants.{Leaf, Reset, Refused}
 
@@ -19,7 +19,7 @@ label l = cond (l .reset) (Reset (packed (l .values))) (Leaf (packed (l .values)
 -- Event e of the drawing; number 14 at or past E, and reading's refusal where the text is turned away.
 unfoldable pub label-of : {text : List ℕ} → Reading text → ℕ → Label
 label-of (drawing d a) e = cond (ltb e (flow-events d)) (label (event-of (expand d) e)) (Refused 14 0)
-label-of (away number place r) e = Refused number place
+label-of (no-drawing number place r) e = Refused number place
 
 pub record Valued (text : List ℕ) (e : ℕ) (r : Label) : Type 0 where
   pub reading : Reading text

@@ -1,4 +1,3 @@
-pub mod Reading
 pub mod Labels
 pub mod Names
 pub mod Listing

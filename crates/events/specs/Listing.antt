@@ -11,7 +11,7 @@ use Rattle.diagram.specs.Count.{flow-events, flow-copies}
 use Rattle.process.specs.Process.{Event, events}
 use Rattle.process.specs.Expand.{expand}
 use Rattle.output.specs.Decimal.{decimal}
-use Rattle.events.specs.Reading.{Reading, drawing, away}
+use Rattle.reader.specs.Reading.{Reading, drawing, no-drawing}
 
 -- `events E copies C`
 unfoldable pub first-line : ℕ → ℕ → List ℕ
@@ -46,7 +46,7 @@ drawing-listing d = first-line (flow-events d) (flow-copies d) ++ lines 0 (event
 
 unfoldable pub listing : {text : List ℕ} → Reading text → List ℕ
 listing (drawing d a) = drawing-listing d
-listing (away number place r) = refused-line number place
+listing (no-drawing number place r) = refused-line number place
 
 -- What the listing call answers, and every byte of the lent buffer: "On success, bytes past those written stay too."
 pub record Listed (text lent : List ℕ) (r : ℕ) (left : List ℕ) : Type 0 where

@@ -12,17 +12,17 @@ use Rattle.diagram.specs.Count.{flow-events}
 use Rattle.process.specs.Process.{event-of}
 use Rattle.process.specs.Expand.{expand}
 use Rattle.labels.specs.Stands.{Stands}
-use Rattle.events.specs.Reading.{Reading, drawing, away}
+use Rattle.reader.specs.Reading.{Reading, drawing, no-drawing}
 
 -- The name of event e; none where the text is turned away or e is at or past E.
 unfoldable pub name-of : {text : List ℕ} → Reading text → ℕ → Name
 name-of (drawing d a) e = cond (ltb e (flow-events d)) (event-of (expand d) e .name) []
-name-of (away number place r) e = []
+name-of (no-drawing number place r) e = []
 
 -- Where it stands in the text; an empty name stands at the text's begin.
 unfoldable pub Placed : {text : List ℕ} → Reading text → ℕ → ℕ → Type 0
 Placed {text} (drawing d a) e place = (e < flow-events d → Stands text (event-of (expand d) e .name) place) × (flow-events d ≤ e → place ≡ 0)
-Placed (away number place r) e at = at ≡ 0
+Placed (no-drawing number place r) e at = at ≡ 0
 
 -- That very part of a lent text: n bytes from a place on, in the text's own memory.
 pub record Part (text part : RefT (List ℕ)) (place n : ℕ) : Type 0 where

@@ -30,9 +30,9 @@ abbrev pub passed-on : Answer → Label
 passed-on Done = Refused 0 0
 passed-on (Unread number place) = Refused number place
 
-abbrev pub away-line : Answer → List ℕ
-away-line Done = []
-away-line (Unread number place) = refused-line number place
+abbrev pub refusal-line : Answer → List ℕ
+refusal-line Done = []
+refusal-line (Unread number place) = refused-line number place
 
 -- What the values call answers for a text that is read.
 unfoldable pub spot-label : Diagram → ℕ → Label

@@ -8,7 +8,7 @@ ghost use Rattle.output.specs.Buffer.{buffer, put-all};
 ghost use Rattle.events.specs.Names.{Named};
 ghost use Rattle.events.specs.Labels.{Valued};
 ghost use Rattle.events.specs.Listing.{first-line, refused-line, mark as mark-of, Listed};
-ghost use Rattle.events.specs.Spots.{Word, passed-on, away-line, spot-label, spaced-value, spaced-values, spot-line, spot-lines, spot-listing};
+ghost use Rattle.events.specs.Spots.{Word, passed-on, refusal-line, spot-label, spaced-value, spaced-values, spot-line, spot-lines, spot-listing};
 use diagram::Diagram;
 use labels::Spot;
 use labels::Values;
@@ -224,7 +224,7 @@ fn drawn(text: &[u8], d: Diagram, out: &mut [u8]) -> usize
 
 // The line of a text that was not read.
 fn write_refusal(answer: Answer, out: &mut [u8]) -> usize
-    ensures { λ r. ⌜ buffer r (now (out .exit)) ≡ put-all (away-line answer) (buffer 0 (now (out .entry))) ⌝ }
+    ensures { λ r. ⌜ buffer r (now (out .exit)) ≡ put-all (refusal-line answer) (buffer 0 (now (out .entry))) ⌝ }
 {
     match answer {
         Answer::Done => 0,

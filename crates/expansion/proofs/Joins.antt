@@ -11,11 +11,11 @@ use Rattle.reader.specs.ShownNodes.{ShownNode}
 use Rattle.process.specs.Process.{Event, Joint, seq, and, or, xor, Process, event, join, again, rounds}
 use Rattle.process.specs.Expand.{copies}
 use Rattle.expansion.specs.Columns.{Columns}
-use Rattle.process.specs.Postfix.{joint-code, postfix}
+use Rattle.postfix.specs.Postfix.{joint-code, postfix}
 use Rattle.expansion.specs.Walks.{add, more, again-at, further, part, by-kind}
 use Rattle.expansion.proofs.Seen.{seen, kind-seen, size-seen, depth-seen, first, column-at, node-inside}
 use Rattle.expansion.proofs.Writing.{written, add-written}
-use Rattle.process.proofs.Short.{long, long-join, long-rounds}
+use Rattle.postfix.proofs.Short.{long, long-join, long-rounds}
 use Rattle.expansion.proofs.Longer.{copies-longer}
 
 -- What stands in the columns at node i.

@@ -7,7 +7,7 @@ use Rattle.diagram.specs.Tree.{Children, none, next, Members, end, also}
 use Rattle.diagram.specs.Count.{child-events, member-events}
 use Rattle.process.specs.Process.{Joint, seq, Process, join}
 use Rattle.process.specs.Expand.{copies, children-process, child-process, member-process, members-process}
-use Rattle.process.proofs.Short.{long, long-join}
+use Rattle.postfix.proofs.Short.{long, long-join}
 
 -- The parts so far are no longer than with those after them.
 pub children-longer : (cs : Children) (vs : List ℕ) (p : Process) (e : ℕ) → long p ≤ long (children-process cs vs p e)

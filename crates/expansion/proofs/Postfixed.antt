@@ -21,11 +21,11 @@ use Rattle.process.specs.Process.{Joint, seq, Process, join}
 use Rattle.process.specs.Expand.{leaf-copy, reset-of, joint, expand, flow-process, children-process, child-process, loop-process, member-process, members-process}
 use Rattle.process.proofs.Events.{expand-laid}
 use Rattle.expansion.specs.Columns.{kind-number, size-number, Columns}
-use Rattle.process.specs.Postfix.{joint-code, postfix}
+use Rattle.postfix.specs.Postfix.{joint-code, postfix}
 use Rattle.expansion.specs.Walks.{place, expanded}
 use Rattle.expansion.proofs.Seen.{seen, depth-seen, first, column-at, columns-seen}
 use Rattle.expansion.proofs.Writing.{written}
-use Rattle.process.proofs.Short.{long-join, postfix-short}
+use Rattle.postfix.proofs.Short.{long-join, postfix-short}
 use Rattle.expansion.proofs.Longer.{children-longer, members-longer}
 use Rattle.expansion.proofs.Joins.{Here, here, Walked, Joined, walked-to, joined-to, leaf-walked, again-walked, rounds-walked, parts-walked, no-further, one-further, copies-walked}
 use Rattle.expansion.proofs.Trees.{drop-both, child-past, member-past, member-first, child-first, children-first, members-first, member-some, child-some}

@@ -13,7 +13,8 @@ use Rattle.base.specs.Reports.{Report}
 use Rattle.base.proofs.Truth.{by-cases}
 use Rattle.base.proofs.Filled.{fill-whole}
 use Rattle.record.specs.Bits.{bit-at}
-use Rattle.record.specs.Bytes.{Bytes, field, words-of, bytes-of}
+use Rattle.record.specs.Bytes.{Bytes, words-of, bytes-of}
+use Rattle.base.specs.Packed.{field}
 use Rattle.record.specs.Blank.{blank-record}
 use Rattle.record.specs.declared.Record.{Record}
 use Rattle.record.proofs.Bytes.{bytes-length, byte-at}

@@ -12,7 +12,7 @@ use borrow.Author.Tests.{lt-ltb, le-ltb, le-leb, lt-leb, eq-eqb, leb-true, leb-f
 use Rattle.diagram.specs.Tree.{Name}
 use Rattle.diagram.specs.Names.{same}
 use Rattle.base.proofs.Truth.{clash, cases, and-l, and-r, and-i, not-e}
-use Rattle.diagram.proofs.Equal.{same-decides}
+use Rattle.base.proofs.Decided.{same-decides}
 use Rattle.lexer.specs.Classes.{between, spacing, class-of, worded, blank}
 use Rattle.lexer.specs.Words.{keywords, place-in, keyword, short, every, lettered, named, numeral, word-code, code}
 use Rattle.grammar.specs.Tokens.{opening, closing, comma, colon, key, bit, digits}

@@ -6,9 +6,11 @@ use native.Mathlib.Omega.{arith}
 use lib.ListN.{length, length-append, length-set, getD, set, drop}
 use lib.Seq.{sets, drop-cons, drop-length}
 use Rattle.process.specs.Process.{Event, Joint, seq, and, or, xor, Process, event, join, again, rounds}
-use Rattle.process.specs.Postfix.{postfix, joint-code}
+use Rattle.postfix.specs.Postfix.{postfix, joint-code}
 use Rattle.process.proofs.Numbered.{size, Numbered}
-use Rattle.guards.specs.Words.{both-row, event-record, put-word, put-rows}
+use Rattle.guards.specs.Words.{put-rows}
+use Rattle.base.specs.Packed.{put-word}
+use Rattle.table.specs.Fields.{both-row, event-record}
 use Rattle.guards.specs.Pieces.{Piece}
 use Rattle.guards.specs.Passes.{Down, down-words, down-with, down-step, downs}
 use Rattle.guards.specs.Plan.{Plan, joined, up, Guards, guards, join-guards, later-may, earlier-may, down}

@@ -13,10 +13,9 @@ use Rattle.base.proofs.Truth.{by-cases, is-false}
 use Rattle.process.specs.Process.{Joint, seq, and, or, xor, Event, Process, event, join, again, rounds, owns}
 use Rattle.process.specs.Bits.{Bits}
 use Rattle.process.specs.Guards.{begun, complete, enabled}
-use Rattle.process.specs.Postfix.{joint-code}
+use Rattle.postfix.specs.Postfix.{joint-code}
 use Rattle.process.proofs.Numbered.{Numbered, size, interval}
-use Rattle.table.specs.Fields.{guard-of}
-use Rattle.guards.specs.Words.{both-row, event-record}
+use Rattle.table.specs.Fields.{guard-of, both-row, event-record}
 use Rattle.guards.specs.Pieces.{rounds-piece, join-piece}
 use Rattle.guards.specs.Plan.{Plan, Guards, joined, up, later-may, earlier-may, joint-words, down}
 use Rattle.guards.specs.declared.Mark.{Mark}

@@ -6,8 +6,8 @@ use Prim.Native.Nat.{ℕ, zero, suc, _+_, _*_, _/_, _%_, _≤_, _<_, _^_}
 use native.Mathlib.Omega.{arith}
 use lib.ListN.{length, getD, set, take, length-set}
 use lib.Seq.{getD-set-same, getD-set-other, getD-take}
-use Rattle.record.specs.Bytes.{field}
-use Rattle.guards.specs.Words.{put-word, put-rows}
+use Rattle.base.specs.Packed.{field, put-word}
+use Rattle.guards.specs.Words.{put-rows}
 use Rattle.guards.proofs.Putting.{put-word-length}
 
 -- A number of bytes depends on those bytes only.

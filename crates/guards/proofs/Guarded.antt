@@ -13,9 +13,8 @@ use Rattle.process.specs.Bits.{Bits, clears}
 use Rattle.process.specs.Guards.{complete, enabled}
 use Rattle.process.proofs.Numbered.{size, Numbered, interval}
 use Rattle.process.proofs.Cleared.{size-positive}
-use Rattle.table.specs.Fields.{rows, guard-of}
-use Rattle.book.specs.Tells.{Tells}
-use Rattle.guards.specs.Words.{both-row}
+use Rattle.table.specs.Fields.{rows, guard-of, both-row}
+use Rattle.agreement.specs.Agrees.{Agrees}
 use Rattle.guards.specs.Lays.{constants}
 use Rattle.guards.specs.Plan.{up, down, middle, rows-of, records-of, planned}
 use Rattle.guards.proofs.Says.{Obeys, Lower}
@@ -135,9 +134,9 @@ module _ (p : Process) (n : ℕ) (numbered : Numbered p 0) (its-size : size p �
       ∙ (ap (λ (m : ℕ). take m (fill lent (planned p))) (sym l) ∙ fill-front lent (planned p) (omega (arith, l, few, rows-few, enough)))
 
   -- So the plan's bytes are a table that says what the process says, with so many rows.
-  pub plan-tells : Tells p n (planned p)
-  plan-tells =
-      subst (Tells p n) (front blank long)
+  pub plan-agrees : Agrees p n (planned p)
+  plan-agrees =
+      subst (Agrees p n) (front blank long)
       (told n (rows-of p) (records-of p) blank kept long p guarded over (λ e i h. rw (zero-add e) at (record-kept e h .its-bits i)))
 
   pub plan-rows : rows (planned p) ≡ length (rows-of p)

@@ -5,7 +5,7 @@ use Prim.Native.Nat.{ℕ, _+_}
 use native.Mathlib.Omega.{arith}
 use lib.ListN.{length, length-append}
 use Rattle.process.specs.Process.{Process, event, join, again, rounds}
-use Rattle.process.specs.Postfix.{postfix, joint-code}
+use Rattle.postfix.specs.Postfix.{postfix, joint-code}
 use Rattle.guards.specs.Pieces.{Piece, event-piece, again-piece, rounds-piece}
 use Rattle.guards.specs.Plan.{Plan, leaf-plan, over-plan, join-plan, joined, up}
 

@@ -8,7 +8,8 @@ use Rattle.base.specs.Fill.{fill}
 use Rattle.base.proofs.Filled.{fill-none, fill-next}
 use Rattle.process.specs.Process.{Process}
 use Rattle.process.proofs.Numbered.{size}
-use Rattle.guards.specs.Words.{put-word, put-rows, packed}
+use Rattle.guards.specs.Words.{put-rows}
+use Rattle.base.specs.Packed.{put-word, packed}
 use Rattle.guards.specs.Lays.{base-of}
 use Rattle.guards.specs.Plan.{middle, rows-of, records-of, planned}
 use Rattle.guards.proofs.Within.{records-length}

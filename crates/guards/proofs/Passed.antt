@@ -10,10 +10,12 @@ use borrow.Author.Tests.{le-leb}
 use Rattle.base.specs.Fill.{fill}
 use Rattle.base.proofs.Truth.{and-i}
 use Rattle.process.specs.Process.{Process}
-use Rattle.process.specs.Postfix.{postfix}
-use Rattle.process.proofs.Short.{postfix-short}
+use Rattle.postfix.specs.Postfix.{postfix}
+use Rattle.postfix.proofs.Short.{postfix-short}
 use Rattle.process.proofs.Numbered.{size, Numbered}
-use Rattle.guards.specs.Words.{both-row, put-word, put-rows}
+use Rattle.guards.specs.Words.{put-rows}
+use Rattle.base.specs.Packed.{put-word}
+use Rattle.table.specs.Fields.{both-row}
 use Rattle.guards.specs.Passes.{Up, Down}
 use Rattle.guards.specs.Lays.{constants, base-of, up-start, down-start, first-pass, second-pass, finish, room, laid-size, laid-out}
 use Rattle.guards.specs.Plan.{up, down, middle, rows-of, records-of, planned}

@@ -5,7 +5,8 @@ use Prim.Native.Nat.{ℕ, suc, _+_, _*_, _≤_, _<_, _/_, _%_}
 use native.Mathlib.Omega.{arith}
 use lib.ListN.{length, getD, set, length-set}
 use lib.Seq.{set-comm, sets, getD-set-same, getD-set-other}
-use Rattle.guards.specs.Words.{put-word, put-rows}
+use Rattle.guards.specs.Words.{put-rows}
+use Rattle.base.specs.Packed.{put-word}
 
 -- Writing keeps the length.
 pub put-word-length : (o : List ℕ) (i w : ℕ) → length (put-word o i w) ≡ length o

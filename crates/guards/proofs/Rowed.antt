@@ -5,7 +5,8 @@ use Prim.Native.Nat.{ℕ, _+_, _-_, _*_, _/_, _%_, _<_, _≤_}
 use native.Mathlib.Omega.{arith}
 use lib.ListN.{length, set, length-append}
 use borrow.Author.Tests.{ne-eqb, lt-ltb, le-ltb}
-use Rattle.guards.specs.Words.{put-word, put-rows}
+use Rattle.guards.specs.Words.{put-rows}
+use Rattle.base.specs.Packed.{put-word}
 use Rattle.guards.specs.Pieces.{Piece, mark, event-piece, again-piece, rounds-piece, both-piece, one-piece}
 use Rattle.guards.specs.Pieces.{settling, settled-row, some-piece, after-words, or-piece}
 use Rattle.guards.specs.Passes.{put-mark, piece-of, moved}

@@ -18,7 +18,7 @@ use Rattle.table.specs.Sound.{sound, Run, Row-keeps, Sound-table}
 use Rattle.table.specs.Values.{row-value, values-of}
 use Rattle.table.proofs.Sentences.{sound-exactly}
 use Rattle.table.proofs.Obeyed.{values-obey}
-use Rattle.book.specs.Tells.{Tells}
+use Rattle.agreement.specs.Agrees.{Agrees}
 use Rattle.guards.specs.Words.{put-rows}
 use Rattle.guards.specs.Lays.{base-of}
 use Rattle.guards.proofs.Says.{says, Obeys, Lower}
@@ -123,7 +123,7 @@ module _ (n : ℕ) (ws rs lent : List ℕ) (k : Kept n ws rs) (long : 51204 ≤ 
       (guarded : (s : Bits) (v : ℕ → Bool) → Obeys s v 0 ws → (e : ℕ) → e < n → v (guard-of (getD rs e 0)) ≡ enabled p s e)
       (over : (s : Bits) (v : ℕ → Bool) → Obeys s v 0 ws → v (length ws - 1) ≡ complete p s)
       (clearing : (e i : ℕ) → e < n → (leb (first-of (getD rs e 0)) i && ltb i (first-of (getD rs e 0) + count-of (getD rs e 0))) ≡ clears p e i) where
-    pub told : Tells p n t
+    pub told : Agrees p n t
     told = record {
       its-sound = is-sound;
       its-events = head .0;

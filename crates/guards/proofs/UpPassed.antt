@@ -6,7 +6,7 @@ use native.Mathlib.Omega.{arith}
 use lib.ListN.{length, length-append, length-set, getD, set, take}
 use lib.Seq.{sets, take-suc, take-length, length-take-le}
 use Rattle.process.specs.Process.{Event, Joint, seq, and, or, xor, Process, event, join, again, rounds}
-use Rattle.process.specs.Postfix.{postfix, joint-code}
+use Rattle.postfix.specs.Postfix.{postfix, joint-code}
 use Rattle.process.proofs.Numbered.{size, Numbered}
 use Rattle.guards.specs.Words.{put-rows}
 use Rattle.guards.specs.Pieces.{Piece, event-piece, again-piece, rounds-piece, join-piece}

@@ -11,9 +11,9 @@ use Rattle.base.proofs.Truth.{by-cases}
 use Rattle.process.specs.Process.{Joint, seq, and, or, xor, Event, Process, event, join, again, rounds}
 use Rattle.process.specs.Bits.{Bits}
 use Rattle.process.specs.Guards.{begun, complete}
-use Rattle.process.specs.Postfix.{joint-code}
+use Rattle.postfix.specs.Postfix.{joint-code}
 use Rattle.process.proofs.Numbered.{Numbered, size}
-use Rattle.guards.specs.Words.{bit-row, not-row, both-row, either-row}
+use Rattle.table.specs.Fields.{bit-row, not-row, both-row, either-row}
 use Rattle.guards.specs.Pieces.{mark, event-piece, again-piece, rounds-piece, join-piece, or-piece, some-piece, settling, settled-row}
 use Rattle.guards.specs.Plan.{joined, up}
 use Rattle.guards.specs.declared.Mark.{Mark}

@@ -10,7 +10,7 @@ use lib.ListN.{length, length-append}
 use Rattle.base.proofs.Truth.{by-cases}
 use Rattle.process.specs.Process.{Joint, seq, and, or, xor, Process, event, join, again, rounds}
 use Rattle.process.specs.Bits.{Bits}
-use Rattle.process.specs.Postfix.{joint-code}
+use Rattle.postfix.specs.Postfix.{joint-code}
 use Rattle.process.proofs.Numbered.{Numbered, size}
 use Rattle.guards.specs.Pieces.{mark, rounds-piece, settling, settled-row, join-piece}
 use Rattle.guards.specs.Plan.{joined, up, down}

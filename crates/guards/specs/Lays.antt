@@ -4,7 +4,9 @@ use mathlib.Core.List.{List, [], _∷_}
 use Prim.Native.Nat.{ℕ, suc, _+_, _*_}
 use lib.Dec.{leb}
 use lib.ListN.{length, getD, set, replicate}
-use Rattle.guards.specs.Words.{bit-row, not-row, both-row, either-row, put-word, put-rows}
+use Rattle.guards.specs.Words.{put-rows}
+use Rattle.base.specs.Packed.{put-word}
+use Rattle.table.specs.Fields.{bit-row, not-row, both-row, either-row}
 use Rattle.guards.specs.Passes.{Up, ups, Down, downs}
 
 -- Three rows before all others, of which the third says yes always.

@@ -5,7 +5,9 @@ use mathlib.Core.List.{List, [], _∷_}
 use Prim.Native.Nat.{ℕ, zero, suc, _+_, _-_, _*_}
 use lib.Dec.{eqb, ltb}
 use lib.ListN.{length, getD, set}
-use Rattle.guards.specs.Words.{both-row, event-record, put-word, put-rows}
+use Rattle.guards.specs.Words.{put-rows}
+use Rattle.base.specs.Packed.{put-word}
+use Rattle.table.specs.Fields.{both-row, event-record}
 use Rattle.guards.specs.Pieces.{Piece, mark, event-piece, again-piece, rounds-piece, join-piece}
 use Rattle.guards.specs.declared.Mark.{Mark}
 

@@ -11,7 +11,7 @@ use borrow.Author.Tests.{eqb-true}
 use Rattle.base.proofs.Truth.{cases, by-cases}
 use Rattle.diagram.specs.Tree.{Name, Flow}
 use Rattle.diagram.specs.Names.{same}
-use Rattle.diagram.proofs.Equal.{same-decides}
+use Rattle.base.proofs.Decided.{same-decides}
 use Rattle.lexer.specs.Words.{word-at}
 use Rattle.lexer.specs.Spans.{codes, places}
 use Rattle.grammar.specs.Limits.{keyed}

@@ -11,7 +11,7 @@ use lib.Seq.{drop-cons}
 use borrow.Author.Tests.{eq-eqb, ltb-true, ltb-false}
 use Rattle.diagram.specs.Tree.{Name}
 use Rattle.diagram.specs.Names.{same}
-use Rattle.diagram.proofs.Compared.{other-byte}
+use Rattle.base.proofs.Compared.{other-byte}
 use Rattle.base.proofs.Truth.{cases}
 use Rattle.lexer.specs.Classes.{class-of, worded}
 use Rattle.lexer.specs.Words.{front, word-at}

@@ -9,8 +9,8 @@ use native.Mathlib.Omega.{arith}
 use lib.ListN.{length, take, drop, getD, length-drop}
 use lib.Seq.{take-all, length-take-le, getD-take, getD-drop, drop-cons}
 use Rattle.diagram.specs.Names.{same}
-use Rattle.diagram.proofs.Equal.{same-decides}
-use Rattle.diagram.proofs.Compared as Compared
+use Rattle.base.proofs.Decided.{same-decides}
+use Rattle.base.proofs.Compared as Compared
 
 module _ (text : List ℕ) (a e : ℕ) (fits : e - a ≤ length text - a) where
   pub slice-length : length (take (e - a) (drop a text)) ≡ e - a

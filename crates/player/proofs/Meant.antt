@@ -11,7 +11,7 @@ use Rattle.base.proofs.Truth.{by-cases, clash, is-false, and-l, and-r, or-r, or
 use Rattle.bytes.specs.Bytes.{indexOf, indexAfter}
 use Rattle.diagram.specs.Tree.{Flow}
 use Rattle.diagram.specs.Names.{same}
-use Rattle.diagram.proofs.Equal.{same-decides}
+use Rattle.base.proofs.Decided.{same-decides}
 use Rattle.diagram.specs.Count.{flow-events, flow-copies}
 use Rattle.lexer.specs.Words.{lettered}
 use Rattle.reader.specs.Accepted.{Accepted}

@@ -25,4 +25,3 @@ pub mod Read
 pub mod Listings
 pub mod NoTwo
 pub mod Starred
-pub mod Short

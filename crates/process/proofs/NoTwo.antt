@@ -10,7 +10,7 @@ use borrow.Author.Tests.{eqb-true}
 use Rattle.base.proofs.Truth.{by-cases, clash, and-l, and-r, not-e}
 use Rattle.diagram.specs.Tree.{Name, Flow, flow, Children, none, next, Child, plain, loop, group, replicator, Member, leaf, inner, Members, end, also}
 use Rattle.diagram.specs.Names.{same, new, differ, flow-names, children-names, child-names, member-names, members-names}
-use Rattle.diagram.proofs.Equal.{same-decides}
+use Rattle.base.proofs.Decided.{same-decides}
 use Rattle.diagram.specs.Sizes.{flow-sized}
 use Rattle.diagram.specs.Count.{flow-events}
 use Rattle.process.specs.Process.{Event, Joint, seq, Process, event, join, again, rounds, owns, event-of}

@@ -9,4 +9,3 @@ pub mod Once
 pub mod Readings
 pub mod Listed
 pub mod Starred
-pub mod Postfix

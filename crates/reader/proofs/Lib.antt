@@ -11,3 +11,4 @@ pub mod Stages
 pub mod Bounds
 pub mod Promised
 pub mod Worked
+pub mod Reading

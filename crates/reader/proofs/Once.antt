@@ -13,7 +13,7 @@ use Rattle.diagram.specs.Parameters.{surrounded, flow-parameters, children-para
 use Rattle.diagram.specs.declared.Kind.{Kind}
 use Rattle.diagram.specs.declared.Kind.the-variants.{Flow as FlowKind, Leaf, And, Or, Xor, All, Some, One, Loop}
 use Rattle.diagram.specs.declared.Diagram.{Diagram}
-use Rattle.diagram.proofs.Equal.{all-same-decides}
+use Rattle.base.proofs.Decided.{all-same-decides}
 use Rattle.base.proofs.Truth.{and-l, and-r}
 use Rattle.reader.specs.Answers.{read-of}
 use Rattle.reader.specs.Accepted.{Accepted}

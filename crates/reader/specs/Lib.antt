@@ -7,3 +7,4 @@ pub mod Places
 pub mod Bounds
 pub mod Reports
 pub mod Worked
+pub mod Reading

@@ -14,8 +14,9 @@ use Rattle.base.specs.Fill.{fill}
 use Rattle.base.proofs.Truth.{by-cases}
 use Rattle.base.proofs.Filled.{fill-at}
 use Rattle.record.specs.Bits.{Words, bit-at}
-use Rattle.record.specs.Bytes.{Bytes, field, words-of, byte-of, bytes-of}
-use Rattle.record.proofs.Fields.{field-joined}
+use Rattle.record.specs.Bytes.{Bytes, words-of, byte-of, bytes-of}
+use Rattle.base.specs.Packed.{field}
+use Rattle.base.proofs.Fields.{field-joined}
 use Rattle.record.proofs.Bytes.{bytes-length, byte-at}
 use Rattle.record.proofs.PastEvents.{low-same, word-bit}
 

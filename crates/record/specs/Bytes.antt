@@ -3,15 +3,11 @@ use mathlib.Core.Path.{_≡_}
 use mathlib.Core.List.{List, [], _∷_, _++_}
 use Prim.Native.Nat.{ℕ, zero, suc, _+_, _-_, _*_, _/_, _%_, _^_, _<_}
 use lib.ListN.{length, getD}
+use Rattle.base.specs.Packed.{field}
 
 -- What a record's bytes are: 64, each below 256.
 abbrev pub Bytes : List ℕ → Type 0
 Bytes s = (length s ≡ 64) × ((i : ℕ) → getD s i 0 < 256)
-
--- The number that `width` bytes from `at` on make, "packed most significant first"; past the end there are only zeros.
-unfoldable pub field : ℕ → List ℕ → ℕ → ℕ
-field zero bytes at = 0
-field (suc width) bytes at = field width bytes at * 256 + getD bytes (at + width) 0
 
 -- The eight words of a record's bytes.
 unfoldable pub words-of : List ℕ → List ℕ

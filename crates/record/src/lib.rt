@@ -3,7 +3,8 @@ ghost use Prim.Native.Nat.{_+_, _-_, _<_, _%_, _^_};
 ghost use lib.ListN.{getD};
 ghost use Rattle.base.specs.Fill.{fill};
 ghost use Rattle.record.specs.Bits.{bit-at, set-bit, clear-bit, clear-bits, set-past};
-ghost use Rattle.record.specs.Bytes.{field, words-of, bytes-of};
+ghost use Rattle.record.specs.Bytes.{words-of, bytes-of};
+ghost use Rattle.base.specs.Packed.{field};
 ghost use Rattle.record.specs.Blank.{blank-record};
 
 // The run record: a control bit for each event, bit 0 the top bit of the first word. Laid out as in C, so that a caller outside can lend one.

@@ -9,7 +9,7 @@ use lib.ListN.{length, getD, set, length-set}
 use lib.Seq.{getD-set-same, getD-set-other}
 use borrow.Author.Tests.{eq-eqb, eqb-true, eqb-false, lt-ltb, le-ltb, ltb-true}
 use Rattle.diagram.specs.Names.{same}
-use Rattle.diagram.proofs.Equal.{same-decides}
+use Rattle.base.proofs.Decided.{same-decides}
 use Rattle.base.proofs.Truth.{and-l, and-r, is-false}
 use Rattle.lexer.specs.Words.{word-at}
 use Rattle.lexer.proofs.Alike.{zero-none, some-on}

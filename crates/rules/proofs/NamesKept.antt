@@ -7,7 +7,7 @@ use Prim.Native.Nat.{ℕ, suc}
 use Rattle.diagram.specs.Tree.{Name, Flow, flow, Children, none, next, Child, plain, loop, group, replicator, Member, leaf, inner, Members, end, also}
 use Rattle.diagram.specs.Names.{same, new, differ, flow-names, children-names, child-names, member-names, members-names}
 use Rattle.base.proofs.Truth.{agree}
-use Rattle.diagram.proofs.Equal.{same-decides}
+use Rattle.base.proofs.Decided.{same-decides}
 use Rattle.rules.specs.TokenNodes.{TokenNode}
 use Rattle.rules.specs.Kept.{titled, names-kept, fault}
 use Rattle.rules.specs.PlacedNodes.{all-new, first-twice, flow-placed-nodes}

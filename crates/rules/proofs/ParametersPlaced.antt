@@ -10,7 +10,7 @@ use Rattle.diagram.specs.Names.{equal, same, new}
 use Rattle.diagram.specs.Parameters.{surrounded}
 use Rattle.diagram.specs.Flows.{solid}
 use Rattle.base.proofs.Truth.{agree}
-use Rattle.diagram.proofs.Equal.{all-same-decides}
+use Rattle.base.proofs.Decided.{all-same-decides}
 use Rattle.rules.specs.TokenNodes.{TokenNode, flowing, copying}
 use Rattle.rules.specs.Kept.{around, parameters-kept, fault}
 use Rattle.rules.specs.PlacedNodes.{PlacedNode, placed-node, flow-placed-nodes, children-placed-nodes, child-placed-nodes, member-placed-nodes, members-placed-nodes, first-broken}

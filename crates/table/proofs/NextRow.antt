@@ -6,7 +6,7 @@ use Prim.Native.Nat.{ℕ, _+_, _*_, _<_}
 use native.Mathlib.Numerals.{add-one}
 use lib.ListN.{length, take, set}
 use Rattle.base.proofs.Truth.{and-l, and-r}
-use Rattle.record.specs.Bytes.{field}
+use Rattle.base.specs.Packed.{field}
 use Rattle.table.specs.Fields.{events, row-word}
 use Rattle.table.specs.Sound.{row-sound, rows-sound}
 use Rattle.table.specs.Values.{row-value, row-values}

@@ -2,7 +2,7 @@ ghost use mathlib.Core.Path.{_≡_};
 ghost use mathlib.Core.Bool.{true, false};
 ghost use Prim.Native.Nat.{_+_, _*_, _<_, _≤_, _^_};
 ghost use lib.ListN.{length, take};
-ghost use Rattle.record.specs.Bytes.{field};
+ghost use Rattle.base.specs.Packed.{field};
 ghost use Rattle.table.specs.Fields.{events, rows};
 ghost use Rattle.table.specs.Sound.{event-sound, row-sound, events-sound, rows-sound};
 ghost use Rattle.table.specs.Shaped.{size-of, Shaped};

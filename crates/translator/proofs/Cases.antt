@@ -14,7 +14,7 @@ use Rattle.reader.specs.declared.ReadResult.{ReadResult}
 use Rattle.reader.proofs.Exact.{accepted-exactly, refused-exactly}
 use Rattle.reader.proofs.Shown.{accepted-shown}
 use Rattle.process.specs.Expand.{expand}
-use Rattle.process.specs.Postfix.{postfix}
+use Rattle.postfix.specs.Postfix.{postfix}
 use Rattle.guards.specs.Lays.{laid-size, laid-out}
 use Rattle.translator.specs.Reports.{report}
 use Rattle.translator.specs.Translates.{Translation, refused, done, passed-on, Read, Writes}

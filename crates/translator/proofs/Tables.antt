@@ -12,19 +12,19 @@ use Rattle.diagram.specs.declared.Diagram.{Diagram}
 use Rattle.reader.specs.Accepted.{Accepted}
 use Rattle.reader.specs.ShownNodes.{Shows}
 use Rattle.process.specs.Expand.{expand}
-use Rattle.process.specs.Postfix.{postfix}
+use Rattle.postfix.specs.Postfix.{postfix}
 use Rattle.process.proofs.Numbered.{size, Numbered}
 use Rattle.process.proofs.Events.{expand-laid}
-use Rattle.book.proofs.Played.{tells-play}
+use Rattle.book.proofs.Played.{agreeing-plays}
 use Rattle.expansion.specs.Walks.{Place, place, expanded}
-use Rattle.process.proofs.Short.{postfix-short}
+use Rattle.postfix.proofs.Short.{postfix-short}
 use Rattle.expansion.proofs.Postfixed.{expansion-exact}
 use Rattle.guards.specs.Lays.{laid-size, laid-out}
 use Rattle.guards.specs.Plan.{rows-of, planned}
 use Rattle.guards.proofs.Few.{rows-few}
 use Rattle.guards.proofs.Packed.{planned-length}
 use Rattle.guards.proofs.Passed.{laid-plan}
-use Rattle.guards.proofs.Guarded.{plan-tells, plan-rows}
+use Rattle.guards.proofs.Guarded.{plan-agrees, plan-rows}
 use Rattle.translator.specs.Translates.{Table-of, table-of, Written}
 
 -- What the walk over the nodes leaves in a column of 1,024 numbers.
@@ -70,13 +70,13 @@ module _ (text : List ℕ) (d : Flow) (a : Accepted text d) where
   pub its-table : Table-of d (table-of d)
   unfolding table-of
   its-table =
-      let tells = plan-tells (expand d) (flow-events d) its-numbers its-size (a .events) few in
+      let agrees = plan-agrees (expand d) (flow-events d) its-numbers its-size (a .events) few in
       record {
-        its-sound = tells .its-sound;
-        its-events = tells .its-events;
-        its-clears = tells .its-clears;
+        its-sound = agrees .its-sound;
+        its-events = agrees .its-events;
+        its-clears = agrees .its-clears;
         its-rows = rw (plan-rows (expand d) (flow-events d) its-numbers its-size (a .events) few) (rows-few d (a .keeps .sizes));
-        its-runs = tells-play d (a .keeps) (a .events) (planned (expand d)) tells;
+        its-runs = agreeing-plays d (a .keeps) (a .events) (planned (expand d)) agrees;
       }
 
   -- They are what is laid out, whatever was lent.

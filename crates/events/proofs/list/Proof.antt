@@ -1,5 +1,5 @@
 -- `events::list` meets its contract, by what the text is. Assumes nothing.
-use Rattle.events.proofs.Answers.{listed-drawn, listed-away}
+use Rattle.events.proofs.Answers.{listed-drawn, listed-refused}
 use borrow.Author.Needs.{needs}
 use Rattle.events.proofs.list.Statement.{statement}
 use Rattle.events.proofs.list.Tie as tie
@@ -9,7 +9,7 @@ returns c =
     let a = c .before .before .before .before .before .before .args in
     let r = c .before .before .before .before .read in
     let told = c .before .before .enum-told2 .given in
-    listed-away (a .text .now) (a .out .now) _ (r .result) (told .0 .0) (told .0 .1 .0) (c .write-refusal .result) (r .ensures) (told .1) (c .before .write-refusal-arg .given .0 .1) (c .write-refusal .ensures)
+    listed-refused (a .text .now) (a .out .now) _ (r .result) (told .0 .0) (told .0 .1 .0) (c .write-refusal .result) (r .ensures) (told .1) (c .before .write-refusal-arg .given .0 .1) (c .write-refusal .ensures)
 
 returns-2 : tie.Need-returns-2
 returns-2 c =

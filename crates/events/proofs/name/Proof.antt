@@ -1,6 +1,6 @@
 -- `events::name` meets its contract, by what the text is. Assumes nothing.
 use mathlib.Core.Path.{refl}
-use Rattle.events.proofs.Answers.{named-away, named-past, named-some}
+use Rattle.events.proofs.Answers.{named-refused, named-past, named-some}
 use native.Mathlib.Omega.{arith}
 use borrow.Author.Needs.{needs}
 use Rattle.events.proofs.name.Statement.{statement}
@@ -11,7 +11,7 @@ returns c =
     let a = c .before .before .before .before .before .args in
     let r = c .before .before .before .read in
     let told = c .before .enum-told2 .given in
-    named-away (a .text) _ (r .result) (a .event) (told .0 .0) (told .0 .1 .0) (r .ensures) (told .1) (record { its-block = refl; its-offset = omega arith; its-bytes = refl }) refl
+    named-refused (a .text) _ (r .result) (a .event) (told .0 .0) (told .0 .1 .0) (r .ensures) (told .1) (record { its-block = refl; its-offset = omega arith; its-bytes = refl }) refl
 
 returns-2 : tie.Need-returns-2
 returns-2 c =

@@ -1,5 +1,5 @@
 -- `events::values` meets its contract, by what the text is. Assumes nothing.
-use Rattle.events.proofs.Answers.{valued-drawn, valued-away}
+use Rattle.events.proofs.Answers.{valued-drawn, valued-refused}
 use borrow.Author.Needs.{needs}
 use Rattle.events.proofs.values.Statement.{statement}
 use Rattle.events.proofs.values.Tie as tie
@@ -9,7 +9,7 @@ returns c =
     let a = c .before .before .before .before .before .args in
     let r = c .before .before .before .read in
     let told = c .before .enum-told2 .given in
-    valued-away (a .text .now) (r .result) (a .event) (told .0 .0) (told .0 .1 .0) (c .passed-on .result) (r .ensures) (told .1) (c .passed-on .ensures)
+    valued-refused (a .text .now) (r .result) (a .event) (told .0 .0) (told .0 .1 .0) (c .passed-on .result) (r .ensures) (told .1) (c .passed-on .ensures)
 
 returns-2 : tie.Need-returns-2
 returns-2 c =

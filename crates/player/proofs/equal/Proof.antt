@@ -4,7 +4,7 @@ use Prim.Native.Nat.{_-_, _≤_}
 use native.Mathlib.Omega.{arith}
 use lib.ListN.{length, take}
 use borrow.Author.Needs.{needs}
-use Rattle.diagram.proofs.Compared.{other-length, other-byte, one-more, all-same}
+use Rattle.base.proofs.Compared.{other-length, other-byte, one-more, all-same}
 use Rattle.player.proofs.equal.Statement.{statement}
 use Rattle.player.proofs.equal.Tie as tie
 

@@ -1,5 +1,5 @@
 -- `record::long` meets its contract: eight bytes are four and four.
-use Rattle.record.proofs.Fields.{eight}
+use Rattle.base.proofs.Fields.{eight}
 use borrow.Author.Needs.{needs}
 use Rattle.record.proofs.long.Statement.{statement}
 use Rattle.record.proofs.long.Tie as tie

@@ -1,6 +1,6 @@
 -- `record::quad` meets its contract: the bytes make the number, one after the other, and each is below 256.
 use native.Mathlib.Omega.{arith}
-use Rattle.record.proofs.Fields.{field-one, field-more}
+use Rattle.base.proofs.Fields.{field-one, field-more}
 use borrow.Author.Needs.{needs}
 use Rattle.record.proofs.quad.Statement.{statement}
 use Rattle.record.proofs.quad.Tie as tie

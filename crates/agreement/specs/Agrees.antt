@@ -12,7 +12,7 @@ use Rattle.table.specs.Fields.{events, event-word, first-of, count-of}
 use Rattle.table.specs.Sound.{sound}
 use Rattle.table.specs.Values.{values-of, allows, ended}
 
-pub record Tells (p : Process) (n : ℕ) (t : List ℕ) : Type 0 where
+pub record Agrees (p : Process) (n : ℕ) (t : List ℕ) : Type 0 where
   pub its-sound : sound t ≡ true
   pub its-events : events t ≡ n
   -- the guard row of event e says whether e may be taken next

@@ -3,9 +3,9 @@ use mathlib.Core.Path.{_≡_}
 use Prim.Native.Nat.{ℕ, _+_, _*_, _≤_}
 use native.Mathlib.Omega.{arith}
 use lib.ListN.{length, length-append}
 use Rattle.process.specs.Process.{Event, Joint, Process, event, join, again, rounds}
-use Rattle.process.specs.Postfix.{postfix}
+use Rattle.postfix.specs.Postfix.{postfix}
 use Rattle.process.proofs.Numbered.{size}
 
 abbrev pub long : Process → ℕ
 long p = length (postfix p)

@@ -1,0 +1,1 @@
+// No code: lists of calls and what holds of them, for any calls, replies and states.
