@@ -15,7 +15,8 @@
 //!   plays a failing case again, see tests/fuzz/main.rs.
 //! - `ADL_LISTING=/path/to/program cargo test --test program`: the listing
 //!   program against the reference, with ADL_TRANSLATE and ADL_PLAY the other
-//!   two; needs no archive. A test whose archive or program is missing fails.
+//!   two; with ADL_ARCHIVE=1 also docs/LANGUAGE.md against programs and library.
+//!   A test whose archive or program is missing fails.
 //! - `./bench` in the directory above: the proved library, Rust and plain C
 //!   timed in one run.
 //!

@@ -3,9 +3,11 @@
 //! its program fail. ADL_SEED: the seed of the first random drawing.
 //!
 //! A relative path is looked up from the directory of this package. The tests of
-//! `alone` need no program.
+//! `alone` need no program; those of `language`, which hold docs/LANGUAGE.md
+//! against the product, need the archives too, see build.rs.
 
 mod alone;
+mod language;
 mod listing;
 mod playing;
 mod running;

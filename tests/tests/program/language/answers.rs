@@ -1,0 +1,67 @@
+//! Who answers what the page asks: the reference here, the product in `product`.
+
+use reference::listing::{listing, name, values, Values};
+use reference::player::played;
+use reference::{plain, print, table, Refusal};
+
+pub trait Answers {
+    /// What the program `listing` prints.
+    fn listing(&self, text: &[u8]) -> Vec<u8>;
+    /// What the program `play` prints.
+    fn played(&self, input: &[u8]) -> Vec<u8>;
+    fn print(&self, text: &[u8], room: usize) -> Result<Vec<u8>, Refusal>;
+    fn translate(&self, text: &[u8], room: usize) -> Result<Vec<u8>, Refusal>;
+    fn name(&self, text: &[u8], event: u64) -> Vec<u8>;
+    fn values(&self, text: &[u8], event: u64) -> Result<Values, Refusal>;
+    fn check(&self, table: &[u8]) -> u8;
+    fn step(&self, table: &[u8], record: &mut [u8], event: u64) -> u8;
+    fn offer(&self, table: &[u8], record: &[u8], out: &mut [u8]) -> u8;
+    fn finished(&self, table: &[u8], record: &[u8]) -> u8;
+}
+
+pub struct Reference;
+
+impl Answers for Reference {
+    fn listing(&self, text: &[u8]) -> Vec<u8> {
+        listing(text)
+    }
+
+    fn played(&self, input: &[u8]) -> Vec<u8> {
+        played(input)
+    }
+
+    fn print(&self, text: &[u8], room: usize) -> Result<Vec<u8>, Refusal> {
+        print(text, room)
+    }
+
+    fn translate(&self, text: &[u8], room: usize) -> Result<Vec<u8>, Refusal> {
+        let mut out = vec![0; room];
+        let length = plain::translate(text, &mut out)?;
+        out.truncate(length);
+        Ok(out)
+    }
+
+    fn name(&self, text: &[u8], event: u64) -> Vec<u8> {
+        text[name(text, event)].to_vec()
+    }
+
+    fn values(&self, text: &[u8], event: u64) -> Result<Values, Refusal> {
+        values(text, event)
+    }
+
+    fn check(&self, table: &[u8]) -> u8 {
+        table::check(table)
+    }
+
+    fn step(&self, table: &[u8], record: &mut [u8], event: u64) -> u8 {
+        table::step(table, record, event)
+    }
+
+    fn offer(&self, table: &[u8], record: &[u8], out: &mut [u8]) -> u8 {
+        table::offer(table, record, out)
+    }
+
+    fn finished(&self, table: &[u8], record: &[u8]) -> u8 {
+        table::finished(table, record)
+    }
+}
