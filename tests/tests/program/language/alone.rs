@@ -1,7 +1,7 @@
 //! The page against the reference, and what it must have.
 
 use super::answers::Reference;
-use super::example::Example;
+use super::example::{Example, NUMBERS};
 use super::grammar::Grammar;
 use super::held::difference;
 use super::page::{blocks, page, Block};
@@ -50,7 +50,7 @@ fn the_reference_answers_what_the_page_states() {
 fn every_number_has_an_example() {
     let page = page();
     let examples = examples(&page).unwrap();
-    for number in 1..=15 {
+    for number in NUMBERS {
         let is_its_own = |(block, example): &(Block, Example)| {
             block.heading.starts_with(&format!("{number}: ")) && example.numbers().contains(&number)
         };

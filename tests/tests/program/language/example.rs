@@ -2,7 +2,10 @@
 
 use super::page::Block;
 use reference::table::{Effect, Row};
+use std::ops::RangeInclusive;
 
+/// The numbers for what is turned away.
+pub const NUMBERS: RangeInclusive<u8> = 1..=15;
 /// So many times a drawing may say that a part stands there.
 const MOST_TIMES: usize = 20_000;
 
@@ -85,7 +88,7 @@ impl TableLine {
             TableLine::Step(_, number) | TableLine::Offer(_, number) => Some(number),
             _ => None,
         }
-        .filter(|number| (1..=15).contains(number))
+        .filter(|number| NUMBERS.contains(number))
     }
 }
 
