@@ -18,9 +18,9 @@ use Rattle.process.specs.Guards.{complete, enabled}
 use Rattle.process.proofs.Local.{Agree, complete-local, enabled-local}
 use Rattle.process.proofs.Events.{expand-events}
 use Rattle.process.proofs.Theorem.{whole-iff-complete, next-iff-enabled}
+use Rattle.plays.proofs.Played.{by-book}
 use Rattle.record.specs.Bits.{bit-at}
 use Rattle.record.specs.Blank.{blank-record}
-use Rattle.record.specs.declared.Record.{Record}
 use Rattle.record.proofs.RoundTrip.{same-bits}
 use Rattle.record.proofs.PastEvents.{clear-each}
 use Rattle.table.specs.Fields.{events}
@@ -31,10 +31,10 @@ use Rattle.table.specs.declared.Answer.the-variants.{Done}
 use Rattle.table.specs.declared.Stepped.{Stepped}
 use Rattle.table.proofs.Bounds.{refused-as, step-answered, finished-answered}
 use Rattle.table.proofs.Laws.{done-exactly, step-bit, step-words}
-use Rattle.book.specs.Calls.{Call, step, finished, stepped, reported}
+use Rattle.book.specs.Calls.{Call, step, finished, stepped, reported, call}
 use Rattle.book.specs.Marked.{marked, marked-all, record-after}
-use Rattle.book.specs.Book.{Step-entry, begins, past, below, Finish-entry, whole, part, Admits}
-use Rattle.book.specs.Plays.{play, Plays-by-book}
+use Rattle.book.specs.Book.{Step-entry, begins, past, below, Finish-entry, whole, part, Entry}
+use Rattle.book.specs.Plays.{Plays-by-book}
 use Rattle.agreement.specs.Agrees.{Agrees}
 use Rattle.book.proofs.Once.{blank-begins, book-begins}
 use Rattle.book.proofs.Marks.{marked-words, marked-bit, marked-more, record-words, record-bit, record-past}
@@ -50,9 +50,9 @@ module _ (d : Flow) (k : Keeps d) (few : flow-events d ≤ 512) (t : List ℕ) (
           ap not (clear-each (record-after d book .bits) (events t) 512 (λ i l p. record-past d k book h i (rw (T .its-events) at p)));
     }
 
-    never-not-ready : (r : Report) → NotReady t (record-after d book .bits) r → ⊥
-    never-not-ready r (unsound q s) = clash (T .its-sound) s
-    never-not-ready r (bit-past q s y) = clash y (record-ready .its-bits)
+    neither-12-nor-13 : (r : Report) → NotReady t (record-after d book .bits) r → ⊥
+    neither-12-nor-13 r (unsound q s) = clash (T .its-sound) s
+    neither-12-nor-13 r (bit-past q s y) = clash y (record-ready .its-bits)
 
   -- Its bits are those after the events of the book, so what the rows say of it is what the process says of them.
   record-agrees : (book : List ℕ) → Agree (owns (expand d)) (bit-at (record-after d book .bits)) (after (expand d) book)
@@ -82,65 +82,51 @@ module _ (d : Flow) (k : Keeps d) (few : flow-events d ≤ 512) (t : List ℕ) (
       ap (λ (ws : List ℕ). record { bits = ws }) (step-marks book e y ∙ rw (marked-more (expand d) (blank-record .bits) book e))
 
   -- ---- one call
-  -- What a step answers is the book's answer, and the record after it is that of the book after it.
-  abbrev Goes-on : List ℕ → ℕ → Stepped → Type 0
-  Goes-on book e s = (next : List ℕ) × Step-entry d book e (stepped (s .answer)) next × (s .after ≡ record-after d next)
+  -- The answer to a step is the book's, and the record after it the one that the book after it leads to.
+  abbrev Step-by-book : List ℕ → ℕ → Stepped → Type 0
+  Step-by-book book e s =
+      (after : List ℕ) × Step-entry d book e (record { reply = stepped (s .answer); after = after }) × (s .after ≡ record-after d after)
 
-  step-goes : (book : List ℕ) → Begins (expand d) book → (e : ℕ) → Step-answer t (record-after d book) e (step-of t (record-after d book) e)
-      → Goes-on book e (step-of t (record-after d book) e)
-  step-goes book h e (event-taken q y) =
+  step-by-book : (book : List ℕ) → Begins (expand d) book → (e : ℕ) → Step-answer t (record-after d book) e (step-of t (record-after d book) e)
+      → Step-by-book book e (step-of t (record-after d book) e)
+  step-by-book book h e (event-taken q y) =
       let l = rw (T .its-events) at (y .below) in
       let done = ap (λ (s : Stepped). s .answer) q in (
         book ++ (e ∷ []),
-        begins (next-iff-enabled d k book e h .1 (l, rw (guard-says book e l) at (y .allowed))) (ap stepped done) refl,
+        begins (next-iff-enabled d k book e h .1 (l, rw (guard-says book e l) at (y .allowed))) (rw done),
         step-next book e done,
       )
-  step-goes book h e (step-not-ready not-ready kept) = absurd (never-not-ready book h _ not-ready)
-  step-goes book h e (past-events q kept r l) =
+  step-by-book book h e (step-not-ready not-ready kept) = absurd (neither-12-nor-13 book h _ not-ready)
+  step-by-book book h e (past-events q kept r l) =
       let l′ = rw (T .its-events) at l in (
         book,
-        past (λ b. let m = next-iff-enabled d k book e h .0 b .0 in omega arith) l′ (ap stepped (refused-as 14 (lit≤ tt) _ q)) refl,
+        past (λ b. let m = next-iff-enabled d k book e h .0 b .0 in omega arith) l′ (rw (refused-as 14 (lit≤ tt) (step-of t (record-after d book) e .answer) q)),
         kept,
       )
-  step-goes book h e (guard-says-no q kept r l y) =
+  step-by-book book h e (guard-says-no q kept r l y) =
       let l′ = rw (T .its-events) at l in (
         book,
-        below (λ b. clash (guard-says book e l′ ∙ next-iff-enabled d k book e h .0 b .1) y) l′ (ap stepped (refused-as 15 (lit≤ tt) _ q)) refl,
+        below (λ b. clash (guard-says book e l′ ∙ next-iff-enabled d k book e h .0 b .1) y) l′ (rw (refused-as 15 (lit≤ tt) (step-of t (record-after d book) e .answer) q)),
         kept,
       )
 
-  -- So is what finished answers.
-  finish-goes : (book : List ℕ) → Begins (expand d) book → Finish-answer t (record-after d book) (finished-of t (record-after d book))
-      → Finish-entry d book (reported (finished-of t (record-after d book))) book
-  finish-goes book h (run-finished q y) =
-      whole (whole-iff-complete d k book h .1 (rw (end-says book) at (y .says-so))) (ap reported q) refl
-  finish-goes book h (run-open q r y) = part (λ w. clash (end-says book ∙ whole-iff-complete d k book h .0 w) y) (ap reported q) refl
-  finish-goes book h (finished-not-ready not-ready) = absurd (never-not-ready book h _ not-ready)
+  -- So is what finished reports.
+  finished-by-book : (book : List ℕ) → Begins (expand d) book → Finish-answer t (record-after d book) (finished-of t (record-after d book))
+      → Finish-entry d book (record { reply = reported (finished-of t (record-after d book)); after = book })
+  finished-by-book book h (run-finished q y) = whole (whole-iff-complete d k book h .1 (rw (end-says book) at (y .says-so))) (rw q)
+  finished-by-book book h (run-open q r y) = part (λ w. clash (end-says book ∙ whole-iff-complete d k book h .0 w) y) (rw q)
+  finished-by-book book h (finished-not-ready not-ready) = absurd (neither-12-nor-13 book h _ not-ready)
 
-  -- ---- all calls
-  plays-on : (calls : List Call) (book : List ℕ) → Begins (expand d) book → Admits d book calls (play t (record-after d book) calls)
-  unfolding Admits play
-  plays-on [] book h = refl
-  plays-on (step e ∷ calls) book h =
-      let (next, E, q) = step-goes book h e (step-answered t (record-after d book) e) in
-      let reply = stepped (step-of t (record-after d book) e .answer) in (
-        reply,
-        next,
-        play t (record-after d next) calls,
-        E,
-        plays-on calls next (book-begins d book (step e) reply next h E),
-        ap (λ (r : Record). record { reply = reply; after = r } ∷ play t r calls) q,
-      )
-  plays-on (finished ∷ calls) book h = (
-    reported (finished-of t (record-after d book)),
-    book,
-    play t (record-after d book) calls,
-    finish-goes book h (finished-answered t (record-after d book)),
-    plays-on calls book h,
-    refl,
-  )
+  call-by-book : (book : List ℕ) → Begins (expand d) book → (c : Call)
+      → (after : List ℕ) × Entry d book c (record { reply = call t (record-after d book) c .reply; after = after }) × Begins (expand d) after
+      × (call t (record-after d book) c .after ≡ record-after d after)
+  call-by-book book h (step e) =
+      let (after, E, q) = step-by-book book h e (step-answered t (record-after d book) e) in
+      (after, E, book-begins d book (step e) _ h E, q)
+  call-by-book book h finished = (book, finished-by-book book h (finished-answered t (record-after d book)), h, refl)
 
--- A table that tells the process of a diagram is played by the book of the diagram.
+-- A table that agrees with the process of a diagram is played by the book of the diagram.
 pub agreeing-plays : (d : Flow) → Keeps d → flow-events d ≤ 512 → (t : List ℕ) → Agrees (expand d) (flow-events d) t → Plays-by-book d t
 unfolding marked-all
-agreeing-plays d k few t T calls = plays-on d k few t T calls [] (blank-begins d)
+agreeing-plays d k few t T calls =
+    by-book (Entry d) (record-after d) (call t) (λ (book : List ℕ). Begins (expand d) book) (call-by-book d k few t T) [] (blank-begins d) calls

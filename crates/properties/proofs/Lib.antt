@@ -1,4 +1,5 @@
 pub mod Kept
 pub mod One
 pub mod Two
+pub mod InC
 pub mod Three

@@ -1,4 +1,5 @@
 pub mod Calls
 pub mod One
 pub mod Two
+pub mod InC
 pub mod Three

@@ -3,7 +3,7 @@
 -- they lead to." It is "one statement about the whole list of calls".
 use mathlib.Core.Path.{_≡_}
 use mathlib.Core.Logic.{_⊎_}
-use mathlib.Core.List.{List, [], _∷_, map}
+use mathlib.Core.List.{List, map}
 use Prim.Native.Nat.{ℕ, _≤_}
 use lib.ListN.{length, take, replicate}
 use Rattle.diagram.specs.Tree.{Flow}
@@ -15,34 +15,28 @@ use Rattle.table.specs.declared.Stepped.{Stepped}
 use Rattle.reader.specs.Accepted.{Accepted}
 use Rattle.translator.specs.declared.Translated.{Translated}
 use Rattle.translator.specs.declared.Translated.the-variants.{Bytes}
-use Rattle.book.specs.Calls.{Call, step, finished, stepped, reported, Line}
-use Rattle.book.specs.Book.{Admits}
-use Rattle.runs.specs.InC.{C-line, in-c}
+use Rattle.plays.specs.Plays.{Line, Played}
+use Rattle.book.specs.Calls.{Call, step, finished, Reply, stepped, reported}
+use Rattle.book.specs.Book.{By-book}
+use Rattle.properties.specs.InC.{in-c}
 use Rattle.properties.specs.Calls.{Translates, Steps, Finishes, Updates, C-steps, C-finishes}
 
--- A list of calls that was made, with a line for each: "The first call gets the blank record, each later one what the call before returned or left; nobody else
--- writes table or record meanwhile." `made` says which line a call may give on a state, `after` the state that the line leaves.
-pub data Played {State Line : Type 0} (made : Call → State → Line → Type 0) (after : Line → State) : State → List Call → List Line → Type 0 where
-  none : {s : State} → Played made after s [] []
-  next : {s : State} {c : Call} {calls : List Call} {l : Line} {lines : List Line} → made c s l → Played made after (after l) calls lines
-      → Played made after s (c ∷ calls) (l ∷ lines)
-
 -- A step by value, the record handed on; or through the thin call on a lent record. A list may mix the two.
-abbrev pub Stepped-by-value : List ℕ → ℕ → Record → Line → Type 0
-Stepped-by-value t e before l = (r : Stepped) × Steps t before e r × (l ≡ record { reply = stepped (r .answer); after = r .after })
+abbrev pub Stepped-by-value : List ℕ → Record → ℕ → Line Reply Record → Type 0
+Stepped-by-value t before e l = (r : Stepped) × Steps t before e r × (l ≡ record { reply = stepped (r .answer); after = r .after })
 
-abbrev pub Stepped-in-place : List ℕ → ℕ → Record → Line → Type 0
-Stepped-in-place t e before l = (a : Answer) × (r : Record) × Updates t before e a r × (l ≡ record { reply = stepped a; after = r })
+abbrev pub Stepped-in-place : List ℕ → Record → ℕ → Line Reply Record → Type 0
+Stepped-in-place t before e l = (a : Answer) × (r : Record) × Updates t before e a r × (l ≡ record { reply = stepped a; after = r })
 
--- "The calls are step, with any event number, and finished."
-abbrev pub Makes : List ℕ → Call → Record → Line → Type 0
-Makes t (step e) before l = Stepped-by-value t e before l ⊎ Stepped-in-place t e before l
-Makes t finished before l = (f : Finish) × Finishes t before f × (l ≡ record { reply = reported f; after = before })
+-- "The calls are step, with any event number, and finished": what a call may have answered on a record, and the record after it.
+abbrev pub Makes : List ℕ → Record → Call → Line Reply Record → Type 0
+Makes t before (step e) l = Stepped-by-value t before e l ⊎ Stepped-in-place t before e l
+Makes t before finished l = (f : Finish) × Finishes t before f × (l ≡ record { reply = reported f; after = before })
 
 -- The same through the C calls step and finished, on a record's bytes.
-abbrev pub C-makes : List ℕ → Call → List ℕ → C-line → Type 0
-C-makes t (step e) bytes l = C-steps t bytes e (l .reply) (l .after)
-C-makes t finished bytes l = C-finishes t bytes (l .reply) × (l .after ≡ bytes)
+abbrev pub C-makes : List ℕ → List ℕ → Call → Line ℕ (List ℕ) → Type 0
+C-makes t bytes (step e) l = C-steps t bytes e (l .reply) (l .after)
+C-makes t bytes finished l = C-finishes t bytes (l .reply) × (l .after ≡ bytes)
 
 -- The bytes that translation wrote at the front of the lent buffer play by the book of the diagram.
 pub record Runs (d : Flow) (r : Translated) (left : List ℕ) : Type 0 where
@@ -50,14 +44,14 @@ pub record Runs (d : Flow) (r : Translated) (left : List ℕ) : Type 0 where
   pub count : ℕ
   pub written : r ≡ Bytes count
   -- the book, from the diagram and the calls alone, admits one list of answers and records, and no other
-  pub lines : List Call → List Line
-  pub kept : (calls : List Call) → Admits d [] calls (lines calls)
-  pub only : (calls : List Call) (other : List Line) → Admits d [] calls other → other ≡ lines calls
-  -- whatever the calls answered and left, from the blank record on, by value and through the thin call, is that list
-  pub by-book : (calls : List Call) (made : List Line) → Played (Makes (take count left)) (λ (l : Line). l .after) blank-record calls made → made ≡ lines calls
+  pub lines : List Call → List (Line Reply Record)
+  pub kept : (calls : List Call) → By-book d calls (lines calls)
+  pub only : (calls : List Call) (other : List (Line Reply Record)) → By-book d calls other → other ≡ lines calls
+  -- "The first call gets the blank record, each later one what the call before returned or left; nobody else writes table or record meanwhile": whatever the calls then
+  -- answered and left, by value and through the thin call, is that list
+  pub by-book : (calls : List Call) (made : List (Line Reply Record)) → Played (Makes (take count left)) blank-record calls made → made ≡ lines calls
   -- and through the C calls, from 64 zero bytes on, the numbers and bytes that stand for it
-  pub by-book-in-c : (calls : List Call) (made : List C-line) → Played (C-makes (take count left)) (λ (l : C-line). l .after) (replicate 64 0) calls made
-      → made ≡ map in-c (lines calls)
+  pub by-book-in-c : (calls : List Call) (made : List (Line ℕ (List ℕ))) → Played (C-makes (take count left)) (replicate 64 0) calls made → made ≡ map in-c (lines calls)
 
 -- "For an accepted, translated diagram": any text with its diagram, any buffer that is long enough, and whatever translation answered and left.
 abbrev pub Property-3 : Type 0

@@ -1,3 +1,2 @@
-pub mod Through
 pub mod Drawn
 pub mod Starred
