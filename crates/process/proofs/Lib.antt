@@ -24,4 +24,3 @@ pub mod Joins
 pub mod Read
 pub mod Listings
 pub mod NoTwo
-pub mod Starred

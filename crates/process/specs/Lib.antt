@@ -8,4 +8,3 @@ pub mod Decide
 pub mod Once
 pub mod Readings
 pub mod Listed
-pub mod Starred

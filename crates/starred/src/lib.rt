@@ -1,0 +1,1 @@
+// No code: the drawings worked through, by their texts.
