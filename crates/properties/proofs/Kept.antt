@@ -28,97 +28,58 @@ use Rattle.events.specs.Labels.{Valued}
 use Rattle.events.specs.Listing.{Listed}
 use Rattle.events.specs.declared.Label.{Label}
 use Rattle.events.proofs.Promised as events
-use Rattle.properties.specs.Calls.{Reads, Prints, Translates, Names, Values, Lists, Checks, Steps, Finishes, Offers, Updates, C-checks, C-steps, C-finishes, C-offers}
+use Rattle.properties.specs.Calls.{Made, Reads, Prints, Translates, Names, Values, Lists, Checks, Steps, Finishes, Offers, Updates, C-checks, C-steps, C-finishes, C-offers}
+
+-- What a law makes of a contract holds of a call that was made.
+kept : {Lifetimes : Type 0} {Args Result Exit : Lifetimes → Type 0} {contract these law : (κs : Lifetimes) → Args κs → Result κs → Exit κs → Type 0}
+    → ((κs : Lifetimes) (a : Args κs) (r : Result κs) (s : Exit κs) → contract κs a r s → law κs a r s)
+    → (m : Made contract these) → law (m .lifetimes) (m .args) (m .result) (m .exit)
+kept f m = f (m .lifetimes) (m .args) (m .result) (m .exit) (m .promised)
 
 pub steps-met : (t : List ℕ) (before : Record) (e : ℕ) (r : Stepped) → Steps t before e r → r ≡ step-of t before e
-steps-met t before e r m =
-    let (x, y, z, q) = m .said in
-    let p = table.step-promised (m .lifetimes) (m .args) (m .result) (m .exit) (m .promised) in
-    cc
+steps-met t before e r m = cc (kept table.step-promised m)
 
 pub finishes-met : (t : List ℕ) (before : Record) (f : Finish) → Finishes t before f → f ≡ finished-of t before
-finishes-met t before f m =
-    let (x, y, q) = m .said in
-    let p = table.finished-promised (m .lifetimes) (m .args) (m .result) (m .exit) (m .promised) in
-    cc
+finishes-met t before f m = cc (kept table.finished-promised m)
 
 pub updates-met : (t : List ℕ) (lent : Record) (e : ℕ) (a : Answer) (left : Record) → Updates t lent e a left → (a ≡ answer-of t lent e) × (left ≡ left-of t lent e)
-updates-met t lent e a left m =
-    let (x, y, z, q, k) = m .said in
-    let (p, o) = thin.step-promised (m .lifetimes) (m .args) (m .result) (m .exit) (m .promised) in
-    ((cc), (cc))
+updates-met t lent e a left m = let both = kept thin.step-promised m in ((cc), (cc))
 
 pub c-steps-met : (t bytes : List ℕ) (e n : ℕ) (left : List ℕ) → C-steps t bytes e n left → (n ≡ step-number t bytes e) × (left ≡ step-bytes t bytes e)
-c-steps-met t bytes e n left m =
-    let (x, y, z, q, k) = m .said in
-    let (p, o) = c.step-promised (m .lifetimes) (m .args) (m .result) (m .exit) (m .promised) in
-    ((cc), (cc))
+c-steps-met t bytes e n left m = let both = kept c.step-promised m in ((cc), (cc))
 
 pub c-finishes-met : (t bytes : List ℕ) (n : ℕ) → C-finishes t bytes n → n ≡ finished-number t bytes
-c-finishes-met t bytes n m =
-    let (x, y, q) = m .said in
-    let p = c.finished-promised (m .lifetimes) (m .args) (m .result) (m .exit) (m .promised) in
-    cc
+c-finishes-met t bytes n m = cc (kept c.finished-promised m)
 
 pub translates-met : (text lent : List ℕ) (r : Translated) (left : List ℕ) → Translates text lent r left → Translation text lent r left
-translates-met text lent r left m =
-    let (x, y, q, k) = m .said in
-    let p = translator.translate-promised (m .lifetimes) (m .args) (m .result) (m .exit) (m .promised) in
-    rw (← x, ← y, ← q, ← k) p
+translates-met text lent r left m = let (x, y, q, k) = m .said in rw (← x, ← y, ← q, ← k) (kept translator.translate-promised m)
 
 pub reads-met : (text : List ℕ) (o : ReadResult) → Reads text o → o ≡ read-of text
-reads-met text o m =
-    let (x, q) = m .said in
-    let p = reader.read-promised (m .lifetimes) (m .args) (m .result) (m .exit) (m .promised) in
-    cc
+reads-met text o m = cc (kept reader.read-promised m)
 
 pub prints-met : (text lent : List ℕ) (p : Printed) (left : List ℕ) → Prints text lent p left
     → (p ≡ print-of text lent) × (left ≡ left-by text lent (print-of text lent))
-prints-met text lent p left m =
-    let (x, y, q, k) = m .said in
-    let (u, v) = printer.print-promised (m .lifetimes) (m .args) (m .result) (m .exit) (m .promised) in
-    ((cc), (cc))
+prints-met text lent p left m = let both = kept printer.print-promised m in ((cc), (cc))
 
 pub names-met : (text : RefT (List ℕ)) (e : ℕ) (part : RefT (List ℕ)) → Names text e part → Named text e part
-names-met text e part m =
-    let (x, y, q) = m .said in
-    let p = events.name-promised (m .lifetimes) (m .args) (m .result) (m .exit) (m .promised) in
-    rw (← x, ← y, ← q) p
+names-met text e part m = let (x, y, q) = m .said in rw (← x, ← y, ← q) (kept events.name-promised m)
 
 pub values-met : (text : List ℕ) (e : ℕ) (l : Label) → Values text e l → Valued text e l
-values-met text e l m =
-    let (x, y, q) = m .said in
-    let p = events.values-promised (m .lifetimes) (m .args) (m .result) (m .exit) (m .promised) in
-    rw (← x, ← y, ← q) p
+values-met text e l m = let (x, y, q) = m .said in rw (← x, ← y, ← q) (kept events.values-promised m)
 
 pub lists-met : (text lent : List ℕ) (n : ℕ) (left : List ℕ) → Lists text lent n left → Listed text lent n left
-lists-met text lent n left m =
-    let (x, y, q, k) = m .said in
-    let p = events.list-promised (m .lifetimes) (m .args) (m .result) (m .exit) (m .promised) in
-    rw (← x, ← y, ← q, ← k) p
+lists-met text lent n left m = let (x, y, q, k) = m .said in rw (← x, ← y, ← q, ← k) (kept events.list-promised m)
 
 pub checks-met : (t : List ℕ) (a : Answer) → Checks t a → a ≡ check-of t
-checks-met t a m =
-    let (x, q) = m .said in
-    let p = table.check-promised (m .lifetimes) (m .args) (m .result) (m .exit) (m .promised) in
-    cc
+checks-met t a m = cc (kept table.check-promised m)
 
 pub offers-met : (t : List ℕ) (before : Record) (lent : List ℕ) (a : Answer) (left : List ℕ) → Offers t before lent a left
     → (a ≡ offer-of t before lent) × (left ≡ offer-left t before lent (offer-of t before lent))
-offers-met t before lent a left m =
-    let (x, y, z, q, k) = m .said in
-    let (u, v) = table.offer-promised (m .lifetimes) (m .args) (m .result) (m .exit) (m .promised) in
-    ((cc), (cc))
+offers-met t before lent a left m = let both = kept table.offer-promised m in ((cc), (cc))
 
 pub c-checks-met : (t : List ℕ) (n : ℕ) → C-checks t n → n ≡ check-number t
-c-checks-met t n m =
-    let (x, q) = m .said in
-    let p = c.check-promised (m .lifetimes) (m .args) (m .result) (m .exit) (m .promised) in
-    cc
+c-checks-met t n m = cc (kept c.check-promised m)
 
 pub c-offers-met : (t bytes lent : List ℕ) (n : ℕ) (left : List ℕ) → C-offers t bytes lent n left
     → (n ≡ offer-number t bytes lent) × (left ≡ offer-bytes t bytes lent)
-c-offers-met t bytes lent n left m =
-    let (x, y, z, q, k) = m .said in
-    let (u, v) = c.offer-promised (m .lifetimes) (m .args) (m .result) (m .exit) (m .promised) in
-    ((cc), (cc))
+c-offers-met t bytes lent n left m = let both = kept c.offer-promised m in ((cc), (cc))

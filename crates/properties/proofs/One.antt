@@ -14,8 +14,8 @@ use Rattle.properties.specs.Calls.{Updates}
 use Rattle.properties.specs.One.{Unasked, Property-1}
 use Rattle.properties.proofs.Kept.{reads-met, prints-met, translates-met, names-met, values-met, lists-met, checks-met, steps-met, finishes-met, offers-met, updates-met, c-checks-met, c-steps-met, c-finishes-met, c-offers-met}
 
-nothing-asked : Unasked
-nothing-asked = record {
+unasked : Unasked
+unasked = record {
   read = λ κs a. tt;
   print = λ κs a. tt;
   translate = λ κs a. tt;
@@ -38,7 +38,7 @@ updated t lent e a left m = let (x, y) = updates-met t lent e a left m in rw (x,
 
 pub property-1 : Property-1
 property-1 = record {
-  as-finish = nothing-asked;
+  nothing-asked = unasked;
   read = λ text o m. rw (reads-met text o m) (read-bounded text);
   print = λ text lent p left m. let (x, y) = prints-met text lent p left m in rw (x, y) (print-bounded text lent);
   translate = λ text lent r left m. translate-bounded text lent r left (translates-met text lent r left m);

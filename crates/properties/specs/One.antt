@@ -60,7 +60,7 @@ pub record Unasked : Type 0 where
 
 -- Each relation on the right gives the result, or the refusal by its own condition with every lent byte as it was, and admits one answer only.
 pub record Property-1 : Type 0 where
-  pub as-finish : Unasked
+  pub nothing-asked : Unasked
   pub read : (text : List ℕ) (o : ReadResult) → Reads text o → reader.Bounded text o
   pub print : (text lent : List ℕ) (p : Printed) (left : List ℕ) → Prints text lent p left → printer.Bounded text lent p left
   pub translate : (text lent : List ℕ) (r : Translated) (left : List ℕ) → Translates text lent r left → translator.Bounded text lent r left
