@@ -2,7 +2,8 @@
 use mathlib.Core.Path.{_≡_, refl, sym, _∙_, ap, ap₂}
 use mathlib.Core.Logic.{_⊎_, inl, inr}
 use mathlib.Core.Bool.{Bool, true, false, _||_, true≢false, or-comm}
-use mathlib.Core.List.{List, [], _∷_, _++_, append-nil, concat, concat-eq-append, eq-nil-or-concat, cons≢nil, head-eq-of-cons-eq, tail-eq-of-cons-eq}
+use mathlib.Core.List.{List, [], _∷_, _++_, append-nil, reverse, reverse-append, reverse-reverse, concat-ne-nil, cons≢nil, head-eq-of-cons-eq, tail-eq-of-cons-eq}
+use mathlib.Mathlib.Data.List.Basic.{eq-nil-or-concat'}
 use Prim.Native.Nat.{ℕ}
 use Rattle.base.proofs.Truth.{cases, is-false, or-l, or-r, or-e}
 use Rattle.process.specs.Runs.{All, Mix, done, left, right}
@@ -32,8 +33,7 @@ filled-snoc [] e = refl
 filled-snoc (x ∷ u) e = refl
 
 pub snoc≢nil : (u : List ℕ) (e : ℕ) → u ++ (e ∷ []) ≡ [] → ⊥
-snoc≢nil [] e h = cons≢nil h
-snoc≢nil (x ∷ u) e h = cons≢nil h
+snoc≢nil u e = concat-ne-nil e u
 
 -- Two ways to cut one list: one first part continues the other.
 abbrev pub Cut : List ℕ → List ℕ → List ℕ → List ℕ → Type 0
@@ -53,17 +53,12 @@ cut (y ∷ w) x (z ∷ a) c e = up (cut w x a c (tail-eq-of-cons-eq e))
 
 -- A list is empty or ends in an element.
 pub last : (w : List ℕ) → (w ≡ []) ⊎ ((u : List ℕ) × (e : ℕ) × (w ≡ u ++ (e ∷ [])))
-last w = go (eq-nil-or-concat w)
-  where
-    go : (w ≡ []) ⊎ ((u : List ℕ) × (e : ℕ) × (w ≡ concat u e)) → (w ≡ []) ⊎ ((u : List ℕ) × (e : ℕ) × (w ≡ u ++ (e ∷ [])))
-    go (inl h) = inl h
-    go (inr (u, e, h)) = inr (u, e, h ∙ concat-eq-append u e)
+last = eq-nil-or-concat'
 
 pub snoc-eq : (u v : List ℕ) (a b : ℕ) → u ++ (a ∷ []) ≡ v ++ (b ∷ []) → (u ≡ v) × (a ≡ b)
-snoc-eq [] [] a b e = (refl, head-eq-of-cons-eq e)
-snoc-eq [] (y ∷ v) a b e = absurd (snoc≢nil v b (sym (tail-eq-of-cons-eq e)))
-snoc-eq (x ∷ u) [] a b e = absurd (snoc≢nil u a (tail-eq-of-cons-eq e))
-snoc-eq (x ∷ u) (y ∷ v) a b e = let r = snoc-eq u v a b (tail-eq-of-cons-eq e) in (cons-eq (head-eq-of-cons-eq e) (r .0), r .1)
+snoc-eq u v a b e =
+    let r : a ∷ reverse u ≡ b ∷ reverse v = sym (reverse-append u (a ∷ [])) ∙ (ap reverse e ∙ reverse-append v (b ∷ [])) in
+    (sym (reverse-reverse u) ∙ (ap reverse (tail-eq-of-cons-eq r) ∙ reverse-reverse v), head-eq-of-cons-eq r)
 
 -- Tests of all elements.
 pub all-append : (I : ℕ → Bool) (u v : List ℕ) → All I u → All I v → All I (u ++ v)

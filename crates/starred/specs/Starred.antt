@@ -25,16 +25,23 @@ pub record Drawing : Type 0 where
   pub text : String
   pub lines : List Line
 
--- The starred lines of document 01: of T, and of U, whose events are a 0, b 1, reset 2, c 3.
+-- Document 01's T, and its U: "events a 0, b 1, reset 2, c 3".
+abbrev T : String
+T = "flow(trip,1)(leaf(take)(0)loop(leaf(fill))(0)xor(leaf(send)leaf(drop))(0)leaf(free)(1))"
+
+abbrev U : String
+U = "flow(t,1)(loop(flow(r,1)(leaf(a)(0)leaf(b)(1)))(0)leaf(c)(1))"
+
+-- The starred lines of document 01.
 abbrev pub table : List Drawing
 table =
     record {
-      text = "flow(trip,1)(leaf(take)(0)loop(leaf(fill))(0)xor(leaf(send)leaf(drop))(0)leaf(free)(1))";
+      text = T;
       lines =
           whole (0 ∷ 2 ∷ 4 ∷ []) ∷ whole (0 ∷ 1 ∷ 1 ∷ 3 ∷ 4 ∷ []) ∷ refused (0 ∷ 2 ∷ []) 3 ∷ refused (0 ∷ 2 ∷ 4 ∷ []) 4 ∷ refused (0 ∷ 2 ∷ []) 1 ∷ [];
     }
     ∷ record {
-      text = "flow(t,1)(loop(flow(r,1)(leaf(a)(0)leaf(b)(1)))(0)leaf(c)(1))";
+      text = U;
       lines =
           whole (3 ∷ []) ∷ whole (0 ∷ 1 ∷ 2 ∷ 3 ∷ []) ∷ refused (0 ∷ 1 ∷ []) 3 ∷ refused (0 ∷ []) 3
           ∷ byte (0 ∷ 1 ∷ []) 192 ∷ byte (0 ∷ 1 ∷ 2 ∷ []) 32 ∷ byte (0 ∷ 1 ∷ 2 ∷ 3 ∷ []) 48 ∷ [];
@@ -86,7 +93,7 @@ ours =
     }
     -- two rounds of U
     ∷ record {
-      text = "flow(t,1)(loop(flow(r,1)(leaf(a)(0)leaf(b)(1)))(0)leaf(c)(1))";
+      text = U;
       lines = byte (0 ∷ 1 ∷ 2 ∷ 0 ∷ []) 160 ∷ whole (0 ∷ 1 ∷ 2 ∷ 0 ∷ 1 ∷ 2 ∷ 3 ∷ []) ∷ byte (0 ∷ 1 ∷ 2 ∷ 0 ∷ 1 ∷ 2 ∷ 3 ∷ []) 48 ∷ [];
     }
     ∷ []
