@@ -1,8 +1,7 @@
 -- The lines of the drawings hold: one computation over the whole table, and one law that turns a line's test into the line.
 use mathlib.Core.Path.{_≡_, refl, sym, ap, _∙_}
 use mathlib.Core.Bool.{Bool, true, not, _&&_}
-use mathlib.Core.List.{List, [], _∷_, _++_, map, List·Memᴰ, head-eq-of-cons-eq, tail-eq-of-cons-eq}
-use mathlib.Core.List.{List·Memᴰ·head, List·Memᴰ·tail}
+use mathlib.Core.List.{List, [], _∷_, _++_, map, List·Memᴰ, List·Memᴰ·head, List·Memᴰ·tail, head-eq-of-cons-eq, tail-eq-of-cons-eq}
 use Prim.Native.Nat.{ℕ}
 use lib.Dec.{eqb, leb, lit<}
 use lib.ListN.{length}
