@@ -33,8 +33,8 @@ use Rattle.labels.specs.Values.{packed}
 use Rattle.labels.specs.Stands.{Stands}
 use Rattle.labels.specs.Seeks.{spot-of}
 use Rattle.labels.specs.declared.Spot.{Spot}
-use Rattle.labels.proofs.Sought.{Labels, nothing}
-use Rattle.labels.proofs.Labelled.{labelled}
+use Rattle.labels.proofs.SearchByTree.{Labels, nothing}
+use Rattle.labels.proofs.SearchByText.{labelled}
 use Rattle.reader.specs.Reading.{Reading, drawing, no-drawing}
 use Rattle.events.specs.Labels.{label, label-of, Valued}
 use Rattle.events.specs.Names.{name-of, Placed, Part, Named}

@@ -6,7 +6,9 @@ use Prim.Native.Nat.{ℕ, suc, _+_, _*_, _≤_, _<_}
 use native.Mathlib.Omega.{arith}
 use lib.ListN.{length, length-append}
 use Rattle.diagram.specs.Count.{flow-events, flow-copies}
+use Rattle.base.specs.Text.{bytes}
 use Rattle.output.proofs.Decimals.{decimal-short}
+use Rattle.output.proofs.Lines.{two-numbers-short, refused-short}
 use Rattle.reader.specs.Answers.{read-of}
 use Rattle.reader.specs.Bounds.{Bounded, result, refusal}
 use Rattle.reader.specs.declared.Answer.the-variants.{Refused}
@@ -18,7 +20,7 @@ use Rattle.process.specs.Process.{Event, events}
 use Rattle.process.specs.Expand.{expand}
 use Rattle.process.proofs.Events.{events-counted}
 use Rattle.reader.specs.Reading.{Reading, drawing, no-drawing}
-use Rattle.events.specs.Listing.{first-line, refused-line, spaced, mark, line, lines, listing}
+use Rattle.events.specs.Listing.{first-line, spaced, mark, line, lines, listing}
 use Rattle.events.proofs.Short.{Each, Small, Short, events-short}
 
 -- A value below 16 has at most 2 digits, and a space before them.
@@ -45,11 +47,7 @@ lines-short e (l ∷ ls) h s =
 
 first-short : (e c : ℕ) → e < 1000 → c < 1000 → length (first-line e c) ≤ 22
 unfolding first-line
-first-short e c h k = simp length-append (omega (arith, decimal-short 2 e h, decimal-short 2 c k))
-
-refused-short : (number place : ℕ) → number < 100 → place < 100000 → length (refused-line number place) ≤ 17
-unfolding refused-line
-refused-short n p h k = simp length-append (omega (arith, decimal-short 1 n h, decimal-short 4 p k))
+first-short e c h k = omega (arith, two-numbers-short (bytes "events ") (bytes " copies ") e c 2 2 h k)
 
 -- The number and the place with which a text is turned away are small.
 pub near : (text : List ℕ) (number place : ℕ) → RefusedAt text number place → (2 ≤ number) × (number ≤ 11) × (place ≤ 16384)

@@ -19,7 +19,7 @@ use Rattle.process.specs.Process.{Event, event-of}
 use Rattle.process.specs.Expand.{expand}
 use Rattle.labels.specs.Values.{values, packed}
 use Rattle.labels.specs.declared.Values.{Values}
-use Rattle.labels.proofs.Stood.{one-place}
+use Rattle.labels.proofs.OnePlace.{one-place}
 use Rattle.reader.specs.Reading.{Reading, drawing, no-drawing}
 use Rattle.events.specs.Labels.{label, label-of, Valued}
 use Rattle.events.specs.Names.{name-of, Placed, Named}

@@ -6,21 +6,18 @@ use mathlib.Core.List.{List, [], _∷_, _++_}
 use Prim.Native.Nat.{ℕ, suc}
 use lib.ListN.{length}
 use Rattle.base.specs.Fill.{fill}
+use Rattle.base.specs.Text.{bytes}
 use Rattle.diagram.specs.Tree.{Flow}
 use Rattle.diagram.specs.Count.{flow-events, flow-copies}
 use Rattle.process.specs.Process.{Event, events}
 use Rattle.process.specs.Expand.{expand}
 use Rattle.output.specs.Decimal.{decimal}
+use Rattle.output.specs.Lines.{two-numbers, refused-line}
 use Rattle.reader.specs.Reading.{Reading, drawing, no-drawing}
 
 -- `events E copies C`
 unfoldable pub first-line : ℕ → ℕ → List ℕ
-first-line e c =
-    (101 ∷ 118 ∷ 101 ∷ 110 ∷ 116 ∷ 115 ∷ 32 ∷ []) ++ (decimal e ++ ((32 ∷ 99 ∷ 111 ∷ 112 ∷ 105 ∷ 101 ∷ 115 ∷ 32 ∷ []) ++ (decimal c ++ (10 ∷ []))))
-
--- `refused NUMBER PLACE`
-unfoldable pub refused-line : ℕ → ℕ → List ℕ
-refused-line number place = (114 ∷ 101 ∷ 102 ∷ 117 ∷ 115 ∷ 101 ∷ 100 ∷ 32 ∷ []) ++ (decimal number ++ ((32 ∷ []) ++ (decimal place ++ (10 ∷ []))))
+first-line e c = two-numbers (bytes "events ") e (bytes " copies ") c
 
 -- Values, "each after a space".
 unfoldable pub spaced : List ℕ → List ℕ

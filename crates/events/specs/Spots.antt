@@ -17,7 +17,8 @@ use Rattle.labels.specs.Seeks.{spot-of}
 use Rattle.events.specs.declared.Label.{Label}
 use Rattle.events.specs.declared.Label.the-variants.{Leaf, Reset, Refused}
 use Rattle.events.specs.Names.{Part}
-use Rattle.events.specs.Listing.{first-line, refused-line, mark}
+use Rattle.events.specs.Listing.{first-line, mark}
+use Rattle.output.specs.Lines.{refused-line}
 
 -- The word that starts at a place, as that very part of the text.
 pub record Word (text : RefT (List ℕ)) (at : ℕ) (r : RefT (List ℕ)) : Type 0 where

@@ -1,13 +1,8 @@
 ghost use mathlib.Core.Path.{_≡_};
-ghost use Prim.Native.Nat.{ℕ, _<_};
-ghost use lib.ListN.{length};
-ghost use Rattle.diagram.specs.declared.Diagram.{Diagram};
-ghost use Rattle.labels.specs.Rows.{columns, rows};
-ghost use Rattle.labels.specs.Seeks.{seek, begin, spot-of};
 ghost use Rattle.output.specs.Buffer.{buffer, put-all};
 ghost use Rattle.events.specs.Names.{Named};
 ghost use Rattle.events.specs.Labels.{Valued};
-ghost use Rattle.events.specs.Listing.{first-line, refused-line, mark as mark-of, Listed};
+ghost use Rattle.events.specs.Listing.{mark as mark-of, Listed};
 ghost use Rattle.events.specs.Spots.{Word, passed-on, refusal-line, spot-label, spaced-value, spaced-values, spot-line, spot-lines, spot-listing};
 use diagram::Diagram;
 use labels::Spot;
@@ -32,27 +27,6 @@ fn word(text: &[u8], at: usize) -> &[u8]
     &text[at..end]
 }
 
-// What an event number stands for.
-fn find(d: Diagram, event: usize) -> Spot
-    ensures { λ r. ⌜ r ≡ spot-of d event ⌝ }
-{
-    let r = labels::prepare(d);
-    let kinds = r.kinds;
-    let sizes = r.sizes;
-    let depths = r.depths;
-    let places = r.places;
-    let weights = r.weights;
-    let n = r.count;
-    labels::seek(
-        &kinds[..n],
-        &sizes[..n],
-        &depths[..n],
-        &places,
-        &weights,
-        event,
-    )
-}
-
 // The name of an event: a leaf's, for a reset that of its body's flow; empty where the text is refused, or the number is at or past E.
 pub fn name(text: &[u8], event: u64) -> &[u8]
     ensures { λ r. ⌜ Named (text .entry) event r ⌝ }
@@ -67,7 +41,7 @@ pub fn name(text: &[u8], event: u64) -> &[u8]
     if events <= event {
         return &text[..0];
     }
-    let s = find(d, event as usize);
+    let s = labels::find(d, event as usize);
     word(text, s.place)
 }
 
@@ -78,7 +52,7 @@ fn labelled(d: Diagram, event: u64) -> Label
     if (d.events as u64) <= event {
         return Label::Refused(14, 0);
     }
-    let s = find(d, event as usize);
+    let s = labels::find(d, event as usize);
     let values = s.values;
     if s.reset {
         return Label::Reset(values);
@@ -107,28 +81,6 @@ pub fn values(text: &[u8], event: u64) -> Label
     };
     let d = o.diagram;
     labelled(d, event)
-}
-
-// `refused`, number and place; as far as `out` goes.
-pub fn refused(number: u8, place: usize, out: &mut [u8], at: usize) -> usize
-    ensures { λ r. ⌜ buffer r (now (out .exit)) ≡ put-all (refused-line number place) (buffer at (now (out .entry))) ⌝ }
-{
-    let a = output::bytes(out, at, b"refused ");
-    let b = output::number(out, a, number as usize);
-    let c = output::bytes(out, b, b" ");
-    let d = output::number(out, c, place);
-    output::bytes(out, d, b"\n")
-}
-
-// `events E copies C`.
-fn first(events: usize, copies: usize, out: &mut [u8]) -> usize
-    ensures { λ r. ⌜ buffer r (now (out .exit)) ≡ put-all (first-line events copies) (buffer 0 (now (out .entry))) ⌝ }
-{
-    let a = output::bytes(out, 0, b"events ");
-    let b = output::number(out, a, events);
-    let c = output::bytes(out, b, b" copies ");
-    let d = output::number(out, c, copies);
-    output::bytes(out, d, b"\n")
 }
 
 // `reset` and a space, or nothing.
@@ -173,24 +125,24 @@ fn line(text: &[u8], out: &mut [u8], at: usize, e: usize, s: Spot) -> usize
     output::bytes(out, f, b"\n")
 }
 
-// The lines of the events below `events`, by the nodes of the drawing.
-fn lines(
-    text: &[u8],
-    out: &mut [u8],
-    at: usize,
-    events: usize,
-    kinds: &[u8],
-    sizes: &[u8],
-    depths: &[usize],
-    places: &[usize],
-    weights: &[usize],
-) -> usize
-    ensures { λ r. ⌜ ((d : Diagram) → ((e : ℕ) → seek (rows (columns (now (kinds .entry)) (now (sizes .entry)) (now (depths .entry)) (now (places .entry))) (now (weights .entry)) 0 (length (now (kinds .entry)))) (begin e) ≡ spot-of d e) → buffer r (now (out .exit)) ≡ put-all (spot-lines (now (text .entry)) d 0 events) (buffer at (now (out .entry)))) ⌝ }
+// The lines of all events.
+fn lines(text: &[u8], out: &mut [u8], at: usize, d: Diagram) -> usize
+    ensures { λ r. ⌜ buffer r (now (out .exit)) ≡ put-all (spot-lines (now (text .entry)) d 0 (d .events)) (buffer at (now (out .entry))) ⌝ }
 {
+    let c = diagram::columns(d);
+    let weights = labels::weigh(c);
     let mut n = at;
     let mut e = 0;
-    while e < events {
-        let s = labels::seek(kinds, sizes, depths, places, weights, e);
+    while e < d.events {
+        let s = labels::seek(
+            &c.kinds,
+            &c.sizes,
+            &c.depths,
+            &c.names,
+            &weights,
+            c.count,
+            e,
+        );
         n = line(text, out, n, e, s);
         e += 1;
     }
@@ -201,25 +153,8 @@ fn lines(
 fn drawn(text: &[u8], d: Diagram, out: &mut [u8]) -> usize
     ensures { λ r. ⌜ buffer r (now (out .exit)) ≡ put-all (spot-listing (now (text .entry)) d) (buffer 0 (now (out .entry))) ⌝ }
 {
-    let at = first(d.events, d.copies, out);
-    let r = labels::prepare(d);
-    let kinds = r.kinds;
-    let sizes = r.sizes;
-    let depths = r.depths;
-    let places = r.places;
-    let weights = r.weights;
-    let n = r.count;
-    lines(
-        text,
-        out,
-        at,
-        d.events,
-        &kinds[..n],
-        &sizes[..n],
-        &depths[..n],
-        &places,
-        &weights,
-    )
+    let at = output::numbers(out, 0, b"events ", d.events, b" copies ", d.copies);
+    lines(text, out, at, d)
 }
 
 // The line of a text that was not read.
@@ -228,7 +163,7 @@ fn write_refusal(answer: Answer, out: &mut [u8]) -> usize
 {
     match answer {
         Answer::Done => 0,
-        Answer::Refused(number, place) => refused(number, place, out, 0),
+        Answer::Refused(number, place) => output::refused(out, 0, number, place),
     }
 }
 

@@ -10,29 +10,28 @@ use borrow.Author.Tests.{lt-ltb, lt-leb, le-leb, ne-eqb}
 use Rattle.reader.specs.ShownNodes.{ShownNode}
 use Rattle.process.specs.Process.{Event, Joint, seq, and, or, xor, Process, event, join, again, rounds}
 use Rattle.process.specs.Expand.{copies}
-use Rattle.expansion.specs.Columns.{Columns}
 use Rattle.postfix.specs.Postfix.{joint-code, postfix}
-use Rattle.expansion.specs.Walks.{add, more, again-at, further, part, by-kind}
-use Rattle.expansion.proofs.Seen.{seen, kind-seen, size-seen, depth-seen, first, column-at, node-inside}
+use Rattle.expansion.specs.Walks.{Columns, add, more, again-at, further, part, by-kind}
+use Rattle.expansion.proofs.ShownColumns.{shown-columns, shown-kind, shown-size, shown-depth, first, column-at, node-inside}
 use Rattle.expansion.proofs.Writing.{written, add-written}
 use Rattle.postfix.proofs.Short.{long, long-join, long-rounds}
 use Rattle.expansion.proofs.Longer.{copies-longer}
 
 -- What stands in the columns at node i.
 pub record Here (c : Columns) (i kind size depth : ℕ) : Type 0 where
-  pub inside : i < length (c .kinds)
+  pub inside : i < c .count
   pub kind-is : getD (c .kinds) i 0 ≡ kind
   pub size-is : getD (c .sizes) i 0 ≡ size
   pub depth-is : getD (c .depths) i 0 ≡ depth
 
 pub here : (vs : List ShownNode) (i : ℕ) (v : ShownNode) (rest : List ShownNode) → drop i vs ≡ v ∷ rest
-    → Here (seen vs) i (kind-seen v) (size-seen v) (depth-seen v)
+    → Here (shown-columns vs) i (shown-kind v) (shown-size v) (shown-depth v)
 here vs i v rest h =
     record {
-      inside = rw (length-map vs kind-seen) (node-inside vs rest i v h);
-      kind-is = column-at kind-seen vs i ∙ ap (first kind-seen) h;
-      size-is = column-at size-seen vs i ∙ ap (first size-seen) h;
-      depth-is = column-at depth-seen vs i ∙ ap (first depth-seen) h;
+      inside = node-inside vs rest i v h;
+      kind-is = column-at shown-kind vs i ∙ ap (first shown-kind) h;
+      size-is = column-at shown-size vs i ∙ ap (first shown-size) h;
+      depth-is = column-at shown-depth vs i ∙ ap (first shown-depth) h;
     }
 
 -- From node i on to `end` the walk writes the process, wherever there is room.
@@ -78,7 +77,7 @@ module _ (lent : List ℕ) (c : Columns) (left i : ℕ) where
   enter : {kind size depth : ℕ} → Here c i kind size depth → (w : List ℕ)
       → part (suc left) c (written lent i w) ≡ by-kind (part left c) c i (written lent i w)
   unfolding part
-  enter h w = rw (lt-leb (length (c .kinds)) i (h .inside))
+  enter h w = rw (lt-leb (c .count) i (h .inside))
 
   pub leaf-walked : {size depth : ℕ} (e : ℕ) (l : Event) → Here c i 0 size depth → Walked lent c (suc left) i (i + 1) (event e l)
   unfolding postfix
@@ -94,7 +93,7 @@ module _ (lent : List ℕ) (c : Columns) (left i : ℕ) where
   again-walked e l h k = record {
     law = λ w room.
         enter h w
-        ∙ rw (h .kind-is, lt-ltb (i + 1) (length (c .kinds)) (k .inside), k .kind-is) (add-written lent (i + 1 + 1) w 1 (omega arith));
+        ∙ rw (h .kind-is, lt-ltb (i + 1) (c .count) (k .inside), k .kind-is) (add-written lent (i + 1 + 1) w 1 (omega arith));
   }
 
   pub rounds-walked : {s t u v end : ℕ} {p : Process} (r : ℕ) (l : Event) → Here c i 1 s t → Here c (i + 1) 3 u v
@@ -105,7 +104,7 @@ module _ (lent : List ℕ) (c : Columns) (left i : ℕ) where
         let long-r = long-rounds p r l in
         let long-w = length-append w (postfix p) in
         enter h w
-        ∙ rw (h .kind-is, lt-ltb (i + 1) (length (c .kinds)) (k .inside), k .kind-is)
+        ∙ rw (h .kind-is, lt-ltb (i + 1) (c .count) (k .inside), k .kind-is)
         (ap (add 2) (body .law w (omega arith)) ∙ (add-written lent end (w ++ postfix p) 2 (omega arith)
         ∙ ap (written lent end) (append-assoc w (postfix p) (2 ∷ []))));
   }

@@ -1,7 +1,5 @@
 pub mod Steps
-pub mod Filled
-pub mod Held
-pub mod Seen
+pub mod ShownColumns
 pub mod Writing
 pub mod Longer
 pub mod Joins

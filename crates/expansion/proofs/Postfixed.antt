@@ -20,10 +20,10 @@ use Rattle.reader.specs.ShownNodes.{ShownNode, Shows, group-kind, replicator-ki
 use Rattle.process.specs.Process.{Joint, seq, Process, join}
 use Rattle.process.specs.Expand.{leaf-copy, reset-of, joint, expand, flow-process, children-process, child-process, loop-process, member-process, members-process}
 use Rattle.process.proofs.Events.{expand-laid}
-use Rattle.expansion.specs.Columns.{kind-number, size-number, Columns}
+use Rattle.diagram.specs.Columns.{kind-number, size-number}
 use Rattle.postfix.specs.Postfix.{joint-code, postfix}
-use Rattle.expansion.specs.Walks.{place, expanded}
-use Rattle.expansion.proofs.Seen.{seen, depth-seen, first, column-at, columns-seen}
+use Rattle.expansion.specs.Walks.{Columns, place, expanded}
+use Rattle.expansion.proofs.ShownColumns.{shown-columns, shown-depth, first, column-at, columns-shown}
 use Rattle.expansion.proofs.Writing.{written}
 use Rattle.postfix.proofs.Short.{long-join, postfix-short}
 use Rattle.expansion.proofs.Longer.{children-longer, members-longer}
@@ -46,18 +46,18 @@ replicator-here one size h = h
 
 module _ (lent : List ℕ) (vs : List ShownNode) where
   -- The depth of a node, by what stands from it on.
-  depth-at : (i d : ℕ) (l : List ShownNode) → drop i vs ≡ l → first depth-seen l ≡ d → getD (seen vs .depths) i 0 ≡ d
-  depth-at i d l h e = column-at depth-seen vs i ∙ (ap (first depth-seen) h ∙ e)
+  depth-at : (i d : ℕ) (l : List ShownNode) → drop i vs ≡ l → first shown-depth l ≡ d → getD (shown-columns vs .depths) i 0 ≡ d
+  depth-at i d l h e = column-at shown-depth vs i ∙ (ap (first shown-depth) h ∙ e)
 
   -- There is no further part of node i where what follows is no deeper than it.
-  stops : {i kind d at : ℕ} (l : List ShownNode) → Here (seen vs) i kind 0 d → drop at vs ≡ l → first depth-seen l ≤ d → (left n : ℕ) (p : Process)
-      → Joined lent (seen vs) left i n at at p p
+  stops : {i kind d at : ℕ} (l : List ShownNode) → Here (shown-columns vs) i kind 0 d → drop at vs ≡ l → first shown-depth l ≤ d → (left n : ℕ) (p : Process)
+      → Joined lent (shown-columns vs) left i n at at p p
   stops {i} {kind} {d} {at} l h pos e left n p =
-      let a = depth-at at (first depth-seen l) l pos refl in
+      let a = depth-at at (first shown-depth l) l pos refl in
       let b = h .depth-is in
-      no-further lent (seen vs) left i n p (rw (h .size-is) (omega arith))
+      no-further lent (shown-columns vs) left i n p (rw (h .size-is) (omega arith))
 
-  flow-here : (f : Flow) (b : Bool) (d i : ℕ) (more : List ShownNode) → drop i vs ≡ flow-shown-nodes f b d more → Here (seen vs) i 3 0 d
+  flow-here : (f : Flow) (b : Bool) (d i : ℕ) (more : List ShownNode) → drop i vs ≡ flow-shown-nodes f b d more → Here (shown-columns vs) i 3 0 d
   unfolding flow-shown-nodes
   flow-here (flow n ps sw c r cs) b d i more pos = here vs i _ _ pos
 
@@ -66,14 +66,14 @@ module _ (lent : List ℕ) (vs : List ShownNode) where
     unfolding flow-process flow-shown-nodes flow-nodes flow-depth flow-sized
 
     flow-walked : (f : Flow) (left : ℕ) (b : Bool) (d i : ℕ) (more : List ShownNode) → flow-depth f ≤ left → flow-sized f ≡ true
-        → flow-nodes f ≤ 256 → first depth-seen more ≤ d → drop i vs ≡ flow-shown-nodes f b d more → (vals : List ℕ) (e : ℕ)
-        → Walked lent (seen vs) left i (i + flow-nodes f) (flow-process f vals e)
+        → flow-nodes f ≤ 256 → first shown-depth more ≤ d → drop i vs ≡ flow-shown-nodes f b d more → (vals : List ℕ) (e : ℕ)
+        → Walked lent (shown-columns vs) left i (i + flow-nodes f) (flow-process f vals e)
     flow-walked (flow n ps sw c r cs) zero b d i more deep sized few after pos vals e = let z : ⊥ = omega arith in absurd z
     flow-walked (flow n ps sw c r cs) (suc left) b d i more deep sized few after pos vals e =
         let h = here vs i _ _ pos in
         let inside = drop-both vs i 1 pos refl in
         let past = drop-both vs (i + 1) (child-nodes c) inside (child-past c r (suc d) (children-shown-nodes cs (suc d) more)) in
-        parts-walked lent (seen vs) left i seq h
+        parts-walked lent (shown-columns vs) left i seq h
         (child-walked c left r (suc d) (i + 1) (children-shown-nodes cs (suc d) more) (omega arith) (and-l (child-sized c) (children-sized cs) sized)
         (omega arith) (children-first cs (suc d) more (omega arith)) inside vals e)
         (rw (h .size-is) (joined-to (omega arith)
@@ -81,9 +81,9 @@ module _ (lent : List ℕ) (vs : List ShownNode) where
         (omega arith) (omega arith) after past vals (child-process c vals e) (e + child-events c))))
         (children-longer cs vals (child-process c vals e) (e + child-events c))
 
-    children-walked : (cs : Children) (left i n d at : ℕ) (more : List ShownNode) → Here (seen vs) i 3 0 d → children-depth cs ≤ left
-        → children-sized cs ≡ true → children-nodes cs ≤ n → n ≤ 255 → first depth-seen more ≤ d → drop at vs ≡ children-shown-nodes cs (suc d) more
-        → (vals : List ℕ) (p : Process) (e : ℕ) → Joined lent (seen vs) left i n at (at + children-nodes cs) p (children-process cs vals p e)
+    children-walked : (cs : Children) (left i n d at : ℕ) (more : List ShownNode) → Here (shown-columns vs) i 3 0 d → children-depth cs ≤ left
+        → children-sized cs ≡ true → children-nodes cs ≤ n → n ≤ 255 → first shown-depth more ≤ d → drop at vs ≡ children-shown-nodes cs (suc d) more
+        → (vals : List ℕ) (p : Process) (e : ℕ) → Joined lent (shown-columns vs) left i n at (at + children-nodes cs) p (children-process cs vals p e)
     children-walked none left i n d at more h deep sized few most after pos vals p e = joined-to (omega arith) (stops more h pos after left n p)
     children-walked (next c r cs) left i zero d at more h deep sized few most after pos vals p e =
         let z : ⊥ = omega (arith, child-some c) in absurd z
@@ -92,7 +92,7 @@ module _ (lent : List ℕ) (vs : List ShownNode) where
         let one-more = child-some c in
         let deeper = depth-at at (suc d) _ pos (child-first c r (suc d) rest) in
         let q = join seq p (child-process c vals e) in
-        one-further lent (seen vs) left i seq h (rw (h .size-is)) (omega arith)
+        one-further lent (shown-columns vs) left i seq h (rw (h .size-is)) (omega arith)
         (child-walked c left r (suc d) at rest (omega arith) (and-l (child-sized c) (children-sized cs) sized) (omega arith)
         (children-first cs (suc d) more (omega arith)) pos vals e)
         (joined-to (omega arith)
@@ -101,8 +101,8 @@ module _ (lent : List ℕ) (vs : List ShownNode) where
         (children-longer cs vals q (e + child-events c))
 
     child-walked : (c : Child) (left : ℕ) (b : Bool) (d i : ℕ) (more : List ShownNode) → child-depth c ≤ left → child-sized c ≡ true
-        → child-nodes c ≤ 256 → first depth-seen more ≤ d → drop i vs ≡ child-shown-nodes c b d more → (vals : List ℕ) (e : ℕ)
-        → Walked lent (seen vs) left i (i + child-nodes c) (child-process c vals e)
+        → child-nodes c ≤ 256 → first shown-depth more ≤ d → drop i vs ≡ child-shown-nodes c b d more → (vals : List ℕ) (e : ℕ)
+        → Walked lent (shown-columns vs) left i (i + child-nodes c) (child-process c vals e)
     child-walked (plain m) left b d i more deep sized few after pos vals e = member-walked m left b d i more deep sized few after pos vals e
     child-walked (loop m) zero b d i more deep sized few after pos vals e = let z : ⊥ = omega arith in absurd z
     child-walked (loop m) (suc left) b d i more deep sized few after pos vals e =
@@ -120,11 +120,11 @@ module _ (lent : List ℕ) (vs : List ShownNode) where
         let p = member-process m vals e in
         let q = member-process k vals (e + member-events m) in
         let f = e + member-events m + member-events k in
-        parts-walked lent (seen vs) left i (joint y) h
+        parts-walked lent (shown-columns vs) left i (joint y) h
         (member-walked m left false (suc d) (i + 1) _ (omega arith) (and-l (member-sized m) (member-sized k && members-sized ms) sized) (omega arith)
         (omega (arith, member-first k false (suc d) rest)) inside vals e)
         (rw (h .size-is)
-        (one-further lent (seen vs) left i (joint y) {n = 254} h (rw (h .size-is)) (omega arith)
+        (one-further lent (shown-columns vs) left i (joint y) {n = 254} h (rw (h .size-is)) (omega arith)
         (member-walked k left false (suc d) (i + 1 + member-nodes m) rest (omega arith) (and-l (member-sized k) (members-sized ms) both) (omega arith)
         (members-first ms (suc d) more (omega arith)) second vals (e + member-events m))
         (joined-to (omega arith)
@@ -139,31 +139,31 @@ module _ (lent : List ℕ) (vs : List ShownNode) where
         let deeper = depth-at (i + 1) (suc d) _ inside (member-first m false (suc d) more) in
         let some = leb-true 1 size (and-l (leb 1 size) (leb size 16) (and-l (leb 1 size && leb size 16) (member-sized m) sized)) in
         walked-to (omega arith)
-        (copies-walked lent (seen vs) left i (joint y) (λ v. member-process m (vals ++ (v ∷ [])) (e + v * member-events m)) h some (omega arith)
+        (copies-walked lent (shown-columns vs) left i (joint y) (λ v. member-process m (vals ++ (v ∷ [])) (e + v * member-events m)) h some (omega arith)
         (λ v. member-walked m left false (suc d) (i + 1) more (omega arith) (and-r (leb 1 size && leb size 16) (member-sized m) sized)
         (omega arith) (omega arith) inside (vals ++ (v ∷ [])) (e + v * member-events m)))
 
     loop-walked : (m : Member) (left d i : ℕ) (more : List ShownNode) → member-depth m ≤ left → member-sized m ≡ true
-        → member-nodes m ≤ 256 → first depth-seen more ≤ d → Here (seen vs) i 1 0 d → drop (i + 1) vs ≡ member-shown-nodes m false (suc d) more
-        → (vals : List ℕ) (e : ℕ) → Walked lent (seen vs) (suc left) i (i + (1 + member-nodes m)) (loop-process m vals e)
+        → member-nodes m ≤ 256 → first shown-depth more ≤ d → Here (shown-columns vs) i 1 0 d → drop (i + 1) vs ≡ member-shown-nodes m false (suc d) more
+        → (vals : List ℕ) (e : ℕ) → Walked lent (shown-columns vs) (suc left) i (i + (1 + member-nodes m)) (loop-process m vals e)
     loop-walked (leaf n) left d i more deep sized few after h pos vals e =
-        walked-to (omega arith) (again-walked lent (seen vs) left i e (leaf-copy n vals) h (here vs (i + 1) _ _ pos))
+        walked-to (omega arith) (again-walked lent (shown-columns vs) left i e (leaf-copy n vals) h (here vs (i + 1) _ _ pos))
     loop-walked (inner f) left d i more deep sized few after h pos vals e =
         walked-to (omega arith)
-        (rounds-walked lent (seen vs) left i (e + flow-events f) (reset-of f vals) h (flow-here f false (suc d) (i + 1) more pos)
+        (rounds-walked lent (shown-columns vs) left i (e + flow-events f) (reset-of f vals) h (flow-here f false (suc d) (i + 1) more pos)
         (flow-walked f left false (suc d) (i + 1) more deep sized few (omega arith) pos vals e))
 
     member-walked : (m : Member) (left : ℕ) (b : Bool) (d i : ℕ) (more : List ShownNode) → member-depth m ≤ left → member-sized m ≡ true
-        → member-nodes m ≤ 256 → first depth-seen more ≤ d → drop i vs ≡ member-shown-nodes m b d more → (vals : List ℕ) (e : ℕ)
-        → Walked lent (seen vs) left i (i + member-nodes m) (member-process m vals e)
+        → member-nodes m ≤ 256 → first shown-depth more ≤ d → drop i vs ≡ member-shown-nodes m b d more → (vals : List ℕ) (e : ℕ)
+        → Walked lent (shown-columns vs) left i (i + member-nodes m) (member-process m vals e)
     member-walked (leaf n) zero b d i more deep sized few after pos vals e = let z : ⊥ = omega arith in absurd z
     member-walked (leaf n) (suc left) b d i more deep sized few after pos vals e =
-        leaf-walked lent (seen vs) left i e (leaf-copy n vals) (here vs i _ _ pos)
+        leaf-walked lent (shown-columns vs) left i e (leaf-copy n vals) (here vs i _ _ pos)
     member-walked (inner f) left b d i more deep sized few after pos vals e = flow-walked f left b d i more deep sized few after pos vals e
 
-    members-walked : (ms : Members) (j : Joint) (left i n d at : ℕ) (more : List ShownNode) → Here (seen vs) i (joint-code j) 0 d → members-depth ms ≤ left
-        → members-sized ms ≡ true → members-nodes ms ≤ n → n ≤ 255 → first depth-seen more ≤ d → drop at vs ≡ members-shown-nodes ms (suc d) more
-        → (vals : List ℕ) (p : Process) (e : ℕ) → Joined lent (seen vs) left i n at (at + members-nodes ms) p (members-process ms j vals p e)
+    members-walked : (ms : Members) (j : Joint) (left i n d at : ℕ) (more : List ShownNode) → Here (shown-columns vs) i (joint-code j) 0 d → members-depth ms ≤ left
+        → members-sized ms ≡ true → members-nodes ms ≤ n → n ≤ 255 → first shown-depth more ≤ d → drop at vs ≡ members-shown-nodes ms (suc d) more
+        → (vals : List ℕ) (p : Process) (e : ℕ) → Joined lent (shown-columns vs) left i n at (at + members-nodes ms) p (members-process ms j vals p e)
     members-walked end j left i n d at more h deep sized few most after pos vals p e = joined-to (omega arith) (stops more h pos after left n p)
     members-walked (also m ms) j left i zero d at more h deep sized few most after pos vals p e =
         let z : ⊥ = omega (arith, member-some m) in absurd z
@@ -172,7 +172,7 @@ module _ (lent : List ℕ) (vs : List ShownNode) where
         let one-more = member-some m in
         let deeper = depth-at at (suc d) _ pos (member-first m false (suc d) rest) in
         let q = join j p (member-process m vals e) in
-        one-further lent (seen vs) left i j h (rw (h .size-is)) (omega arith)
+        one-further lent (shown-columns vs) left i j h (rw (h .size-is)) (omega arith)
         (member-walked m left false (suc d) at rest (omega arith) (and-l (member-sized m) (members-sized ms) sized) (omega arith)
         (members-first ms (suc d) more (omega arith)) pos vals e)
         (joined-to (omega arith)
@@ -190,5 +190,5 @@ expansion-exact text d g shows sized deep few short lent =
     let end = expand-laid d sized .end in
     let less = postfix-short (expand d) in
     let start : place 0 0 lent ≡ written lent 0 [] = ap (place 0 0) (sym (fill-none lent)) in
-    rw (columns-seen text g vs (shows .nodes), start)
+    rw (columns-shown text g vs (shows .nodes), start)
     (flow-walked lent vs d 12 false 1 0 [] deep sized few (omega arith) refl [] 0 .law [] (omega arith) ∙ rw (zero-add (flow-nodes d)))

@@ -5,8 +5,7 @@ use Prim.Native.Nat.{ℕ, zero, suc, _+_, _-_, _≤_, _<_}
 use native.Mathlib.Omega.{arith}
 use lib.ListN.{length, getD, set}
 use borrow.Author.Tests.{lt-ltb, le-ltb, le-leb, lt-leb, eq-eqb, ne-eqb}
-use Rattle.expansion.specs.Columns.{Columns}
-use Rattle.expansion.specs.Walks.{Place, place, at-node, add, more, again-at, further, looped, by-kind, part}
+use Rattle.expansion.specs.Walks.{Columns, Place, place, at-node, add, more, again-at, further, looped, by-kind, part}
 use Rattle.expansion.specs.declared.Walk.{Walk}
 
 -- A number is left out where there is no room, and added where there is.
@@ -47,14 +46,15 @@ module _ (c : Columns) (i : ℕ) where
 
 -- What a loop is over.
 module _ (f : Place → Place) (c : Columns) (p : Place) where
-  pub looped-leaf : p .walk .node < length (c .kinds) → getD (c .kinds) (p .walk .node) 0 ≡ 0 → add 1 (at-node (p .walk .node + 1) p) ≡ looped f c p
-  looped-leaf l h = rw (lt-ltb (p .walk .node) (length (c .kinds)) l, eq-eqb (getD (c .kinds) (p .walk .node) 0) 0 h)
+  module _ {k : ℕ} (l : p .walk .node < c .count) (q : k ≡ getD (c .kinds) (p .walk .node) 0) where
+    pub looped-leaf : k ≡ 0 → add 1 (at-node (p .walk .node + 1) p) ≡ looped f c p
+    looped-leaf h = rw (lt-ltb (p .walk .node) (c .count) l, ← q, eq-eqb k 0 h)
 
-  pub looped-flow : p .walk .node < length (c .kinds) → (getD (c .kinds) (p .walk .node) 0 ≡ 0 → ⊥) → add 2 (f p) ≡ looped f c p
-  looped-flow l h = rw (lt-ltb (p .walk .node) (length (c .kinds)) l, ne-eqb (getD (c .kinds) (p .walk .node) 0) 0 h)
+    pub looped-flow : (k ≡ 0 → ⊥) → add 2 (f p) ≡ looped f c p
+    looped-flow h = rw (lt-ltb (p .walk .node) (c .count) l, ← q, ne-eqb k 0 h)
 
-  pub looped-past : length (c .kinds) ≤ p .walk .node → add 2 (f p) ≡ looped f c p
-  looped-past l = rw (le-ltb (p .walk .node) (length (c .kinds)) l)
+  pub looped-past : c .count ≤ p .walk .node → add 2 (f p) ≡ looped f c p
+  looped-past l = rw (le-ltb (p .walk .node) (c .count) l)
 
 -- What a node is: the tests of `part`.
 module _ (c : Columns) (p : Place) where
@@ -62,26 +62,26 @@ module _ (c : Columns) (p : Place) where
   unfolding part
   part-none h = rw h
 
-  pub part-past : (left : ℕ) → length (c .kinds) ≤ p .walk .node → p ≡ part left c p
+  pub part-past : (left : ℕ) → c .count ≤ p .walk .node → p ≡ part left c p
   unfolding part
   part-past zero h = refl
-  part-past (suc left) h = rw (le-leb (length (c .kinds)) (p .walk .node) h)
+  part-past (suc left) h = rw (le-leb (c .count) (p .walk .node) h)
 
-  part-node : (left : ℕ) → (left ≡ 0 → ⊥) → p .walk .node < length (c .kinds) → part left c p ≡ by-kind (part (left - 1) c) c (p .walk .node) p
+  part-node : (left : ℕ) → (left ≡ 0 → ⊥) → p .walk .node < c .count → part left c p ≡ by-kind (part (left - 1) c) c (p .walk .node) p
   unfolding part
   part-node zero n h = absurd (n refl)
-  part-node (suc left) n h = let e : suc left - 1 ≡ left = omega arith in rw (lt-leb (length (c .kinds)) (p .walk .node) h, e)
+  part-node (suc left) n h = let e : suc left - 1 ≡ left = omega arith in rw (lt-leb (c .count) (p .walk .node) h, e)
 
-  module _ (left : ℕ) (n : left ≡ 0 → ⊥) (h : p .walk .node < length (c .kinds)) where
-    pub part-leaf : getD (c .kinds) (p .walk .node) 0 ≡ 0 → add 0 (at-node (p .walk .node + 1) p) ≡ part left c p
-    part-leaf e = rw (part-node left n h, eq-eqb (getD (c .kinds) (p .walk .node) 0) 0 e)
+  module _ {left k : ℕ} (n : left ≡ 0 → ⊥) (h : p .walk .node < c .count) (q : k ≡ getD (c .kinds) (p .walk .node) 0) where
+    pub part-leaf : k ≡ 0 → add 0 (at-node (p .walk .node + 1) p) ≡ part left c p
+    part-leaf e = rw (part-node left n h, ← q, eq-eqb k 0 e)
 
-    pub part-loop : getD (c .kinds) (p .walk .node) 0 ≡ 1 → looped (part (left - 1) c) c (at-node (p .walk .node + 1) p) ≡ part left c p
-    part-loop e = rw (part-node left n h, ne-eqb (getD (c .kinds) (p .walk .node) 0) 0 (λ z. omega arith), eq-eqb (getD (c .kinds) (p .walk .node) 0) 1 e)
+    pub part-loop : k ≡ 1 → looped (part (left - 1) c) c (at-node (p .walk .node + 1) p) ≡ part left c p
+    part-loop e = rw (part-node left n h, ← q, ne-eqb k 0 (λ z. omega arith), eq-eqb k 1 e)
 
-    pub part-join : (getD (c .kinds) (p .walk .node) 0 ≡ 0 → ⊥) → (getD (c .kinds) (p .walk .node) 0 ≡ 1 → ⊥)
+    pub part-join : (k ≡ 0 → ⊥) → (k ≡ 1 → ⊥)
         → further (part (left - 1) c) c (p .walk .node) (more c (p .walk .node)) (part (left - 1) c (at-node (p .walk .node + 1) p)) ≡ part left c p
-    part-join a b = rw (part-node left n h, ne-eqb (getD (c .kinds) (p .walk .node) 0) 0 a, ne-eqb (getD (c .kinds) (p .walk .node) 0) 1 b)
+    part-join a b = rw (part-node left n h, ← q, ne-eqb k 0 a, ne-eqb k 1 b)
 
 -- Where the loop over the parts has got to: the parts left from here are those left from the start. The lent bytes are as many.
 pub record Gone (c : Columns) (left i most : ℕ) (p₀ : Place) (turn : ℕ) (p : Place) : Type 0 where

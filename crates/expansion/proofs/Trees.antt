@@ -9,7 +9,7 @@ use lib.Seq.{drop-drop}
 use Rattle.diagram.specs.Tree.{Flow, flow, Children, none, next, Child, plain, loop, group, replicator, Member, leaf, inner, Members, end, also}
 use Rattle.diagram.specs.Count.{flow-nodes, children-nodes, child-nodes, member-nodes, members-nodes}
 use Rattle.reader.specs.ShownNodes.{ShownNode, flow-shown-nodes, children-shown-nodes, child-shown-nodes, member-shown-nodes, members-shown-nodes}
-use Rattle.expansion.proofs.Seen.{depth-seen, first}
+use Rattle.expansion.proofs.ShownColumns.{shown-depth, first}
 
 -- What stands in a list from a place on.
 drop-one : {rest : List ShownNode} (l : List ShownNode) (n : ℕ) (v : ShownNode) → drop n l ≡ rest → drop (1 + n) (v ∷ l) ≡ rest
@@ -52,16 +52,16 @@ mutual
       drop-both _ (member-nodes m) (members-nodes ms) (member-past m false d (members-shown-nodes ms d vs)) (members-past ms d vs)
 
 -- A tree's first view has the depth given.
-pub flow-first : (f : Flow) (b : Bool) (d : ℕ) (vs : List ShownNode) → first depth-seen (flow-shown-nodes f b d vs) ≡ d
+pub flow-first : (f : Flow) (b : Bool) (d : ℕ) (vs : List ShownNode) → first shown-depth (flow-shown-nodes f b d vs) ≡ d
 unfolding flow-shown-nodes
 flow-first (flow n ps sw c r cs) b d vs = refl
 
-pub member-first : (m : Member) (b : Bool) (d : ℕ) (vs : List ShownNode) → first depth-seen (member-shown-nodes m b d vs) ≡ d
+pub member-first : (m : Member) (b : Bool) (d : ℕ) (vs : List ShownNode) → first shown-depth (member-shown-nodes m b d vs) ≡ d
 unfolding member-shown-nodes
 member-first (leaf n) b d vs = refl
 member-first (inner f) b d vs = flow-first f b d vs
 
-pub child-first : (c : Child) (b : Bool) (d : ℕ) (vs : List ShownNode) → first depth-seen (child-shown-nodes c b d vs) ≡ d
+pub child-first : (c : Child) (b : Bool) (d : ℕ) (vs : List ShownNode) → first shown-depth (child-shown-nodes c b d vs) ≡ d
 unfolding child-shown-nodes
 child-first (plain m) b d vs = member-first m b d vs
 child-first (loop m) b d vs = refl
@@ -69,12 +69,12 @@ child-first (group y a e ms) b d vs = refl
 child-first (replicator y par size m) b d vs = refl
 
 -- The first of what comes after a part is no deeper than the part.
-pub children-first : (cs : Children) (d : ℕ) (vs : List ShownNode) → first depth-seen vs ≤ d → first depth-seen (children-shown-nodes cs d vs) ≤ d
+pub children-first : (cs : Children) (d : ℕ) (vs : List ShownNode) → first shown-depth vs ≤ d → first shown-depth (children-shown-nodes cs d vs) ≤ d
 unfolding children-shown-nodes
 children-first none d vs h = h
 children-first (next c r cs) d vs h = omega (arith, child-first c r d (children-shown-nodes cs d vs))
 
-pub members-first : (ms : Members) (d : ℕ) (vs : List ShownNode) → first depth-seen vs ≤ d → first depth-seen (members-shown-nodes ms d vs) ≤ d
+pub members-first : (ms : Members) (d : ℕ) (vs : List ShownNode) → first shown-depth vs ≤ d → first shown-depth (members-shown-nodes ms d vs) ≤ d
 unfolding members-shown-nodes
 members-first end d vs h = h
 members-first (also m ms) d vs h = omega (arith, member-first m false d (members-shown-nodes ms d vs))

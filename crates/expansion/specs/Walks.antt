@@ -4,10 +4,24 @@ use mathlib.Core.Bool.{cond, _&&_}
 use mathlib.Core.List.{List}
 use Prim.Native.Nat.{ℕ, zero, suc, _+_, _-_}
 use lib.Dec.{eqb, leb, ltb}
-use lib.ListN.{length, getD, set}
+use lib.ListN.{getD, set}
 use Rattle.diagram.specs.declared.Diagram.{Diagram}
-use Rattle.expansion.specs.Columns.{Columns, columns}
+use Rattle.diagram.specs.declared.Nodes.{Nodes}
+use Rattle.diagram.specs.Columns.{columns as nodes-of}
 use Rattle.expansion.specs.declared.Walk.{Walk}
+
+-- What the walk reads of the nodes.
+pub record Columns : Type 0 where
+  pub kinds : List ℕ
+  pub sizes : List ℕ
+  pub depths : List ℕ
+  pub count : ℕ
+
+abbrev pub columns : List ℕ → List ℕ → List ℕ → ℕ → Columns
+columns kinds sizes depths count = record { kinds = kinds; sizes = sizes; depths = depths; count = count }
+
+abbrev pub walk-columns : Nodes → Columns
+walk-columns ns = columns (ns .kinds) (ns .sizes) (ns .depths) (ns .count)
 
 -- Where the walk stands, and the lent bytes.
 pub record Place : Type 0 where
@@ -43,7 +57,7 @@ further part c i (suc n) p =
 -- A loop over the node that the walk stands at: 1 over a leaf, 2 over a flow.
 abbrev pub looped : (Place → Place) → Columns → Place → Place
 looped part c p =
-    cond (ltb (p .walk .node) (length (c .kinds)) && eqb (getD (c .kinds) (p .walk .node) 0) 0) (add 1 (at-node (p .walk .node + 1) p)) (add 2 (part p))
+    cond (ltb (p .walk .node) (c .count) && eqb (getD (c .kinds) (p .walk .node) 0) 0) (add 1 (at-node (p .walk .node + 1) p)) (add 2 (part p))
 
 -- Node i, which the walk stands at: a leaf, a loop, or parts that are joined.
 abbrev pub by-kind : (Place → Place) → Columns → ℕ → Place → Place
@@ -55,8 +69,8 @@ by-kind part c i p =
 -- The node that the walk stands at, with those below it, down to as many depths as are given.
 unfoldable pub part : ℕ → Columns → Place → Place
 part zero c p = p
-part (suc left) c p = cond (leb (length (c .kinds)) (p .walk .node)) p (by-kind (part left c) c (p .walk .node) p)
+part (suc left) c p = cond (leb (c .count) (p .walk .node)) p (by-kind (part left c) c (p .walk .node) p)
 
 -- The whole drawing, over the lent bytes: "The root has depth 1", and there are at most 12.
 unfoldable pub expanded : Diagram → List ℕ → Place
-expanded d lent = part 12 (columns d) (place 0 0 lent)
+expanded d lent = part 12 (walk-columns (nodes-of d)) (place 0 0 lent)

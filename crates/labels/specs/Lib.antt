@@ -1,6 +1,6 @@
 pub mod Values
-pub mod Rows
+pub mod SearchNodes
 pub mod Weights
-pub mod Prepared
 pub mod Seeks
 pub mod Stands
+pub mod code

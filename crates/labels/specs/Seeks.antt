@@ -6,15 +6,16 @@ use lib.Dec.{eqb, leb}
 use lib.ListN.{take}
 use Rattle.diagram.specs.declared.Diagram.{Diagram}
 use Rattle.labels.specs.declared.Spot.{Spot}
+use Rattle.labels.specs.declared.SearchNode.{SearchNode}
 use Rattle.labels.specs.declared.Search.{Search}
 use Rattle.labels.specs.declared.Step.{Step}
 use Rattle.labels.specs.declared.Step.the-variants.{Go, Found}
 use Rattle.labels.specs.Values.{values, push}
-use Rattle.labels.specs.Rows.{Row, node-row}
+use Rattle.labels.specs.SearchNodes.{search-node}
 use Rattle.labels.specs.Weights.{weigh}
 
 -- The node after a node; none is like a leaf with no events.
-abbrev pub next : List Row → Row
+abbrev pub next : List SearchNode → SearchNode
 next [] = record { kind = 0; size = 0; depth = 0; place = 0; weight = 0 }
 next (r ∷ rs) = r
 
@@ -30,13 +31,13 @@ abbrev pub found : Bool → ℕ → Search → Step
 found reset place s = Found (record { reset = reset; place = place; values = s .values })
 
 -- The event is one of this node's, and q is the next node: a leaf's own, a loop's reset if it is past those of the member, or in one of the parts.
-unfoldable pub inside : Row → Row → Search → Step
+unfoldable pub inside : SearchNode → SearchNode → Search → Step
 inside r q s =
     cond (eqb (r .kind) 0) (found false (r .place) s)
     (cond (eqb (r .kind) 1 && leb (q .weight) (s .rest)) (found true (q .place) s) (Go (entered (r .depth) (r .size) (q .weight) s)))
 
 -- One node further: a part of the node searched in is passed or entered, any other node is below a part that was passed.
-unfoldable pub turn : Row → Row → Search → Step
+unfoldable pub turn : SearchNode → SearchNode → Search → Step
 turn r q s =
     cond (eqb (r .depth) (suc (s .above)))
     (cond (leb (r .weight) (s .rest)) (Go (record { above = s .above; rest = s .rest - r .weight; values = s .values })) (inside r q s))
@@ -50,7 +51,7 @@ abbrev pub onward : Step → (Search → Spot) → Spot
 onward (Found p) further = p
 onward (Go s) further = further s
 
-unfoldable pub seek : List Row → Search → Spot
+unfoldable pub seek : List SearchNode → Search → Spot
 seek [] s = nowhere
 seek (r ∷ rs) s = onward (turn r (next rs) s) (λ t. seek rs t)
 
@@ -60,4 +61,4 @@ begin e = record { above = 0; rest = e; values = values 0 0 0 0 }
 
 -- What event e of a diagram by value stands for.
 unfoldable pub spot-of : Diagram → ℕ → Spot
-spot-of d e = seek (weigh (map node-row (take (d .count) (d .nodes)))) (begin e)
+spot-of d e = seek (weigh (map search-node (take (d .count) (d .nodes)))) (begin e)

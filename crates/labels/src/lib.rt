@@ -1,15 +1,14 @@
 ghost use mathlib.Core.Path.{_≡_};
-ghost use mathlib.Core.Bool.{cond};
 ghost use mathlib.Core.List.{List};
-ghost use Prim.Native.Nat.{ℕ, suc, _-_, _≤_, _<_};
-ghost use lib.Dec.{ltb};
-ghost use lib.ListN.{length, getD};
+ghost use Prim.Native.Nat.{ℕ, _+_, _-_, _<_};
+ghost use lib.ListN.{getD, replicate};
+ghost use Rattle.diagram.specs.declared.Nodes.{Nodes};
 ghost use Rattle.labels.specs.Values.{values, push as pushed};
-ghost use Rattle.labels.specs.Rows.{columns, row, rows};
-ghost use Rattle.labels.specs.Weights.{parts as parts-of, resets as resets-of, weight as weight-of, weighed};
-ghost use Rattle.labels.specs.Prepared.{places-of, prepared};
-ghost use Rattle.labels.specs.Seeks.{next, entered as entered-of, found as found-of, inside as inside-of, turn as turn-of, onward, nowhere, seek as seek-of, begin};
+ghost use Rattle.labels.specs.Weights.{parts as parts-of, resets as resets-of, weight-by};
+ghost use Rattle.labels.specs.Seeks.{next, entered as entered-of, found as found-of, inside as inside-of, turn as turn-of, onward, nowhere, seek as seek-of, begin, spot-of};
+ghost use Rattle.labels.specs.code.Columns.{lent, nodes-from, weighed};
 use diagram::Diagram;
+use diagram::Nodes;
 
 // The values of the replicators around an event, outermost first. There are at most three.
 pub struct Values {
@@ -26,6 +25,16 @@ pub struct Spot {
     pub values: Values,
 }
 
+// A node as the search reads it: its number among the kinds and its size, as in the columns of a diagram, its depth, the place of its name, and how many events one
+// copy of it has.
+pub struct SearchNode {
+    pub kind: u8,
+    pub size: u8,
+    pub depth: usize,
+    pub place: usize,
+    pub weight: usize,
+}
+
 // A search for an event below a node: the depth of that node, how many of its events come before the one looked for, and the values so far.
 pub struct Search {
     pub above: usize,
@@ -38,19 +47,7 @@ pub enum Step {
     Found(Spot),
 }
 
-// The nodes of a diagram as columns of numbers, with the places of their names and how many events one copy of each has. Only the first `count` numbers count.
-pub struct Rows {
-    pub kinds: [u8; 256],
-    pub sizes: [u8; 256],
-    pub depths: [usize; 256],
-    pub places: [usize; 256],
-    pub weights: [usize; 256],
-    pub count: usize,
-}
-
 const LEAF: u8 = 0;
-
-const LOOP: u8 = 1;
 
 // A value after the others.
 fn push(v: Values, x: usize) -> Values
@@ -86,7 +83,7 @@ fn push(v: Values, x: usize) -> Values
 // The events of the parts of node i, those of the nodes before `end` that are one deeper than it.
 fn parts(depths: &[usize], weights: &[usize], i: usize, end: usize) -> usize
     requires { ⌜ i < end ⌝ }
-    ensures { λ r. ⌜ ((ks ss ps : List ℕ) → r ≡ parts-of (getD (now (depths .entry)) i 0) 0 (rows (columns ks ss (now (depths .entry)) ps) (now (weights .entry)) (suc i) (end - suc i))) ⌝ }
+    ensures { λ r. ⌜ ((c : Nodes) → c .depths ≡ now (depths .entry) → r ≡ parts-of (getD (c .depths) i 0) 0 (nodes-from c (now (weights .entry)) (i + 1) (end - (i + 1)))) ⌝ }
     ensures { λ r. ⌜ r < 1024 ⌝ }
 {
     let d = base::number(depths, i);
@@ -105,65 +102,52 @@ fn parts(depths: &[usize], weights: &[usize], i: usize, end: usize) -> usize
     n
 }
 
-// A loop over the node after node i has a reset if that is no leaf.
-fn resets(kinds: &[u8], i: usize) -> usize
-    requires { ⌜ i < length (now kinds) ⌝ }
-    ensures { λ r. ⌜ ((ss ds ps ws : List ℕ) → r ≡ resets-of (rows (columns (now (kinds .entry)) ss ds ps) ws (suc i) (length (now (kinds .entry)) - suc i))) ⌝ }
-    ensures { λ r. ⌜ r ≤ 1 ⌝ }
+// A loop over the node after node i has a reset if that is there and no leaf.
+fn resets(kinds: &[u8], i: usize, end: usize) -> usize
+    requires { ⌜ i < end ⌝ }
+    ensures { λ r. ⌜ ((c : Nodes) (ws : List ℕ) → c .kinds ≡ now (kinds .entry) → r ≡ resets-of (nodes-from c ws (i + 1) (end - (i + 1)))) ⌝ }
 {
-    if base::byte(kinds, i + 1) == LEAF {
+    let j = i + 1;
+    if end <= j {
+        return 0;
+    }
+    if base::byte(kinds, j) == LEAF {
         return 0;
     }
     1
 }
 
-// How many events one copy of node i has, by those of the nodes after it.
-fn weight(kinds: &[u8], sizes: &[u8], depths: &[usize], weights: &[usize], i: usize) -> usize
-    requires { ⌜ i < length (now kinds) ⌝ }
-    ensures { λ r. ⌜ ((ps : List ℕ) → r ≡ weight-of (row (columns (now (kinds .entry)) (now (sizes .entry)) (now (depths .entry)) ps) (now (weights .entry)) i) (rows (columns (now (kinds .entry)) (now (sizes .entry)) (now (depths .entry)) ps) (now (weights .entry)) (suc i) (length (now (kinds .entry)) - suc i))) ⌝ }
+// How many events one copy of a node has, where its parts have n, and it has so many resets.
+fn weight(kind: u8, size: u8, n: usize, reset: usize) -> usize
+    requires { ⌜ n < 1024 ⌝ }
+    ensures { λ r. ⌜ r ≡ weight-by kind size n reset ⌝ }
 {
-    let kind = kinds[i];
     if kind == LEAF {
         return 1;
     }
-    let n = parts(depths, weights, i, kinds.len());
-    if kind == LOOP {
-        return (n + resets(kinds, i) % 1024) % 1024;
+    if kind == diagram::LOOP {
+        return (n + reset % 1024) % 1024;
     }
-    let size = wide(base::byte(sizes, i));
     if size == 0 {
         return n;
     }
-    size * n % 1024
-}
-
-fn wide(x: u8) -> usize
-    ensures { λ r. ⌜ (r ≡ x) × (r < 256) ⌝ }
-{
-    x as usize
+    base::wide(size) * n % 1024
 }
 
 // How many events one copy of each node has, from the last node to the first.
-pub fn weigh(kinds: &[u8], sizes: &[u8], depths: &[usize], weights: &mut [usize])
-    ensures { λ r. ⌜ ((ps : List ℕ) → now (weights .exit) ≡ weighed (columns (now (kinds .entry)) (now (sizes .entry)) (now (depths .entry)) ps) (length (now (kinds .entry))) (length (now (kinds .entry))) (now (weights .entry))) ⌝ }
+pub fn weigh(c: Nodes) -> [usize; 256]
+    ensures { λ r. ⌜ r ≡ weighed c (c .count) (replicate 256 0) ⌝ }
 {
-    let mut i = kinds.len();
+    let mut weights = [0usize; 256];
+    let mut i = c.count;
     while 0 < i {
         i -= 1;
-        let w = weight(kinds, sizes, depths, weights, i);
-        base::put_number(weights, i, w);
+        let n = parts(&c.depths, &weights, i, c.count);
+        let reset = resets(&c.kinds, i, c.count);
+        let w = weight(base::byte(&c.kinds, i), base::byte(&c.sizes, i), n, reset);
+        base::put_number(&mut weights, i, w);
     }
-}
-
-// A number of the node after node i, of n; 0 where there is none.
-fn after(column: &[usize], i: usize, n: usize) -> usize
-    requires { ⌜ i < n ⌝ }
-    ensures { λ r. ⌜ r ≡ cond (ltb (suc i) n) (getD (now (column .entry)) (suc i) 0) 0 ⌝ }
-{
-    if n <= i + 1 {
-        return 0;
-    }
-    base::number(column, i + 1)
+    weights
 }
 
 // Into a node of this depth and size, whose member has these events.
@@ -171,14 +155,7 @@ fn entered(depth: usize, size: u8, inner: usize, s: Search) -> Search
     ensures { λ r. ⌜ r ≡ entered-of depth size inner s ⌝ }
 {
     let values = s.values;
-    if size == 0 {
-        return Search {
-            above: depth,
-            rest: s.rest,
-            values,
-        };
-    }
-    if inner == 0 {
+    if (size == 0) | (inner == 0) {
         return Search {
             above: depth,
             rest: s.rest,
@@ -205,63 +182,41 @@ fn found(reset: bool, place: usize, s: Search) -> Step
     Step::Found(spot)
 }
 
-// The event is one of node i's.
-fn inside(
-    kinds: &[u8],
-    sizes: &[u8],
-    depths: &[usize],
-    places: &[usize],
-    weights: &[usize],
-    i: usize,
-    s: Search,
-) -> Step
-    requires { ⌜ i < length (now kinds) ⌝ }
-    ensures { λ r. ⌜ r ≡ inside-of (row (columns (now (kinds .entry)) (now (sizes .entry)) (now (depths .entry)) (now (places .entry))) (now (weights .entry)) i) (next (rows (columns (now (kinds .entry)) (now (sizes .entry)) (now (depths .entry)) (now (places .entry))) (now (weights .entry)) (suc i) (length (now (kinds .entry)) - suc i))) s ⌝ }
+// The event is one of node r's, and q is the node after it.
+fn inside(r: SearchNode, q: SearchNode, s: Search) -> Step
+    ensures { λ t. ⌜ t ≡ inside-of r q s ⌝ }
 {
-    let kind = kinds[i];
-    if kind == LEAF {
-        return found(false, base::number(places, i), s);
+    if r.kind == LEAF {
+        return found(false, r.place, s);
     }
-    let inner = after(weights, i, kinds.len());
-    if kind == LOOP {
-        if inner <= s.rest {
-            return found(true, after(places, i, kinds.len()), s);
+    if r.kind == diagram::LOOP {
+        if q.weight <= s.rest {
+            return found(true, q.place, s);
         }
     }
-    Step::Go(entered(base::number(depths, i), base::byte(sizes, i), inner, s))
+    Step::Go(entered(r.depth, r.size, q.weight, s))
 }
 
-// One node further.
-fn turn(
-    kinds: &[u8],
-    sizes: &[u8],
-    depths: &[usize],
-    places: &[usize],
-    weights: &[usize],
-    i: usize,
-    s: Search,
-) -> Step
-    requires { ⌜ i < length (now kinds) ⌝ }
-    ensures { λ r. ⌜ r ≡ turn-of (row (columns (now (kinds .entry)) (now (sizes .entry)) (now (depths .entry)) (now (places .entry))) (now (weights .entry)) i) (next (rows (columns (now (kinds .entry)) (now (sizes .entry)) (now (depths .entry)) (now (places .entry))) (now (weights .entry)) (suc i) (length (now (kinds .entry)) - suc i))) s ⌝ }
+// One node further: node r, and q is the node after it.
+fn turn(r: SearchNode, q: SearchNode, s: Search) -> Step
+    ensures { λ t. ⌜ t ≡ turn-of r q s ⌝ }
 {
-    let depth = base::number(depths, i);
-    if depth <= s.above {
+    if r.depth <= s.above {
         return Step::Go(s);
     }
-    if depth - s.above != 1 {
+    if r.depth - s.above != 1 {
         return Step::Go(s);
     }
-    let weight = base::number(weights, i);
-    if weight <= s.rest {
+    if r.weight <= s.rest {
         let values = s.values;
         let further = Search {
             above: s.above,
-            rest: s.rest - weight,
+            rest: s.rest - r.weight,
             values,
         };
         return Step::Go(further);
     }
-    inside(kinds, sizes, depths, places, weights, i, s)
+    inside(r, q, s)
 }
 
 fn none() -> Values
@@ -289,71 +244,81 @@ fn result(t: Step) -> Spot
     p
 }
 
+// Node i of those that count; past them there is none.
+fn node<'a>(
+    kinds: &'a [u8],
+    sizes: &'a [u8],
+    depths: &'a [usize],
+    names: &'a [usize],
+    weights: &'a [usize],
+    count: usize,
+    i: usize,
+) -> SearchNode
+    ensures { λ r. ⌜ r ≡ next (nodes-from (lent (now (kinds .entry)) (now (sizes .entry)) (now (depths .entry)) (now (names .entry)) count) (now (weights .entry)) i (count - i)) ⌝ }
+{
+    if count <= i {
+        return SearchNode {
+            kind: 0,
+            size: 0,
+            depth: 0,
+            place: 0,
+            weight: 0,
+        };
+    }
+    SearchNode {
+        kind: base::byte(kinds, i),
+        size: base::byte(sizes, i),
+        depth: base::number(depths, i),
+        place: base::number(names, i),
+        weight: base::number(weights, i),
+    }
+}
+
 // What an event number stands for, by the nodes in the order of the text; no event has a name at place 0.
-pub fn seek(
-    kinds: &[u8],
-    sizes: &[u8],
-    depths: &[usize],
-    places: &[usize],
-    weights: &[usize],
+pub fn seek<'a>(
+    kinds: &'a [u8],
+    sizes: &'a [u8],
+    depths: &'a [usize],
+    names: &'a [usize],
+    weights: &'a [usize],
+    count: usize,
     event: usize,
 ) -> Spot
-    ensures { λ r. ⌜ r ≡ seek-of (rows (columns (now (kinds .entry)) (now (sizes .entry)) (now (depths .entry)) (now (places .entry))) (now (weights .entry)) 0 (length (now (kinds .entry)))) (begin event) ⌝ }
+    ensures { λ r. ⌜ r ≡ seek-of (nodes-from (lent (now (kinds .entry)) (now (sizes .entry)) (now (depths .entry)) (now (names .entry)) count) (now (weights .entry)) 0 count) (begin event) ⌝ }
 {
     let mut s = Search {
         above: 0,
         rest: event,
         values: none(),
     };
+    let mut r = node(kinds, sizes, depths, names, weights, count, 0);
     let mut i = 0;
-    while i < kinds.len() {
-        let t = turn(kinds, sizes, depths, places, weights, i, s);
+    while i < count {
+        i += 1;
+        let q = node(kinds, sizes, depths, names, weights, count, i);
+        let t = turn(r, q, s);
         let Step::Go(next) = t else {
             return result(t);
         };
         s = next;
-        i += 1;
+        r = q;
     }
     result(Step::Go(s))
 }
 
-fn places(d: Diagram) -> [usize; 256]
-    ensures { λ r. ⌜ r ≡ places-of d ⌝ }
+// What an event number of a diagram stands for.
+pub fn find(d: Diagram, event: usize) -> Spot
+    ensures { λ r. ⌜ r ≡ spot-of d event ⌝ }
 {
-    let mut p = [0usize; 256];
-    let mut i = 0;
-    while i < 256 {
-        let x = d.nodes[i];
-        p[i] = x.name;
-        i += 1;
-    }
-    p
-}
-
-// What the search for events needs of a diagram.
-pub fn prepare(d: Diagram) -> Rows
-    ensures { λ r. ⌜ r ≡ prepared d ⌝ }
-    ensures { λ r. ⌜ length (d .nodes) ≡ 256 ⌝ }
-{
-    let places = places(d);
-    let c = expansion::columns(d);
-    let kinds = c.kinds;
-    let sizes = c.sizes;
-    let depths = c.depths;
-    let count = c.count;
-    let mut weights = [0usize; 256];
-    weigh(
-        &kinds[..count],
-        &sizes[..count],
-        &depths[..count],
-        &mut weights,
-    );
-    Rows {
-        kinds,
-        sizes,
-        depths,
-        places,
-        weights,
-        count,
-    }
+    let c = diagram::columns(d);
+    let weights = weigh(c);
+    seek(
+        &c.kinds,
+        &c.sizes,
+        &c.depths,
+        &c.names,
+        &weights,
+        c.count,
+        event,
+    )
 }

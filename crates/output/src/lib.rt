@@ -1,6 +1,7 @@
 ghost use mathlib.Core.Path.{_≡_};
 ghost use Rattle.output.specs.Buffer.{buffer, put, put-all};
 ghost use Rattle.output.specs.Decimal.{digits as digits-of, decimal};
+ghost use Rattle.output.specs.Lines.{two-numbers, refused-line};
 
 // One byte more over the buffer, where there is room; answers how many are written.
 pub fn byte(out: &mut [u8], at: usize, b: u8) -> usize
@@ -43,4 +44,22 @@ pub fn number(out: &mut [u8], at: usize, v: usize) -> usize
     ensures { λ r. ⌜ buffer r (now (out .exit)) ≡ put-all (decimal v) (buffer at (now (out .entry))) ⌝ }
 {
     digits(out, at, v, 19)
+}
+
+// A line of two numbers, each after some words.
+pub fn numbers(out: &mut [u8], at: usize, words: &[u8], m: usize, between: &[u8], n: usize) -> usize
+    ensures { λ r. ⌜ buffer r (now (out .exit)) ≡ put-all (two-numbers (now (words .entry)) m (now (between .entry)) n) (buffer at (now (out .entry))) ⌝ }
+{
+    let a = bytes(out, at, words);
+    let b = number(out, a, m);
+    let c = bytes(out, b, between);
+    let d = number(out, c, n);
+    bytes(out, d, b"\n")
+}
+
+// `refused`, number and place.
+pub fn refused(out: &mut [u8], at: usize, number: u8, place: usize) -> usize
+    ensures { λ r. ⌜ buffer r (now (out .exit)) ≡ put-all (refused-line number place) (buffer at (now (out .entry))) ⌝ }
+{
+    numbers(out, at, b"refused ", number as usize, b" ", place)
 }

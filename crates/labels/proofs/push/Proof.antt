@@ -1,5 +1,5 @@
 -- `labels::push` meets its contract, by how many values there are. Assumes nothing.
-use Rattle.labels.proofs.Pushed.{push-first, push-second, push-third, push-more}
+use Rattle.labels.proofs.MoreValues.{push-first, push-second, push-third, push-more}
 use Rattle.labels.proofs.push.Statement.{statement}
 use Rattle.labels.proofs.push.Tie as tie
 

@@ -1,6 +1,6 @@
 -- `labels::result` meets its contract, by what was found. Assumes nothing.
 use borrow.Author.Needs.{needs}
-use Rattle.labels.proofs.Stepped.{result-none}
+use Rattle.labels.proofs.Steps.{result-none}
 use Rattle.labels.proofs.result.Statement.{statement}
 use Rattle.labels.proofs.result.Tie as tie
 

@@ -1,51 +1,46 @@
 -- `labels::weigh` meets its contract. The loop's invariant: what is left to be done brings the column to its end. Its measure is how many nodes are left.
 -- Assumes nothing.
 use mathlib.Core.Path.{_≡_, refl, _∙_}
-use mathlib.Core.List.{List}
 use Prim.Native.Nat.{ℕ, _≤_}
-use lib.ListN.{length}
-use Rattle.labels.specs.Rows.{columns}
-use Rattle.labels.specs.Weights.{weighed}
-use Rattle.labels.proofs.Stepped.{weighed-more, weighed-done}
+use lib.ListN.{length, replicate, length-replicate}
+use Rattle.labels.specs.code.Columns.{weighed}
+use Rattle.labels.proofs.Steps.{weighed-more, weighed-done}
 use borrow.Author.Needs.{needs}
 use native.Mathlib.Omega.{arith}
 use Rattle.labels.proofs.weigh.Statement.{statement}
 use Rattle.labels.proofs.weigh.Tie as tie
 
 abbrev Inv-loop : tie.InvT-loop
-Inv-loop kinds sizes depths weights₀ i₀ weights i =
-    (i ≤ length kinds) × (length weights ≡ length weights₀)
-    × ((ps : List ℕ) → weighed (columns kinds sizes depths ps) (length kinds) i weights ≡ weighed (columns kinds sizes depths ps) (length kinds) (length kinds) weights₀)
+Inv-loop c weights₀ i₀ weights i = (i ≤ c .count) × (length weights ≡ 256) × (weighed c i weights ≡ weighed c (c .count) (replicate 256 0))
 
 abbrev μ-loop : tie.MeasureT-loop
-μ-loop kinds sizes depths weights₀ i₀ weights i = i
+μ-loop c weights₀ i₀ weights i = i
 
 loop-holds : tie.Need-loop-holds Inv-loop μ-loop
-loop-holds c = (omega arith, refl, λ ps. refl)
+loop-holds c = (omega arith, length-replicate {A = ℕ} 256 0, refl)
 
 loop-again : tie.Need-loop-again Inv-loop μ-loop
 loop-again c =
-    let a = c .before .before .before .before .before .before .before .before .before .before .before .before .args in
-    let l = c .before .before .before .before .before .before .before .loop in
-    let w = c .before .before .before .before .weight in
-    let put = c .before .before .put-number .ensures in (
+    let w = c .before .before .before in
+    let k = w .before .before .before .before .before in
+    let reset = k .before .before .before .before in
+    let n = reset .before .before .before .before in
+    let t = n .before .before .before .before .before in
+    let l = t .before .loop in
+    let g = t .before .before .args .t1 in (
       omega arith,
-      c .before .before .put-number .kept .0 ∙ l .inv .1,
-      λ ps. rw put (weighed-more (columns (a .kinds .now) (a .sizes .now) (a .depths .now) ps) (length (a .kinds .now)) (l .i) (w .result) (l .weights) (c .before .before .before .before .before .before .loop-test .taken) (w .ensures ps)
-          ∙ l .inv .2 ps),
+      c .before .put-number .kept .0 ∙ l .inv .1,
+      rw (c .before .put-number .ensures)
+          (weighed-more g (l .i) (l .weights) (t .loop-test .taken) (k .byte .ensures) (w .before .byte2 .ensures) (n .parts .ensures .0 g refl)
+          (reset .resets .ensures g (l .weights) refl) (w .weight .ensures) ∙ l .inv .2),
     )
 
-same-length : tie.Need-same-length Inv-loop μ-loop
-same-length c = c .before .loop .inv .1
-
 returns : tie.Need-returns Inv-loop μ-loop
-returns c =
-    let a = c .before .before .before .before .before .before .args in
-    let l = c .before .loop in
-    λ ps. weighed-done (columns (a .kinds .now) (a .sizes .now) (a .depths .now) ps) (length (a .kinds .now)) (l .i) (l .weights) (c .loop-test .left) ∙ l .inv .2 ps
+returns c = let l = c .before .loop in weighed-done (c .before .before .args .t1) (l .i) (l .weights) (c .loop-test .left) ∙ l .inv .2
 
 pub weigh-spec : {M : Type 1} → statement M
 weigh-spec =
     tie.close
-    (tie.spec Inv-loop μ-loop loop-holds (λ c. search needs) (λ c κs. search needs) (λ c κs. search needs) (λ c. search needs) loop-again
-    same-length returns)
+    (tie.spec Inv-loop μ-loop loop-holds (λ c. search needs) (λ c. search needs) (λ c κs. search needs) (λ c κs. search needs)
+    (λ c κs. search needs) (λ c κs. search needs) (λ c κs. search needs) (λ c. search needs) (λ c κs. search needs) (λ c. search needs)
+    loop-again returns)

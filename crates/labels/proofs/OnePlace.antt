@@ -24,7 +24,7 @@ use Rattle.rules.proofs.NamesKept.{names-kept-iff}
 use Rattle.reader.specs.Accepted.{Accepted}
 use Rattle.reader.proofs.Told.{derived-token-nodes}
 use Rattle.labels.specs.Stands.{Stands}
-use Rattle.labels.proofs.Labelled.{titled}
+use Rattle.labels.proofs.SearchByText.{titled}
 
 -- The keyword of a leaf or flow.
 abbrev Titled : ℕ → Type 0

@@ -26,11 +26,12 @@ use Rattle.process.specs.Process.{event-of}
 use Rattle.process.specs.Expand.{expand}
 use Rattle.process.proofs.Events.{event-in-order}
 use Rattle.labels.specs.Stands.{Stands}
-use Rattle.labels.specs.Rows.{Row, node-row}
+use Rattle.labels.specs.SearchNodes.{search-node}
+use Rattle.labels.specs.declared.SearchNode.{SearchNode}
 use Rattle.labels.specs.Weights.{weigh}
 use Rattle.labels.specs.Seeks.{begin, seek, spot-of}
-use Rattle.labels.proofs.Weighed.{token-node-row}
-use Rattle.labels.proofs.Sought.{Labels, Known, nothing, flow-found}
+use Rattle.labels.proofs.Weighed.{token-search-node}
+use Rattle.labels.proofs.SearchByTree.{Labels, Known, nothing, flow-found}
 
 -- A leaf or flow has a name.
 pub titled : (f l c : Bool) → (f || l) ≡ true → (f || (l || c)) ≡ true
@@ -50,8 +51,8 @@ tokens-on cs rest k c h = ap (λ (n : ℕ). drop n cs) (sym (add-one k)) ∙ (sy
 -- The name of each leaf and flow that the tokens of a text tell stands where its token does.
 module _ (text : List ℕ) where
   token-node-known : (p k c : ℕ) (cs : List ℕ) → drop k (codes text) ≡ c ∷ cs → (flowing c || leafy c) ≡ true
-      → Stands text (token-node (name-in text (places text)) p k (c ∷ cs) .name) (token-node-row (places text) (token-node (name-in text (places text)) p k (c ∷ cs)) .place)
-  unfolding token-node token-node-row node-of name-place
+      → Stands text (token-node (name-in text (places text)) p k (c ∷ cs) .name) (token-search-node (places text) (token-node (name-in text (places text)) p k (c ∷ cs)) .place)
+  unfolding token-node token-search-node node-of name-place
   token-node-known p k c cs h t =
       let here = titled (flowing c) (leafy c) (copying c) t in
       record {
@@ -71,16 +72,16 @@ module _ (text : List ℕ) where
       (cases (keyed c))
 
 -- The nodes that the diagram by value holds.
-stored-rows : (ps : List ℕ) (hs : List TokenNode) → map node-row (map (node-of ps) hs) ≡ map (token-node-row ps) hs
-unfolding token-node-row
-stored-rows ps [] = refl
-stored-rows ps (h ∷ hs) = ap (λ (rs : List Row). token-node-row ps h ∷ rs) (stored-rows ps hs)
+stored-search-nodes : (ps : List ℕ) (hs : List TokenNode) → map search-node (map (node-of ps) hs) ≡ map (token-search-node ps) hs
+unfolding token-search-node
+stored-search-nodes ps [] = refl
+stored-search-nodes ps (h ∷ hs) = ap (λ (rs : List SearchNode). token-search-node ps h ∷ rs) (stored-search-nodes ps hs)
 
-stored-spot : (ps : List ℕ) (hs : List TokenNode) (x y e : ℕ) → spot-of (stored ps hs x y) e ≡ seek (weigh (map (token-node-row ps) hs)) (begin e)
+stored-spot : (ps : List ℕ) (hs : List TokenNode) (x y e : ℕ) → spot-of (stored ps hs x y) e ≡ seek (weigh (map (token-search-node ps) hs)) (begin e)
 unfolding spot-of stored
 stored-spot ps hs x y e =
-    ap (λ (rs : List Row). seek (weigh rs) (begin e))
-    (ap (map node-row) (take-at (map (node-of ps) hs) (replicate (256 - length hs) blank-node) (length hs) (length-map hs (node-of ps))) ∙ stored-rows ps hs)
+    ap (λ (rs : List SearchNode). seek (weigh rs) (begin e))
+    (ap (map search-node) (take-at (map (node-of ps) hs) (replicate (256 - length hs) blank-node) (length hs) (length-map hs (node-of ps))) ∙ stored-search-nodes ps hs)
 
 pub labelled : (text : List ℕ) (d : Flow) → Accepted text d → (e : ℕ) → e < flow-events d
     → Labels (Stands text) (event-of (expand d) e) (spot-of (read-of text .diagram) e)

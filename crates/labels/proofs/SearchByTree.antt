@@ -29,9 +29,9 @@ use Rattle.labels.specs.Values.{packed}
 use Rattle.labels.specs.Weights.{weight, weigh}
 use Rattle.labels.specs.Seeks.{next as after}
 use Rattle.labels.proofs.Deep.{Deep, done, deeper, tree-deep, first-depth, tree-first, child-tree, member-tree, children-first, members-first}
-use Rattle.labels.proofs.Weighed.{first-weight, token-node-row, copies-more, flow-row, group-row, replicator-row, flow-weighed, child-weighed, member-weighed}
+use Rattle.labels.proofs.Weighed.{first-weight, token-search-node, copies-more, flow-joins, group-joins, replicator-joins, flow-weighed, child-weighed, member-weighed}
 use Rattle.labels.proofs.Ordered.{flow-count, child-count, member-count, join-first, join-second, join-count, children-begin, members-begin, copies-at}
-use Rattle.labels.proofs.Turned.{search, sought, seek-past, seek-leaf, seek-reset, seek-body, seek-parts, seek-copy}
+use Rattle.labels.proofs.SearchByNode.{search, sought, seek-past, seek-leaf, seek-reset, seek-body, seek-parts, seek-copy}
 
 -- No event.
 abbrev pub nothing : Event
@@ -61,7 +61,7 @@ module _ (ps : List ℕ) (ok : Name → ℕ → Type 0) where
   -- The name of each leaf and flow among some nodes stands at its place.
   unfoldable pub Known : List TokenNode → Type 0
   Known [] = Unit {0}
-  Known (h ∷ hs) = ((flowing (h .code) || leafy (h .code)) ≡ true → ok (h .name) (token-node-row ps h .place)) × Known hs
+  Known (h ∷ hs) = ((flowing (h .code) || leafy (h .code)) ≡ true → ok (h .name) (token-search-node ps h .place)) × Known hs
 
   known-more : {d : ℕ} {hs more : List TokenNode} → Deep d hs more → Known hs → Known more
   unfolding Known
@@ -86,13 +86,13 @@ module _ (ps : List ℕ) (ok : Name → ℕ → Type 0) where
 
   -- A reset has the name of its body's flow.
   reset-named : (f : Flow) (d k : ℕ) (more : List TokenNode) → Known (flow-token-nodes f false d k more) → (vs : List ℕ)
-      → Labels ok (reset-of f vs) (record { reset = true; place = after (weigh (map (token-node-row ps) (flow-token-nodes f false d k more))) .place; values = packed vs })
+      → Labels ok (reset-of f vs) (record { reset = true; place = after (weigh (map (token-search-node ps) (flow-token-nodes f false d k more))) .place; values = packed vs })
   unfolding flow-token-nodes Known weigh
   reset-named (flow n p sw c r cs) d k more known vs = record { mark = refl; its-values = refl; named = known .0 refl }
 
   -- A tree whose first node is searched in for its event number `rest`, from a search in the node around it, at depth d.
   mutual
-    unfolding flow-token-nodes flow-process flow-events flow-sized flow-parameters Known events token-node-row node-of kind-of weigh weight
+    unfolding flow-token-nodes flow-process flow-events flow-sized flow-parameters Known events token-search-node node-of kind-of weigh weight
 
     pub flow-found : (f : Flow) (b : Bool) (d k : ℕ) (more : List TokenNode) → first-depth more ≤ suc d → flow-sized f ≡ true → flow-events f < 1024
         → Known (flow-token-nodes f b (suc d) k more) → (around : List Name) (vs : List ℕ) → length around ≡ length vs → flow-parameters f around ≡ true
@@ -108,7 +108,7 @@ module _ (ps : List ℕ) (ok : Name → ℕ → Type 0) where
         let first = children-first cs (suc (suc d)) k2 more (omega arith) in
         let count = child-count vs e c sized1 in
         let in-it = seek-parts ps (flow-node k (suc d) n (reverse p) sw b) (child-token-nodes c r (suc (suc d)) k1 tail) d rest vs _ refl (flow-weighed ps (flow n p sw c r cs) b (suc d) k more stop sized few) l
-        (flow-row ps n (reverse p) sw b (suc d) k) in
+        (flow-joins ps n (reverse p) sw b (suc d) k) in
         part-or-past rest (child-events c)
         (λ m. moved
         (child-found c r (suc d) k1 tail first sized1 (omega arith) (known .1) around vs long (and-l (child-parameters c around) (children-parameters cs around) kepts) e rest m)
@@ -171,7 +171,7 @@ module _ (ps : List ℕ) (ok : Name → ℕ → Type 0) where
         let count2 = member-count vs (e + member-events m) w sized2 in
         let both = join-count j p q nothing in
         let in-it = seek-parts ps (simple k (suc d) (group-code y) [] b) (member-token-nodes m false (suc (suc d)) (k + 2) rests) d rest vs _ refl
-        (child-weighed ps (group y m w ms) b (suc d) k more stop sized few) l (group-row ps y b (suc d) k) in
+        (child-weighed ps (group y m w ms) b (suc d) k more stop sized few) l (group-joins ps y b (suc d) k) in
         part-or-past rest (member-events m)
         (λ u. moved
         (member-found m false (suc d) (k + 2) rests first1 sized1 (omega arith) (known .1) around vs long
@@ -205,10 +205,10 @@ module _ (ps : List ℕ) (ok : Name → ℕ → Type 0) where
         let one : 1 ≤ n = member-some m sized1 in
         let longer : length (around ++ (par ∷ [])) ≡ length (vs ++ (v ∷ [])) = simp length-append (omega arith) in
         let room : length vs < 3 = omega (arith, member-surrounded m (around ++ (par ∷ [])) kept1, length-append around (par ∷ [])) in
-        let weighed : first-weight (map (token-node-row ps) body) ≡ n = member-weighed ps m false (suc (suc d)) (k + 7) more (omega arith) sized1 (omega arith) in
+        let weighed : first-weight (map (token-search-node ps) body) ≡ n = member-weighed ps m false (suc (suc d)) (k + 7) more (omega arith) sized1 (omega arith) in
         let copy : ℕ → Process = λ x. member-process m (vs ++ (x ∷ [])) (e + x * n) in
         let in-it = seek-copy ps (copy-node k (suc d) (replicator-code y) par size b) body d rest vs _ refl
-        (child-weighed ps (replicator y par size m) b (suc d) k more stop sized few) l (replicator-row ps y par size b (suc d) k) some (omega arith) room in
+        (child-weighed ps (replicator y par size m) b (suc d) k more stop sized few) l (replicator-joins ps y par size b (suc d) k) some (omega arith) room in
         moved
         (member-found m false (suc d) (k + 7) more (omega arith) sized1 (omega arith) (known .1) (around ++ (par ∷ [])) (vs ++ (v ∷ [])) longer kept1
         (e + v * n) (rest % n) (mod-lt rest one))
