@@ -13,7 +13,7 @@ use Rattle.diagram.specs.declared.Node.{Node}
 use Rattle.reader.specs.declared.Answer.{Answer}
 use Rattle.reader.specs.declared.Answer.the-variants.{Done, Refused as Unread}
 use Rattle.reader.specs.declared.ReadResult.{ReadResult}
-use Rattle.expansion.specs.Columns.{size-number}
+use Rattle.diagram.specs.Columns.{size-number}
 use Rattle.harness.specs.declared.Found.{Found}
 use Rattle.harness.specs.declared.Found.the-variants.{At, Refused}
 

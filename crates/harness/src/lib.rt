@@ -18,7 +18,7 @@ ghost use Rattle.translator.specs.Reports.{report as translate-report};
 ghost use Rattle.events.specs.Listing.{Listed};
 ghost use Rattle.events.specs.Reports.{marked as marked-values, report as label-report};
 ghost use Rattle.harness.specs.Packed.{packed};
-ghost use Rattle.expansion.specs.Columns.{size-number};
+ghost use Rattle.diagram.specs.Columns.{size-number};
 ghost use Rattle.harness.specs.Nodes.{kind-number, node-values, place-values, unread as unread-found, found-at, report as found-report};
 ghost use Rattle.harness.specs.Calls.{Translates, Labels, Names};
 use diagram::Diagram;

@@ -20,7 +20,7 @@ use Rattle.table.specs.declared.Answer.the-variants.{Done, Refused}
 use Rattle.table.specs.declared.Finish.{Finish}
 use Rattle.table.specs.declared.Finish.the-variants.{No, Yes, Refused as Unasked}
 use Rattle.table.specs.declared.Stepped.{Stepped}
-use Rattle.events.specs.Listing.{refused-line}
+use Rattle.output.specs.Lines.{refused-line}
 use Rattle.player.specs.Lines.{onto, lines, first, rest, event-lines}
 use Rattle.player.specs.Shown.{item, chosen, next-words, state-text, answer-text, stepped-text, said-step, opening-text, finish-text, closing-text}
 

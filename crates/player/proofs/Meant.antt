@@ -19,7 +19,7 @@ use Rattle.process.specs.Process.{Event, events, event-of}
 use Rattle.process.specs.Expand.{expand}
 use Rattle.process.proofs.Events.{events-counted, event-in-order}
 use Rattle.process.proofs.NoTwo.{no-event-twice}
-use Rattle.labels.proofs.Sought.{nothing}
+use Rattle.labels.proofs.SearchByTree.{nothing}
 use Rattle.output.specs.Decimal.{decimal}
 use Rattle.events.specs.Listing.{first-line, mark, spaced, line, lines as listing-lines, drawing-listing}
 use Rattle.events.proofs.Short.{Each, each-append, each-at, Short, events-short}

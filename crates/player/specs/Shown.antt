@@ -13,7 +13,7 @@ use Rattle.table.specs.declared.Answer.the-variants.{Done, Refused}
 use Rattle.table.specs.declared.Finish.{Finish}
 use Rattle.table.specs.declared.Finish.the-variants.{No, Yes, Refused as Unasked}
 use Rattle.table.specs.declared.Stepped.{Stepped}
-use Rattle.events.specs.Listing.{refused-line}
+use Rattle.output.specs.Lines.{refused-line}
 use Rattle.player.specs.Lines.{lines, first, event-lines}
 use Rattle.player.specs.Said.{event-said}
 

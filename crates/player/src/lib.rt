@@ -128,7 +128,7 @@ fn refused(answer: Answer, out: &mut [u8], at: usize) -> usize
 {
     match answer {
         Answer::Done => at,
-        Answer::Refused(number, place) => events::refused(number, place, out, at),
+        Answer::Refused(number, place) => output::refused(out, at, number, place),
     }
 }
 
@@ -176,6 +176,6 @@ pub fn closing(table: &[u8], r: Record, out: &mut [u8]) -> usize
     match finish {
         Finish::Yes => output::bytes(out, 0, b"finished\n"),
         Finish::No => output::bytes(out, 0, b"not finished\n"),
-        Finish::Refused(number, place) => events::refused(number, place, out, 0),
+        Finish::Refused(number, place) => output::refused(out, 0, number, place),
     }
 }

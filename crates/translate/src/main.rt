@@ -7,7 +7,7 @@ use translator::Translated;
 
 fn refuse(number: u8, place: usize) {
     let mut out = [0u8; 64];
-    let n = events::refused(number, place, &mut out, 0);
+    let n = output::refused(&mut out, 0, number, place);
     io::write_all(STDERR_FILENO, &out[..n]);
 }
 

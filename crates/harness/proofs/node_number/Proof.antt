@@ -1,6 +1,6 @@
 -- `harness::node_number` meets its contract: what its parts answer, side by side.
 use mathlib.Core.Bool.{cond}
-use Rattle.expansion.specs.Columns.{size-number}
+use Rattle.diagram.specs.Columns.{size-number}
 use Rattle.harness.specs.Nodes.{kind-number}
 use Rattle.harness.proofs.Packs.{five}
 use borrow.Author.Needs.{needs}
