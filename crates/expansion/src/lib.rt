@@ -9,21 +9,6 @@ pub struct Walk {
     pub count: usize,
 }
 
-// The numbers of a process in postfix order: a leaf copy, a loop over a leaf, a loop over the flow before it, and the joints of the two parts before them.
-const LEAF: u8 = 0;
-
-const AGAIN: u8 = 1;
-
-const ROUNDS: u8 = 2;
-
-const SEQ: u8 = 3;
-
-const AND: u8 = 4;
-
-const OR: u8 = 5;
-
-const XOR: u8 = 6;
-
 // One number more, where there is room.
 fn add(codes: &mut [u8], code: u8, s: Walk) -> Walk
     ensures { λ r. ⌜ record { walk = r; codes = now (codes .exit) } ≡ added code (record { walk = s; codes = now (codes .entry) }) ⌝ }
@@ -62,8 +47,8 @@ fn part<'a>(
         count: s.count,
     };
     let kind = base::byte(kinds, i);
-    if kind == LEAF {
-        return add(codes, LEAF, inside);
+    if kind == postfix::LEAF {
+        return add(codes, postfix::LEAF, inside);
     }
     if kind == diagram::LOOP {
         return looped(kinds, sizes, depths, count, left - 1, inside, codes);
@@ -86,16 +71,16 @@ fn looped<'a>(
 {
     let i = s.node;
     if i < count {
-        if base::byte(kinds, i) == LEAF {
+        if base::byte(kinds, i) == postfix::LEAF {
             let after = Walk {
                 node: i + 1,
                 count: s.count,
             };
-            return add(codes, AGAIN, after);
+            return add(codes, postfix::AGAIN, after);
         }
     }
     let t = part(kinds, sizes, depths, count, left, s, codes);
-    add(codes, ROUNDS, t)
+    add(codes, postfix::ROUNDS, t)
 }
 
 // How many parts of node i may follow its first.

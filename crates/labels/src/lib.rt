@@ -47,8 +47,6 @@ pub enum Step {
     Found(Spot),
 }
 
-const LEAF: u8 = 0;
-
 // A value after the others.
 fn push(v: Values, x: usize) -> Values
     ensures { λ r. ⌜ r ≡ pushed v x ⌝ }
@@ -111,7 +109,7 @@ fn resets(kinds: &[u8], i: usize, end: usize) -> usize
     if end <= j {
         return 0;
     }
-    if base::byte(kinds, j) == LEAF {
+    if base::byte(kinds, j) == postfix::LEAF {
         return 0;
     }
     1
@@ -122,7 +120,7 @@ fn weight(kind: u8, size: u8, n: usize, reset: usize) -> usize
     requires { ⌜ n < 1024 ⌝ }
     ensures { λ r. ⌜ r ≡ weight-by kind size n reset ⌝ }
 {
-    if kind == LEAF {
+    if kind == postfix::LEAF {
         return 1;
     }
     if kind == diagram::LOOP {
@@ -186,7 +184,7 @@ fn found(reset: bool, place: usize, s: Search) -> Step
 fn inside(r: SearchNode, q: SearchNode, s: Search) -> Step
     ensures { λ t. ⌜ t ≡ inside-of r q s ⌝ }
 {
-    if r.kind == LEAF {
+    if r.kind == postfix::LEAF {
         return found(false, r.place, s);
     }
     if r.kind == diagram::LOOP {
