@@ -8,6 +8,7 @@ use lib.Dec.{eqb, ltb}
 use lib.ListN.{length, getD, List·getD-append}
 use borrow.Author.Tests.{eq-eqb, ne-eqb, ltb-true, ltb-false}
 use Rattle.base.proofs.Truth.{by-cases, clash, and-l, and-r, not-e}
+use Rattle.base.specs.Text.{bytes}
 use Rattle.diagram.specs.Tree.{Name}
 use Rattle.lexer.specs.Classes.{between, class-of, letter, worded}
 use Rattle.lexer.proofs.Between.{between-low}
@@ -133,7 +134,7 @@ no-value n vs (w ∷ ws) a e =
 
 no-reset : (n m : Name) (vs ws : List ℕ) → Word n → Word m → mark true ++ (n ++ spaced vs) ≡ m ++ spaced ws → ⊥
 no-reset n m vs ws a b e =
-    let word : List ℕ = 114 ∷ 101 ∷ 115 ∷ 101 ∷ 116 ∷ [] in
+    let word : List ℕ = bytes "reset" in
     let t = word-without 32 m (blanks-no-words .1) (and-r (lettered m) (every worded m) b) in
     no-value n vs ws a (parted word m (32 ∷ (n ++ spaced vs)) (spaced ws) (without 32 word refl) t refl (values-off ws) e .1)
 

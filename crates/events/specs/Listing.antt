@@ -22,15 +22,15 @@ first-line e c = two-numbers (bytes "events ") e (bytes " copies ") c
 -- Values, "each after a space".
 unfoldable pub spaced : List ℕ → List ℕ
 spaced [] = []
-spaced (v ∷ vs) = (32 ∷ []) ++ (decimal v ++ spaced vs)
+spaced (v ∷ vs) = bytes " " ++ (decimal v ++ spaced vs)
 
 -- `reset` and a space, or nothing.
 abbrev pub mark : Bool → List ℕ
-mark reset = cond reset (114 ∷ 101 ∷ 115 ∷ 101 ∷ 116 ∷ 32 ∷ []) []
+mark reset = cond reset (bytes "reset ") []
 
 -- The line of event e.
 unfoldable pub line : ℕ → Event → List ℕ
-line e l = decimal e ++ ((32 ∷ []) ++ (mark (l .reset) ++ (l .name ++ (spaced (l .values) ++ (10 ∷ [])))))
+line e l = decimal e ++ (bytes " " ++ (mark (l .reset) ++ (l .name ++ (spaced (l .values) ++ bytes "\n"))))
 
 -- The lines of some events, of which the first has the number e.
 unfoldable pub lines : ℕ → List Event → List ℕ

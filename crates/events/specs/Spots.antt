@@ -6,6 +6,7 @@ use Prim.Native.Nat.{ℕ, zero, suc, _≤_, _<_}
 use denote.Ref.{RefT, now}
 use lib.Dec.{ltb}
 use lib.ListN.{length}
+use Rattle.base.specs.Text.{bytes}
 use Rattle.diagram.specs.declared.Diagram.{Diagram}
 use Rattle.lexer.specs.Words.{word-at}
 use Rattle.reader.specs.declared.Answer.{Answer}
@@ -42,14 +43,14 @@ spot-label d e =
 
 -- A value after a space, if it is there; and up to three of them.
 abbrev pub spaced-value : Bool → ℕ → List ℕ
-spaced-value there v = cond there ((32 ∷ []) ++ decimal v) []
+spaced-value there v = cond there (bytes " " ++ decimal v) []
 
 unfoldable pub spaced-values : Values → List ℕ
 spaced-values v = spaced-value (ltb 0 (v .count)) (v .first) ++ (spaced-value (ltb 1 (v .count)) (v .second) ++ spaced-value (ltb 2 (v .count)) (v .third))
 
 -- The line of event e.
 unfoldable pub spot-line : List ℕ → ℕ → Spot → List ℕ
-spot-line text e s = decimal e ++ ((32 ∷ []) ++ (mark (s .reset) ++ (word-at text (s .place) ++ (spaced-values (s .values) ++ (10 ∷ [])))))
+spot-line text e s = decimal e ++ (bytes " " ++ (mark (s .reset) ++ (word-at text (s .place) ++ (spaced-values (s .values) ++ bytes "\n"))))
 
 -- The lines of n events from event e on.
 unfoldable pub spot-lines : List ℕ → Diagram → ℕ → ℕ → List ℕ

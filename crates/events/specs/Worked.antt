@@ -2,30 +2,31 @@
 use mathlib.Core.Path.{_≡_}
 use mathlib.Core.List.{List, [], _∷_, map}
 use Prim.Native.Nat.{ℕ}
+use Rattle.base.specs.Text.{bytes}
 use Rattle.diagram.specs.Tree.{Flow}
 use Rattle.diagram.specs.Drawings.{T, U, nested}
 use Rattle.events.specs.Listing.{drawing-listing}
 
 pub record Worked : Type 0 where
   pub drawing : Flow
-  pub bytes : List ℕ
+  pub listing : List ℕ
 
 abbrev pub table : List Worked
 table =
     record {
       drawing = T;
-      bytes = 101 ∷ 118 ∷ 101 ∷ 110 ∷ 116 ∷ 115 ∷ 32 ∷ 53 ∷ 32 ∷ 99 ∷ 111 ∷ 112 ∷ 105 ∷ 101 ∷ 115 ∷ 32 ∷ 56 ∷ 10 ∷ 48 ∷ 32 ∷ 116 ∷ 97 ∷ 107 ∷ 101 ∷ 10 ∷ 49 ∷ 32 ∷ 102 ∷ 105 ∷ 108 ∷ 108 ∷ 10 ∷ 50 ∷ 32 ∷ 115 ∷ 101 ∷ 110 ∷ 100 ∷ 10 ∷ 51 ∷ 32 ∷ 100 ∷ 114 ∷ 111 ∷ 112 ∷ 10 ∷ 52 ∷ 32 ∷ 102 ∷ 114 ∷ 101 ∷ 101 ∷ 10 ∷ [];
+      listing = bytes "events 5 copies 8\n0 take\n1 fill\n2 send\n3 drop\n4 free\n";
     }
     ∷ record {
       drawing = U;
-      bytes = 101 ∷ 118 ∷ 101 ∷ 110 ∷ 116 ∷ 115 ∷ 32 ∷ 52 ∷ 32 ∷ 99 ∷ 111 ∷ 112 ∷ 105 ∷ 101 ∷ 115 ∷ 32 ∷ 54 ∷ 10 ∷ 48 ∷ 32 ∷ 97 ∷ 10 ∷ 49 ∷ 32 ∷ 98 ∷ 10 ∷ 50 ∷ 32 ∷ 114 ∷ 101 ∷ 115 ∷ 101 ∷ 116 ∷ 32 ∷ 114 ∷ 10 ∷ 51 ∷ 32 ∷ 99 ∷ 10 ∷ [];
+      listing = bytes "events 4 copies 6\n0 a\n1 b\n2 reset r\n3 c\n";
     }
     ∷ record {
       drawing = nested;
-      bytes = 101 ∷ 118 ∷ 101 ∷ 110 ∷ 116 ∷ 115 ∷ 32 ∷ 55 ∷ 32 ∷ 99 ∷ 111 ∷ 112 ∷ 105 ∷ 101 ∷ 115 ∷ 32 ∷ 49 ∷ 51 ∷ 10 ∷ 48 ∷ 32 ∷ 97 ∷ 32 ∷ 48 ∷ 32 ∷ 48 ∷ 10 ∷ 49 ∷ 32 ∷ 97 ∷ 32 ∷ 48 ∷ 32 ∷ 49 ∷ 10 ∷ 50 ∷ 32 ∷ 98 ∷ 32 ∷ 48 ∷ 10 ∷ 51 ∷ 32 ∷ 97 ∷ 32 ∷ 49 ∷ 32 ∷ 48 ∷ 10 ∷ 52 ∷ 32 ∷ 97 ∷ 32 ∷ 49 ∷ 32 ∷ 49 ∷ 10 ∷ 53 ∷ 32 ∷ 98 ∷ 32 ∷ 49 ∷ 10 ∷ 54 ∷ 32 ∷ 99 ∷ 10 ∷ [];
+      listing = bytes "events 7 copies 13\n0 a 0 0\n1 a 0 1\n2 b 0\n3 a 1 0\n4 a 1 1\n5 b 1\n6 c\n";
     }
     ∷ []
 
 -- Each drawing's listing is these bytes.
 abbrev pub Shown : List Worked → Type 0
-Shown ws = map (λ (w : Worked). drawing-listing (w .drawing)) ws ≡ map (λ (w : Worked). w .bytes) ws
+Shown ws = map (λ (w : Worked). drawing-listing (w .drawing)) ws ≡ map (λ (w : Worked). w .listing) ws
