@@ -39,11 +39,11 @@ use Rattle.reader.specs.Reading.{Reading, drawing, no-drawing}
 use Rattle.events.specs.Labels.{label, label-of, Valued}
 use Rattle.events.specs.Names.{name-of, Placed, Part, Named}
 use Rattle.events.specs.Listing.{first-line, spaced, line, lines, listing, Listed}
-use Rattle.events.specs.Spots.{Word, passed-on, refusal-line, spot-label, spaced-values, spot-line, spot-lines, spot-listing}
+use Rattle.events.specs.code.Spots.{Word, passed-on, refusal-line, spot-label, spaced-values, spot-line, spot-lines, spot-listing}
 use Rattle.events.specs.declared.Label.{Label}
 use Rattle.events.specs.declared.Label.the-variants.{Leaf, Reset, Refused}
 use Rattle.events.proofs.Short.{Short, each-at, events-short}
-use Rattle.events.proofs.Bound.{listing-short}
+use Rattle.events.proofs.ListingFits.{listing-short}
 
 -- A word as a part of the text.
 word-inside : (text : List ℕ) (at : ℕ) → at ≤ length text → at + front worded (drop at text) ≤ length text
@@ -121,11 +121,11 @@ drawn text o q h =
 same-label : (l : Event) (s : Spot) → s .reset ≡ l .reset → s .values ≡ packed (l .values) → cond (s .reset) (Reset (s .values)) (Leaf (s .values)) ≡ label l
 same-label l s p q = rw (p, q)
 
-label-told : {ok : Name → ℕ → Type 0} (g : Diagram) (d : Flow) (e : ℕ) → g .events ≡ flow-events d
+spot-label-is : {ok : Name → ℕ → Type 0} (g : Diagram) (d : Flow) (e : ℕ) → g .events ≡ flow-events d
     → (e < flow-events d → Labels ok (event-of (expand d) e) (spot-of g e))
     → spot-label g e ≡ cond (ltb e (flow-events d)) (label (event-of (expand d) e)) (Refused 14 0)
 unfolding spot-label
-label-told g d e n f =
+spot-label-is g d e n f =
     by-cases (ltb e (flow-events d))
     (λ t.
     let h = ltb-true e (flow-events d) t in
@@ -139,7 +139,7 @@ valued-drawn text o e r q h g =
     let d = drawn text o q h in
     record {
       reading = drawing (d .tree) (d .its-limits);
-      its-label = g ∙ label-told (o .diagram) (d .tree) e (d .its-events) (d .its-labels e);
+      its-label = g ∙ spot-label-is (o .diagram) (d .tree) e (d .its-events) (d .its-labels e);
     }
 
 -- A text that was turned away, by what reading answered.
@@ -195,14 +195,14 @@ named-some text r o e s q h l g w =
     let name = event-of (expand (d .tree)) e .name in
     let stands : Stands (now text) name (s .place) = rw g (d .its-labels e less .named) in
     let some = short-at (now text) (d .tree) (d .its-limits) e less .some in
-    let told : name-of (drawing (d .tree) (d .its-limits)) e ≡ name = rw (lt-ltb e (flow-events (d .tree)) less) in
+    let named : name-of (drawing (d .tree) (d .its-limits)) e ≡ name = rw (lt-ltb e (flow-events (d .tree)) less) in
     record {
       reading = drawing (d .tree) (d .its-limits);
-      its-name = w .its-word ∙ (stands .its-name ∙ sym told);
+      its-name = w .its-word ∙ (stands .its-name ∙ sym named);
       place = s .place;
       its-place = (λ x. stands, λ x. let z : ⊥ = omega arith in absurd z);
       its-part =
-          rw (told, ← (stands .its-name))
+          rw (named, ← (stands .its-name))
           (w .inside (named-inside (now text) (s .place) name (stands .its-name) some));
     }
 
@@ -215,31 +215,31 @@ spaced-packed (a ∷ b ∷ []) h = refl
 spaced-packed (a ∷ b ∷ c ∷ []) h = rw (append-nil (decimal c))
 spaced-packed (a ∷ b ∷ c ∷ x ∷ vs) h = let z : ⊥ = omega arith in absurd z
 
-line-told : (text : List ℕ) (e : ℕ) (l : Event) (s : Spot) → Labels (Stands text) l s → length (l .values) ≤ 3 → spot-line text e s ≡ line e l
+spot-line-is : (text : List ℕ) (e : ℕ) (l : Event) (s : Spot) → Labels (Stands text) l s → length (l .values) ≤ 3 → spot-line text e s ≡ line e l
 unfolding spot-line line
-line-told text e l s g h = rw (g .mark, g .its-values, g .named .its-name, spaced-packed (l .values) h)
+spot-line-is text e l s g h = rw (g .mark, g .its-values, g .named .its-name, spaced-packed (l .values) h)
 
 -- From event e on, of n.
-lines-told : (text : List ℕ) (g : Diagram) (ls : List Event) (e n : ℕ) → e + n ≡ length ls
+spot-lines-are : (text : List ℕ) (g : Diagram) (ls : List Event) (e n : ℕ) → e + n ≡ length ls
     → ((x : ℕ) → x < length ls → spot-line text x (spot-of g x) ≡ line x (getD ls x nothing))
     → spot-lines text g e n ≡ lines e (drop e ls)
 unfolding spot-lines lines
-lines-told text g ls e zero h f = rw (drop-of-length-le ls {i = e} (omega arith))
-lines-told text g ls e (suc n) h f =
-    rw (drop-cons ls e nothing (omega arith), f e (omega arith), lines-told text g ls (suc e) n (omega arith) f)
+spot-lines-are text g ls e zero h f = rw (drop-of-length-le ls {i = e} (omega arith))
+spot-lines-are text g ls e (suc n) h f =
+    rw (drop-cons ls e nothing (omega arith), f e (omega arith), spot-lines-are text g ls (suc e) n (omega arith) f)
 
-listing-told : (text : List ℕ) (o : ReadResult) (d : Drawn text o) → spot-listing text (o .diagram) ≡ listing (drawing (d .tree) (d .its-limits))
+spot-listing-is : (text : List ℕ) (o : ReadResult) (d : Drawn text o) → spot-listing text (o .diagram) ≡ listing (drawing (d .tree) (d .its-limits))
 unfolding spot-listing listing
-listing-told text o d =
+spot-listing-is text o d =
     let t = d .tree in
     let a = d .its-limits in
     let n = d .its-events in
     let count = events-counted t (a .keeps .sizes) in
     ap₂ (λ (xs ys : List ℕ). xs ++ ys) (ap₂ first-line n (d .its-copies))
-    (lines-told text (o .diagram) (events (expand t)) 0 (o .diagram .events) (omega arith)
+    (spot-lines-are text (o .diagram) (events (expand t)) 0 (o .diagram .events) (omega arith)
     (λ x h.
     let less : x < flow-events t = omega arith in
-    line-told text x (event-of (expand t) x) (spot-of (o .diagram) x) (d .its-labels x less) (short-at text t a x less .few)
+    spot-line-is text x (event-of (expand t) x) (spot-of (o .diagram) x) (d .its-labels x less) (short-at text t a x less .few)
     ∙ ap (line x) (event-in-order t (a .keeps .sizes) x nothing less)))
 
 -- What is written, where it fits.
@@ -257,7 +257,7 @@ pub listed-drawn : (text lent left : List ℕ) (o : ReadResult) (r : ℕ) → o 
     → buffer r left ≡ put-all (spot-listing text (o .diagram)) (buffer 0 lent) → Listed text lent r left
 listed-drawn text lent left o r q h m w =
     let d = drawn text o q h in
-    listed text lent left (drawing (d .tree) (d .its-limits)) (spot-listing text (o .diagram)) r (listing-told text o d) m w
+    listed text lent left (drawing (d .tree) (d .its-limits)) (spot-listing text (o .diagram)) r (spot-listing-is text o d) m w
 
 pub listed-refused : (text lent left : List ℕ) (o : ReadResult) (number place r : ℕ) → o ≡ read-of text → o .answer ≡ Unread number place → length lent ≡ 32768
     → buffer r left ≡ put-all (refusal-line (o .answer)) (buffer 0 lent) → Listed text lent r left

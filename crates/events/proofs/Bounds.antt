@@ -11,7 +11,7 @@ use lib.ListN.{length, getD, take, drop, length-drop, length-take}
 use lib.Seq.{length-take-le}
 use borrow.Author.Tests.{ltb-true, ltb-false, lt-ltb, le-ltb}
 use Rattle.base.specs.Fill.{fill}
-use Rattle.base.specs.Reports.{Report, result as told-result, refusal as told-refusal}
+use Rattle.base.specs.Reports.{Report, result as result-report, refusal as refusal-report}
 use Rattle.base.proofs.Filled.{fill-length, fill-past}
 use Rattle.base.proofs.Truth.{by-cases}
 use Rattle.diagram.specs.Count.{flow-events}
@@ -29,9 +29,9 @@ use Rattle.events.specs.Bounds.{Name-bounded, Within, Reason, unread, no
 use Rattle.events.specs.declared.Label.{Label}
 use Rattle.events.specs.declared.Label.the-variants.{Leaf, Reset, Refused}
 use Rattle.reader.proofs.Reading.{Same, same-drawing, same-no-drawing, one-reading}
-use Rattle.events.proofs.Read.{one-listing}
+use Rattle.events.proofs.OneListing.{one-listing}
 use Rattle.events.proofs.Short.{Each, Small, Short}
-use Rattle.events.proofs.Bound.{near, listing-short}
+use Rattle.events.proofs.ListingFits.{near, listing-short}
 use Rattle.events.proofs.Answers.{short-at}
 
 -- The listing.
@@ -68,7 +68,7 @@ packed-within l s = record {
   third-small = value-small (l .values) 2 (s .small);
 }
 
-label-report : (l : Event) → report (label l) ≡ told-result (event-marked l)
+label-report : (l : Event) → report (label l) ≡ result-report (event-marked l)
 label-report l = by-cases (l .reset) (λ t. rw t) (λ t. rw t)
 
 reading-bounded : {text : List ℕ} (w : Reading text) (e : ℕ) (r : Label) → r ≡ label-of w e → Values-bounded text e r
@@ -79,7 +79,7 @@ reading-bounded {text} (drawing d a) e r q =
     let h = ltb-true e (flow-events d) t in
     let l = event-of (expand d) e in
     let its : r ≡ label l = q ∙ rw t in
-    result record { tree = d; limits = a; below = h; told = ap report its ∙ label-report l; within = packed-within l (short-at text d a e h) })
+    result record { tree = d; limits = a; below = h; reported = ap report its ∙ label-report l; within = packed-within l (short-at text d a e h) })
     (λ t.
     let its : r ≡ Refused 14 0 = q ∙ rw t in
     refusal
@@ -87,7 +87,7 @@ reading-bounded {text} (drawing d a) e r q =
       number = 14;
       place = 0;
       why = no-event d a (ltb-false e (flow-events d) t) refl refl;
-      told = ap report its;
+      reported = ap report its;
       one-of = inr refl;
       near = omega arith;
     })
@@ -98,7 +98,7 @@ reading-bounded {text} (no-drawing number place h) e r q =
       number = number;
       place = place;
       why = unread h;
-      told = ap report q;
+      reported = ap report q;
       one-of = inl (n .0, n .1);
       near = n .2;
     }
@@ -117,23 +117,23 @@ same-values m n v w e =
     let q : values (v .count) (v .first) (v .second) (v .third) ≡ values (w .count) (w .first) (w .second) (w .third) = rw (b, c, d, f) in
     (a, q)
 
-leaf-told : (v w : Values) (b : Bool) → marked 0 v ≡ marked (cond b 1 0) w → Leaf v ≡ cond b (Reset w) (Leaf w)
-leaf-told v w true e = let n = same-values 0 1 v w e .0 in let z : ⊥ = omega arith in absurd z
-leaf-told v w false e = ap Leaf (same-values 0 0 v w e .1)
+leaf-reported : (v w : Values) (b : Bool) → marked 0 v ≡ marked (cond b 1 0) w → Leaf v ≡ cond b (Reset w) (Leaf w)
+leaf-reported v w true e = let n = same-values 0 1 v w e .0 in let z : ⊥ = omega arith in absurd z
+leaf-reported v w false e = ap Leaf (same-values 0 0 v w e .1)
 
-reset-told : (v w : Values) (b : Bool) → marked 1 v ≡ marked (cond b 1 0) w → Reset v ≡ cond b (Reset w) (Leaf w)
-reset-told v w true e = ap Reset (same-values 1 1 v w e .1)
-reset-told v w false e = let n = same-values 1 0 v w e .0 in let z : ⊥ = omega arith in absurd z
+reset-reported : (v w : Values) (b : Bool) → marked 1 v ≡ marked (cond b 1 0) w → Reset v ≡ cond b (Reset w) (Leaf w)
+reset-reported v w true e = ap Reset (same-values 1 1 v w e .1)
+reset-reported v w false e = let n = same-values 1 0 v w e .0 in let z : ⊥ = omega arith in absurd z
 
-event-told : (r : Label) (l : Event) → report r ≡ told-result (event-marked l) → r ≡ label l
-event-told (Leaf v) l e = leaf-told v (packed (l .values)) (l .reset) (ap (λ (x : Report). x .values) e)
-event-told (Reset v) l e = reset-told v (packed (l .values)) (l .reset) (ap (λ (x : Report). x .values) e)
-event-told (Refused c k) l e = let n = ap (λ (x : Report). length (x .values)) e in let z : ⊥ = omega arith in absurd z
+event-reported : (r : Label) (l : Event) → report r ≡ result-report (event-marked l) → r ≡ label l
+event-reported (Leaf v) l e = leaf-reported v (packed (l .values)) (l .reset) (ap (λ (x : Report). x .values) e)
+event-reported (Reset v) l e = reset-reported v (packed (l .values)) (l .reset) (ap (λ (x : Report). x .values) e)
+event-reported (Refused c k) l e = let n = ap (λ (x : Report). length (x .values)) e in let z : ⊥ = omega arith in absurd z
 
-refused-told : (r : Label) (c k : ℕ) → report r ≡ told-refusal c k → r ≡ Refused c k
-refused-told (Leaf v) c k e = let n = ap (λ (x : Report). length (x .values)) e in let z : ⊥ = omega arith in absurd z
-refused-told (Reset v) c k e = let n = ap (λ (x : Report). length (x .values)) e in let z : ⊥ = omega arith in absurd z
-refused-told (Refused d j) c k e = ap₂ Refused (ap (λ (x : Report). x .number) e) (ap (λ (x : Report). x .place) e)
+refusal-reported : (r : Label) (c k : ℕ) → report r ≡ refusal-report c k → r ≡ Refused c k
+refusal-reported (Leaf v) c k e = let n = ap (λ (x : Report). length (x .values)) e in let z : ⊥ = omega arith in absurd z
+refusal-reported (Reset v) c k e = let n = ap (λ (x : Report). length (x .values)) e in let z : ⊥ = omega arith in absurd z
+refusal-reported (Refused d j) c k e = ap₂ Refused (ap (λ (x : Report). x .number) e) (ap (λ (x : Report). x .place) e)
 
 -- And there is no other: the relation says all that the contract of `events::values` says.
 refusal-valued : (text : List ℕ) (e : ℕ) (r : Label) (c k : ℕ) → r ≡ Refused c k → Reason text e c k → Valued text e r
@@ -147,9 +147,9 @@ unfolding label-of
 one-values text e r (result v) =
     record {
       reading = drawing (v .tree) (v .limits);
-      its-label = event-told r (event-of (expand (v .tree)) e) (v .told) ∙ rw (lt-ltb e (flow-events (v .tree)) (v .below));
+      its-label = event-reported r (event-of (expand (v .tree)) e) (v .reported) ∙ rw (lt-ltb e (flow-events (v .tree)) (v .below));
     }
-one-values text e r (refusal v) = refusal-valued text e r (v .number) (v .place) (refused-told r (v .number) (v .place) (v .told)) (v .why)
+one-values text e r (refusal v) = refusal-valued text e r (v .number) (v .place) (refusal-reported r (v .number) (v .place) (v .reported)) (v .why)
 
 -- The name.
 name-short : {text : List ℕ} (w : Reading text) (e : ℕ) → length (name-of w e) ≤ 24

@@ -1,8 +1,8 @@
-pub mod Read
+pub mod OneListing
 pub mod Short
 pub mod Called
-pub mod Bound
-pub mod Written
+pub mod ListingFits
+pub mod LinesWritten
 pub mod Answers
 pub mod Bounds
 pub mod Worked

@@ -6,7 +6,7 @@ use mathlib.Core.List.{List}
 use Prim.Native.Nat.{ℕ, _+_, _≤_, _<_}
 use denote.Ref.{RefT, now}
 use lib.ListN.{length, drop}
-use Rattle.base.specs.Reports.{result as told-result, refusal as told-refusal}
+use Rattle.base.specs.Reports.{result as result-report, refusal as refusal-report}
 use Rattle.diagram.specs.Tree.{Flow}
 use Rattle.diagram.specs.Count.{flow-events}
 use Rattle.reader.specs.Accepted.{Accepted}
@@ -39,7 +39,7 @@ pub record Values-result (text : List ℕ) (e : ℕ) (r : Label) : Type 0 where
   pub tree : Flow
   pub limits : Accepted text tree
   pub below : e < flow-events tree
-  pub told : report r ≡ told-result (event-marked (event-of (expand tree) e))
+  pub reported : report r ≡ result-report (event-marked (event-of (expand tree) e))
   pub within : Within (packed (event-of (expand tree) e .values))
 
 -- Reading's number and place, each by its own sentence; then 14 at 0, "number at or past E".
@@ -52,7 +52,7 @@ pub record Values-refusal (text : List ℕ) (e : ℕ) (r : Label) : Type 0 where
   pub number : ℕ
   pub place : ℕ
   pub why : Reason text e number place
-  pub told : report r ≡ told-refusal number place
+  pub reported : report r ≡ refusal-report number place
   pub one-of : ((2 ≤ number) × (number ≤ 11)) ⊎ (number ≡ 14)
   pub near : place ≤ 16384
 

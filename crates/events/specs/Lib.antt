@@ -2,6 +2,6 @@ pub mod Labels
 pub mod Names
 pub mod Listing
 pub mod Worked
-pub mod Spots
+pub mod code
 pub mod Bounds
 pub mod Reports

@@ -14,7 +14,7 @@ use Rattle.events.specs.declared.Label.the-variants.{Leaf, Reset, Refuse
 abbrev pub marked : ℕ → Values → List ℕ
 marked mark v = mark ∷ v .count ∷ v .first ∷ v .second ∷ v .third ∷ []
 
--- What an event is told by: 1 for a reset and 0 for a leaf, and its values.
+-- An event: 1 for a reset and 0 for a leaf, and its values.
 abbrev pub event-marked : Event → List ℕ
 event-marked l = marked (cond (l .reset) 1 0) (packed (l .values))
 

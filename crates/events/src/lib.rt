@@ -3,7 +3,7 @@ ghost use Rattle.output.specs.Buffer.{buffer, put-all};
 ghost use Rattle.events.specs.Names.{Named};
 ghost use Rattle.events.specs.Labels.{Valued};
 ghost use Rattle.events.specs.Listing.{mark as mark-of, Listed};
-ghost use Rattle.events.specs.Spots.{Word, passed-on, refusal-line, spot-label, spaced-value, spaced-values, spot-line, spot-lines, spot-listing};
+ghost use Rattle.events.specs.code.Spots.{Word, passed-on, refusal-line, spot-label, spaced-value, spaced-values, spot-line, spot-lines, spot-listing};
 use diagram::Diagram;
 use labels::Spot;
 use labels::Values;

@@ -1,4 +1,4 @@
--- Single steps of the walk: a leaf, a loop, the first part of a node and each further part, over the columns of some views.
+-- Single steps of the walk: a leaf, a loop, the first part of a node and each further part, over the columns of some shown nodes.
 use mathlib.Core.Path.{_≡_, refl, _∙_, ap}
 use mathlib.Core.Bool.{false}
 use mathlib.Core.List.{List, [], _∷_, _++_, append-assoc}

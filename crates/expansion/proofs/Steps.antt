@@ -84,31 +84,31 @@ module _ (c : Columns) (p : Place) where
     part-join a b = rw (part-node left n h, ← q, ne-eqb k 0 a, ne-eqb k 1 b)
 
 -- Where the loop over the parts has got to: the parts left from here are those left from the start. The lent bytes are as many.
-pub record Gone (c : Columns) (left i most : ℕ) (p₀ : Place) (turn : ℕ) (p : Place) : Type 0 where
+pub record PartsLeft (c : Columns) (left i most : ℕ) (p₀ : Place) (turn : ℕ) (p : Place) : Type 0 where
   pub within : turn ≤ most
   pub long : length (p .codes) ≡ length (p₀ .codes)
   pub same : further (part left c) c i (most - turn) p ≡ further (part left c) c i most p₀
 
 module _ {c : Columns} {left i most : ℕ} where
-  pub gone-begins : {p : Place} → Gone c left i most p 0 p
-  gone-begins = let e : most - 0 ≡ most = omega arith in record { within = omega arith; long = refl; same = rw e }
+  pub parts-left-begin : {p : Place} → PartsLeft c left i most p 0 p
+  parts-left-begin = let e : most - 0 ≡ most = omega arith in record { within = omega arith; long = refl; same = rw e }
 
-  module _ {p₀ p : Place} {turn : ℕ} (g : Gone c left i most p₀ turn p) where
+  module _ {p₀ p : Place} {turn : ℕ} (g : PartsLeft c left i most p₀ turn p) where
     -- All parts are walked over.
-    pub gone-all : most ≡ more c i → most ≤ turn → p ≡ further (part left c) c i (more c i) p₀
+    pub parts-left-none : most ≡ more c i → most ≤ turn → p ≡ further (part left c) c i (more c i) p₀
     unfolding further
-    gone-all m h = let e : most - turn ≡ 0 = omega arith in rw e at (g .same) ∙ ap (λ (n : ℕ). further (part left c) c i n p₀) m
+    parts-left-none m h = let e : most - turn ≡ 0 = omega arith in rw e at (g .same) ∙ ap (λ (n : ℕ). further (part left c) c i n p₀) m
 
     module _ {next a b : ℕ} (h : turn < most) (e : next ≡ again-at c i (p .walk .node)) (qa : a ≡ getD (c .depths) next 0) (qb : b ≡ getD (c .depths) i 0) where
       -- The next node is not deeper.
-      pub gone-up : most ≡ more c i → a ≤ b → p ≡ further (part left c) c i (more c i) p₀
-      gone-up m l =
+      pub parts-left-shallow : most ≡ more c i → a ≤ b → p ≡ further (part left c) c i (more c i) p₀
+      parts-left-shallow m l =
           let u : getD (c .depths) (again-at c i (p .walk .node)) 0 ≤ getD (c .depths) i 0 = rw (← e, ← qa, ← qb) l in
           further-ends c i (part left c) p (most - turn) (omega arith) u ∙ g .same ∙ ap (λ (n : ℕ). further (part left c) c i n p₀) m
 
       -- One part more.
-      pub gone-on : b < a → {u v : Place} {k : ℕ} → u ≡ part left c (at-node next p) → k ≡ getD (c .kinds) i 0 → v ≡ add k u → length (v .codes) ≡ length (p .codes) → Gone c left i most p₀ (turn + 1) v
-      gone-on l {u} {v} {k} qu qk qv n =
+      pub parts-left-next : b < a → {u v : Place} {k : ℕ} → u ≡ part left c (at-node next p) → k ≡ getD (c .kinds) i 0 → v ≡ add k u → length (v .codes) ≡ length (p .codes) → PartsLeft c left i most p₀ (turn + 1) v
+      parts-left-next l {u} {v} {k} qu qk qv n =
           let d : getD (c .depths) i 0 < getD (c .depths) (again-at c i (p .walk .node)) 0 = rw (← e, ← qa, ← qb) l in
           let z : most - turn ≡ suc (most - (turn + 1)) = omega arith in
           record {

@@ -1,4 +1,4 @@
--- The views of a tree: how many there are, and how deep the first is.
+-- The nodes of a tree as they are shown: how many there are, and how deep the first is.
 use mathlib.Core.Path.{_≡_, refl, sym, _∙_, ap}
 use mathlib.Core.Bool.{Bool, false}
 use mathlib.Core.List.{List, _∷_}
@@ -18,7 +18,7 @@ drop-one l n v h = let e : 1 + n ≡ suc n = omega arith in rw e h
 pub drop-both : (l : List ShownNode) (n k : ℕ) {mid rest : List ShownNode} → drop n l ≡ mid → drop k mid ≡ rest → drop (n + k) l ≡ rest
 drop-both l n k h g = sym (drop-drop k n l) ∙ (ap (drop k) h ∙ g)
 
--- After as many views as a tree has nodes stand those that come after it.
+-- After as many shown nodes as a tree has stand those that come after it.
 mutual
   unfolding flow-shown-nodes flow-nodes
 
@@ -51,7 +51,7 @@ mutual
   members-past (also m ms) d vs =
       drop-both _ (member-nodes m) (members-nodes ms) (member-past m false d (members-shown-nodes ms d vs)) (members-past ms d vs)
 
--- A tree's first view has the depth given.
+-- A tree's first shown node has the depth given.
 pub flow-first : (f : Flow) (b : Bool) (d : ℕ) (vs : List ShownNode) → first shown-depth (flow-shown-nodes f b d vs) ≡ d
 unfolding flow-shown-nodes
 flow-first (flow n ps sw c r cs) b d vs = refl

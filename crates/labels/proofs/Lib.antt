@@ -1,9 +1,9 @@
 pub mod MoreValues
 pub mod Columns
 pub mod Steps
-pub mod Deep
-pub mod Weighed
-pub mod Ordered
+pub mod NodeDepths
+pub mod TreeWeights
+pub mod EventOrder
 pub mod SearchByNode
 pub mod SearchByTree
 pub mod SearchByText

@@ -17,9 +17,9 @@ use Rattle.labels.specs.declared.SearchNode.{SearchNode}
 use Rattle.labels.specs.Weights.{weight, with-weight, weigh}
 use Rattle.labels.specs.Seeks.{next, entered, inside, onward, seek}
 use Rattle.labels.proofs.Steps.{turn-other, turn-past, turn-inside, inside-leaf, inside-reset, inside-body, inside-parts, seek-turn}
-use Rattle.labels.proofs.Deep.{Deep, done, deeper, Tree, tree}
+use Rattle.labels.proofs.NodeDepths.{Deep, done, deeper, Tree, tree}
 use Rattle.labels.proofs.MoreValues.{packed-more}
-use Rattle.labels.proofs.Weighed.{token-search-node, first-weight, Joins}
+use Rattle.labels.proofs.TreeWeights.{token-search-node, first-weight, Joins}
 
 -- A search in a node of depth a, for the event after `rest` others, with the values so far.
 abbrev pub search : ℕ → ℕ → List ℕ → Search

@@ -30,7 +30,7 @@ use Rattle.labels.specs.SearchNodes.{search-node}
 use Rattle.labels.specs.declared.SearchNode.{SearchNode}
 use Rattle.labels.specs.Weights.{weigh}
 use Rattle.labels.specs.Seeks.{begin, seek, spot-of}
-use Rattle.labels.proofs.Weighed.{token-search-node}
+use Rattle.labels.proofs.TreeWeights.{token-search-node}
 use Rattle.labels.proofs.SearchByTree.{Labels, Known, nothing, flow-found}
 
 -- A leaf or flow has a name.

@@ -28,9 +28,9 @@ use Rattle.labels.specs.declared.Spot.{Spot}
 use Rattle.labels.specs.Values.{packed}
 use Rattle.labels.specs.Weights.{weight, weigh}
 use Rattle.labels.specs.Seeks.{next as after}
-use Rattle.labels.proofs.Deep.{Deep, done, deeper, tree-deep, first-depth, tree-first, child-tree, member-tree, children-first, members-first}
-use Rattle.labels.proofs.Weighed.{first-weight, token-search-node, copies-more, flow-joins, group-joins, replicator-joins, flow-weighed, child-weighed, member-weighed}
-use Rattle.labels.proofs.Ordered.{flow-count, child-count, member-count, join-first, join-second, join-count, children-begin, members-begin, copies-at}
+use Rattle.labels.proofs.NodeDepths.{Deep, done, deeper, tree-deep, first-depth, tree-first, child-tree, member-tree, children-first, members-first}
+use Rattle.labels.proofs.TreeWeights.{first-weight, token-search-node, copies-more, flow-joins, group-joins, replicator-joins, flow-weighed, child-weighed, member-weighed}
+use Rattle.labels.proofs.EventOrder.{flow-count, child-count, member-count, join-first, join-second, join-count, children-begin, members-begin, copies-at}
 use Rattle.labels.proofs.SearchByNode.{search, sought, seek-past, seek-leaf, seek-reset, seek-body, seek-parts, seek-copy}
 
 -- No event.

@@ -1,7 +1,7 @@
 -- `events::drawn` meets its contract: the first line, and then the lines of all events. Assumes nothing.
 use Rattle.output.proofs.Buffers.{before}
 use Rattle.events.specs.Listing.{first-line}
-use Rattle.events.specs.Spots.{spot-listing}
+use Rattle.events.specs.code.Spots.{spot-listing}
 use borrow.Author.Needs.{needs}
 use Rattle.events.proofs.drawn.Statement.{statement}
 use Rattle.events.proofs.drawn.Tie as tie

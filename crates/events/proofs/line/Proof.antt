@@ -1,5 +1,5 @@
 -- `events::line` meets its contract: its parts stand one after the other. Assumes nothing.
-use Rattle.events.specs.Spots.{spot-line}
+use Rattle.events.specs.code.Spots.{spot-line}
 use Rattle.output.proofs.Buffers.{before, same-put}
 use borrow.Author.Needs.{needs}
 use Rattle.events.proofs.line.Statement.{statement}

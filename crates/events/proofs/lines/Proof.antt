@@ -5,8 +5,8 @@ use Prim.Native.Nat.{_-_, _≤_}
 use lib.ListN.{length, length-map}
 use Rattle.output.specs.Buffer.{buffer, put-all}
 use Rattle.labels.proofs.Columns.{columns-found}
-use Rattle.events.specs.Spots.{spot-lines}
-use Rattle.events.proofs.Written.{lines-more, lines-done}
+use Rattle.events.specs.code.Spots.{spot-lines}
+use Rattle.events.proofs.LinesWritten.{lines-more, lines-done}
 use borrow.Author.Needs.{needs}
 use native.Mathlib.Omega.{arith}
 use Rattle.events.proofs.lines.Statement.{statement}

@@ -8,8 +8,8 @@ returns : tie.Need-returns
 returns c =
     let a = c .before .before .before .before .before .before .args in
     let r = c .before .before .before .before .read in
-    let told = c .before .before .enum-told2 .given in
-    listed-refused (a .text .now) (a .out .now) _ (r .result) (told .0 .0) (told .0 .1 .0) (c .write-refusal .result) (r .ensures) (told .1) (c .before .write-refusal-arg .given .0 .1) (c .write-refusal .ensures)
+    let refusal = c .before .before .enum-told2 .given in
+    listed-refused (a .text .now) (a .out .now) _ (r .result) (refusal .0 .0) (refusal .0 .1 .0) (c .write-refusal .result) (r .ensures) (refusal .1) (c .before .write-refusal-arg .given .0 .1) (c .write-refusal .ensures)
 
 returns-2 : tie.Need-returns-2
 returns-2 c =

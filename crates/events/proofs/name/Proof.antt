@@ -10,8 +10,8 @@ returns : tie.Need-returns
 returns c =
     let a = c .before .before .before .before .before .args in
     let r = c .before .before .before .read in
-    let told = c .before .enum-told2 .given in
-    named-refused (a .text) _ (r .result) (a .event) (told .0 .0) (told .0 .1 .0) (r .ensures) (told .1) (record { its-block = refl; its-offset = omega arith; its-bytes = refl }) refl
+    let refusal = c .before .enum-told2 .given in
+    named-refused (a .text) _ (r .result) (a .event) (refusal .0 .0) (refusal .0 .1 .0) (r .ensures) (refusal .1) (record { its-block = refl; its-offset = omega arith; its-bytes = refl }) refl
 
 returns-2 : tie.Need-returns-2
 returns-2 c =

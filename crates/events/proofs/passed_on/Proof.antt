@@ -1,6 +1,6 @@
 -- `events::passed_on` meets its contract, answer by answer. Assumes nothing.
 use mathlib.Core.Path.{ap, sym}
-use Rattle.events.specs.Spots.{passed-on}
+use Rattle.events.specs.code.Spots.{passed-on}
 use borrow.Author.Needs.{needs}
 use Rattle.events.proofs.passed_on.Statement.{statement}
 use Rattle.events.proofs.passed_on.Tie as tie

@@ -1,5 +1,5 @@
 -- `events::spaced` meets its contract: the values stand one after the other. Assumes nothing.
-use Rattle.events.specs.Spots.{spaced-values}
+use Rattle.events.specs.code.Spots.{spaced-values}
 use Rattle.output.proofs.Buffers.{before}
 use borrow.Author.Needs.{needs}
 use Rattle.events.proofs.spaced.Statement.{statement}

@@ -8,8 +8,8 @@ returns : tie.Need-returns
 returns c =
     let a = c .before .before .before .before .before .args in
     let r = c .before .before .before .read in
-    let told = c .before .enum-told2 .given in
-    valued-refused (a .text .now) (r .result) (a .event) (told .0 .0) (told .0 .1 .0) (c .passed-on .result) (r .ensures) (told .1) (c .passed-on .ensures)
+    let refusal = c .before .enum-told2 .given in
+    valued-refused (a .text .now) (r .result) (a .event) (refusal .0 .0) (refusal .0 .1 .0) (c .passed-on .result) (r .ensures) (refusal .1) (c .passed-on .ensures)
 
 returns-2 : tie.Need-returns-2
 returns-2 c =

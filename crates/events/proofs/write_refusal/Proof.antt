@@ -1,7 +1,7 @@
 -- `events::write_refusal` meets its contract, answer by answer. Assumes nothing.
 use mathlib.Core.Path.{sym, ap}
 use Rattle.output.proofs.Buffers.{same-put, none-put}
-use Rattle.events.specs.Spots.{refusal-line}
+use Rattle.events.specs.code.Spots.{refusal-line}
 use borrow.Author.Needs.{needs}
 use Rattle.events.proofs.write_refusal.Statement.{statement}
 use Rattle.events.proofs.write_refusal.Tie as tie

@@ -3,7 +3,7 @@
 use mathlib.Core.Path.{_≡_, refl, ap, _∙_}
 use mathlib.Core.Logic.{⊎-elim}
 use Rattle.expansion.specs.Walks.{columns, Place, add, more, again-at, further as further-of, part as part-of}
-use Rattle.expansion.proofs.Steps.{Gone, gone-begins, gone-all, gone-up, gone-on, again-any, again-copy, looped-leaf, looped-flow, looped-past, part-none, part-past, part-leaf, part-loop, part-join}
+use Rattle.expansion.proofs.Steps.{PartsLeft, parts-left-begin, parts-left-none, parts-left-shallow, parts-left-next, again-any, again-copy, looped-leaf, looped-flow, looped-past, part-none, part-past, part-leaf, part-loop, part-join}
 use borrow.Author.Needs.{needs}
 use native.Mathlib.Omega.{arith}
 use Prim.Native.Nat.{ℕ, _+_, _-_, _<_}
@@ -63,7 +63,7 @@ part-claims t = (byte-reads.Asked, byte-reads.Learnt, add-reads.Asked, add-reads
 
 abbrev further-Inv-loop : further-lts.InvT-loop
 further-Inv-loop kinds sizes depths count left i codes₀ most size t₀ turn₀ codes t turn =
-    Gone (columns kinds sizes depths count) left i most (record { walk = t₀; codes = codes₀ }) turn (record { walk = t; codes = codes })
+    PartsLeft (columns kinds sizes depths count) left i most (record { walk = t₀; codes = codes₀ }) turn (record { walk = t; codes = codes })
 
 abbrev further-μ-loop : further-lts.MeasureT-loop
 further-μ-loop kinds sizes depths count left i codes₀ most size t₀ turn₀ codes t turn = most - turn
@@ -85,7 +85,7 @@ module _ (t : ℕ) where
       let j = c .before .before .before in
       let e = j .before .before .before in
       let a = e .before .before .before .before .before .before .args in
-      gone-up (j .before .before .loop .inv) (j .before .loop-test .taken) (further-next j) (c .before .before .number .ensures) (c .before .number2 .ensures)
+      parts-left-shallow (j .before .before .loop .inv) (j .before .loop-test .taken) (further-next j) (c .before .before .number .ensures) (c .before .number2 .ensures)
       (e .before .more .ensures (columns (a .kinds .now) (a .sizes .now) (a .depths .now) (a .count)) refl) (omega (arith, c .if2 .taken))
 
   further-part-requires : further-lts.Need-part-requires (further-claims t) (further-at t) further.Post further-Inv-loop further-μ-loop
@@ -96,13 +96,13 @@ module _ (t : ℕ) where
       let u = c .before .before .before .before .before .before .before in
       let i2 = u .before .before in
       let j = i2 .before .before .before in
-      gone-on (j .before .before .loop .inv) (j .before .loop-test .taken) (further-next j) (i2 .before .before .number .ensures) (i2 .before .number2 .ensures)
+      parts-left-next (j .before .before .loop .inv) (j .before .loop-test .taken) (further-next j) (i2 .before .before .number .ensures) (i2 .before .number2 .ensures)
       (omega (arith, i2 .if2 .left)) (u .part .ensures) (c .before .before .before .byte2 .ensures) (c .before .before .add .ensures) (c .before .before .add .kept .0 ∙ u .part .kept .1 .1 .1 .1 .1 .1 .0)
 
   further-returns-2 : further-lts.Need-returns-2 (further-claims t) (further-at t) further.Post further-Inv-loop further-μ-loop
   further-returns-2 c =
       let a = c .before .before .before .before .before .before .before .before .args in
-      gone-all (c .before .loop .inv) (c .before .before .before .more .ensures (columns (a .kinds .now) (a .sizes .now) (a .depths .now) (a .count)) refl) (c .loop-test .left)
+      parts-left-none (c .before .loop .inv) (c .before .before .before .more .ensures (columns (a .kinds .now) (a .sizes .now) (a .depths .now) (a .count)) refl) (c .loop-test .left)
 
 module _ (t : ℕ) where
   looped-returns : looped-lts.Need-returns (looped-claims t) (looped-at t) looped.Post
@@ -162,7 +162,7 @@ pub +further+looped+part-spec : {M : Type 1} → statement M
 +further+looped+part-spec =
     close μ-further μ-looped μ-part
     (λ t. further-lts.spec (further-claims t) (further-at t) further.Post further-Inv-loop further-μ-loop (λ c κs. tt) (λ c κs. tt)
-    (λ c. gone-begins) (λ c. search needs) (λ c κs. tt) (λ c κs. tt) (λ c. search needs) (further-returns t) (further-part-requires t)
+    (λ c. parts-left-begin) (λ c. search needs) (λ c κs. tt) (λ c κs. tt) (λ c. search needs) (further-returns t) (further-part-requires t)
     (λ c κs. tt) (λ c κs. tt) (λ c. search needs) (λ c. search needs) (further-loop-again t) (λ c. search needs) (further-returns-2 t))
     (λ t. looped-lts.spec (looped-claims t) (looped-at t) looped.Post (λ c κs. tt) (λ c. search needs) (λ c κs. tt) (λ c. search needs)
     (looped-returns t) (looped-part-requires t) (λ c κs. tt) (λ c. search needs) (looped-returns-2 t))

@@ -21,7 +21,7 @@ use Rattle.labels.specs.SearchNodes.{search-node}
 use Rattle.labels.specs.declared.SearchNode.{SearchNode}
 use Rattle.labels.specs.Weights.{sum-mod, product-mod, parts, resets, weight, weigh}
 use Rattle.labels.specs.Seeks.{next as after}
-use Rattle.labels.proofs.Deep.{Deep, done, deeper, Tree, tree, first-depth, tree-first, child-tree, member-tree, children-first, members-first}
+use Rattle.labels.proofs.NodeDepths.{Deep, done, deeper, Tree, tree, first-depth, tree-first, child-tree, member-tree, children-first, members-first}
 
 -- Small sums and products are themselves.
 sum-small : (m n : ℕ) → m + n < 1024 → sum-mod m n ≡ m + n

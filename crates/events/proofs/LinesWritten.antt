@@ -9,7 +9,7 @@ use Rattle.output.specs.Buffer.{Buffer, put-all}
 use Rattle.output.proofs.Buffers.{put-all-append}
 use Rattle.labels.specs.declared.Spot.{Spot}
 use Rattle.labels.specs.Seeks.{spot-of}
-use Rattle.events.specs.Spots.{spot-line, spot-lines}
+use Rattle.events.specs.code.Spots.{spot-line, spot-lines}
 
 -- The lines of the events from e on, of n.
 pub lines-more : (text : List ℕ) (d : Diagram) (e n : ℕ) (x : Spot) (s t : Buffer) → e < n → t ≡ put-all (spot-line text e x) s → x ≡ spot-of d e
