@@ -4,8 +4,8 @@ use mathlib.Core.List.{List}
 use Prim.Native.Nat.{ℕ, zero, suc, _+_, _*_, _/_, _%_, _^_, _≤_}
 use native.Mathlib.Nat.{zero-add, add-zero, mul-assoc, pow-suc}
 use native.Mathlib.Omega.{arith}
-use lib.ListN.{length, getD, set, List·getD-eq-default}
-use lib.Seq.{set-out}
+use lib.ListN.{length, take, drop, getD, set, List·getD-eq-default}
+use lib.Seq.{set-out, getD-take, getD-drop}
 use Rattle.base.specs.Packed.{field, put-word}
 
 pub field-one : (t : List ℕ) (at a : ℕ) → a ≡ getD t at 0 → a ≡ field 1 t at
@@ -32,6 +32,13 @@ eight s at high low h l = rw (h, l) (field-joined s 4 4 at)
 -- Two halves make a word.
 pub four : (s : List ℕ) (at high low : ℕ) → high ≡ field 2 s at → low ≡ field 2 s (at + 2) → high * 65536 + low ≡ field 4 s at
 four s at high low h l = rw (h, l) (field-joined s 2 2 at)
+
+-- A number read from a part of the bytes that holds all of it.
+pub field-part : (n k : ℕ) (s : List ℕ) (at : ℕ) → n ≤ k → field n (take k (drop at s)) 0 ≡ field n s at
+unfolding field
+field-part zero k s at h = refl
+field-part (suc n) k s at h =
+    rw (field-part n k s at (omega arith), zero-add n, getD-take k (drop at s) n 0 (omega arith), getD-drop at s n 0)
 
 -- Four bytes stored one after the other.
 pub word-put : (i w : ℕ) (o p q r s : List ℕ)

@@ -73,7 +73,7 @@ pub fn put_number(column: &mut [usize], i: usize, v: usize)
     column[i] = v;
 }
 
-// The 16 and the 32 bits at i, most significant byte first; past the end there are only zeros.
+// The 16, the 32 and the 64 bits at i, most significant byte first; past the end there are only zeros.
 pub fn half(bytes: &[u8], i: usize) -> usize
     ensures { λ r. ⌜ (r ≡ field 2 (now (bytes .entry)) i) × (r < 65536) ⌝ }
 {
@@ -90,6 +90,15 @@ pub fn word(bytes: &[u8], i: usize) -> usize
         return 0;
     }
     half(bytes, i) * 65536 + half(bytes, i + 2)
+}
+
+pub fn long(bytes: &[u8], i: usize) -> u64
+    ensures { λ r. ⌜ r ≡ field 8 (now (bytes .entry)) i ⌝ }
+{
+    if bytes.len() <= i {
+        return 0;
+    }
+    word(bytes, i) as u64 * 4294967296 + word(bytes, i + 4) as u64
 }
 
 // 32 bits stored at i, as far as the bytes go.

@@ -1,10 +1,8 @@
 ghost use mathlib.Core.Path.{_≡_};
 ghost use Prim.Native.Nat.{_+_, _-_, _<_, _%_, _^_};
-ghost use lib.ListN.{getD};
 ghost use Rattle.base.specs.Fill.{fill};
 ghost use Rattle.record.specs.Bits.{bit-at, set-bit, clear-bit, clear-bits, set-past};
 ghost use Rattle.record.specs.Bytes.{words-of, bytes-of};
-ghost use Rattle.base.specs.Packed.{field};
 ghost use Rattle.record.specs.Blank.{blank-record};
 
 // The run record: a control bit for each event, bit 0 the top bit of the first word. Laid out as in C, so that a caller outside can lend one.
@@ -109,49 +107,18 @@ pub fn set_past(bits: &[u64; 8], first: usize) -> bool
     !none
 }
 
-fn wide(x: u8) -> u64
-    ensures { λ r. ⌜ (r ≡ x) × (r < 256) ⌝ }
-{
-    x as u64
-}
-
-fn byte(bytes: &[u8], i: usize) -> u64
-    ensures { λ r. ⌜ (r ≡ getD (now (bytes .entry)) i 0) × (r < 256) ⌝ }
-{
-    if bytes.len() <= i {
-        return 0;
-    }
-    wide(bytes[i])
-}
-
-// The number that four bytes make, and eight.
-fn quad(bytes: &[u8], at: usize) -> u64
-    requires { ⌜ at < 64 ⌝ }
-    ensures { λ r. ⌜ (r ≡ field 4 (now (bytes .entry)) at) × (r < 2 ^ 32) ⌝ }
-{
-    ((byte(bytes, at) * 256 + byte(bytes, at + 1)) * 256 + byte(bytes, at + 2)) * 256
-        + byte(bytes, at + 3)
-}
-
-fn long(bytes: &[u8], at: usize) -> u64
-    requires { ⌜ at < 57 ⌝ }
-    ensures { λ r. ⌜ r ≡ field 8 (now (bytes .entry)) at ⌝ }
-{
-    quad(bytes, at) * 4294967296 + quad(bytes, at + 4)
-}
-
 // The words of a record's bytes; bytes that are not there count as zero.
 pub fn load(bytes: &[u8]) -> [u64; 8]
     ensures { λ r. ⌜ r ≡ words-of (now (bytes .entry)) ⌝ }
 {
-    let a = long(bytes, 0);
-    let b = long(bytes, 8);
-    let c = long(bytes, 16);
-    let d = long(bytes, 24);
-    let e = long(bytes, 32);
-    let f = long(bytes, 40);
-    let g = long(bytes, 48);
-    let h = long(bytes, 56);
+    let a = base::long(bytes, 0);
+    let b = base::long(bytes, 8);
+    let c = base::long(bytes, 16);
+    let d = base::long(bytes, 24);
+    let e = base::long(bytes, 32);
+    let f = base::long(bytes, 40);
+    let g = base::long(bytes, 48);
+    let h = base::long(bytes, 56);
     [a, b, c, d, e, f, g, h]
 }
 

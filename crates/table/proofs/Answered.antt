@@ -2,7 +2,7 @@
 use mathlib.Core.Path.{_≡_, sym, ap, _∙_}
 use mathlib.Core.Bool.{Bool, true, false, _&&_, true≢false}
 use mathlib.Core.List.{List}
-use Prim.Native.Nat.{ℕ, _+_, _-_, _*_, _≤_, _<_}
+use Prim.Native.Nat.{ℕ, _+_, _-_, _≤_, _<_}
 use native.Mathlib.Numerals.{add-one}
 use native.Mathlib.Omega.{arith}
 use lib.ListN.{length, getD, take}
@@ -78,17 +78,8 @@ module _ (t bits : List ℕ) (vs : List Bool) (n m : ℕ) (a b : Bool) (Z : size
 
 -- After the first look a table is sound, and the list has what every row says.
 module _ (t bits : List ℕ) (d : admit-of t bits ≡ Done) where
-  pub long-table : 3 < length t
-  long-table = let s = sound-shaped t (done-sound t bits d) in omega (arith, s .size, s .n-least)
-
   pub last-below-most : (m : ℕ) → m ≡ rows t → (1 ≤ m) × (m - 1 < 12288)
   last-below-most m q = let s = sound-shaped t (done-sound t bits d) in (omega (arith, s .m-least), omega (arith, s .m-most))
-
-  pub few-events : events t ≤ 512
-  few-events = sound-shaped t (done-sound t bits d) .n-most
-
-  pub in-table : (e : ℕ) → e < events t → 4 + 4 * e + 3 < length t
-  in-table e h = let s = sound-shaped t (done-sound t bits d) in omega (arith, s .size)
 
   pub gather-ready : (n m : ℕ) → n ≡ events t → m ≡ rows t → Shaped t n m × (events-sound t n ≡ true)
   gather-ready n m N M =

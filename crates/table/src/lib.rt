@@ -45,26 +45,13 @@ const KIND: usize = 1073741824;
 
 const SIDE: usize = 32768;
 
-fn wide(x: u8) -> usize
-    ensures { λ r. ⌜ (r ≡ x) × (r < 256) ⌝ }
+// The 32 bits at `at`, all of them there: read from a part of four bytes, so that the compiled code looks for no end.
+fn word(t: &[u8], at: usize) -> usize
+    requires { ⌜ at + 4 ≤ length (now t) ⌝ }
+    ensures { λ r. ⌜ (r ≡ field 4 (now (t .entry)) at) × (r < 2 ^ 32) ⌝ }
 {
-    x as usize
-}
-
-// The 16 bits at i.
-fn half(t: &[u8], i: usize) -> usize
-    requires { ⌜ i + 1 < length (now t) ⌝ }
-    ensures { λ r. ⌜ (r ≡ field 2 (now (t .entry)) i) × (r < 65536) ⌝ }
-{
-    wide(t[i]) * 256 + wide(t[i + 1])
-}
-
-// The 32 bits at i.
-fn word(t: &[u8], i: usize) -> usize
-    requires { ⌜ i + 3 < length (now t) ⌝ }
-    ensures { λ r. ⌜ (r ≡ field 4 (now (t .entry)) i) × (r < 2 ^ 32) ⌝ }
-{
-    ((wide(t[i]) * 256 + wide(t[i + 1])) * 256 + wide(t[i + 2])) * 256 + wide(t[i + 3])
+    let end = at + 4;
+    base::word(&t[at..end], 0)
 }
 
 // Whether the length fits the numbers of events and of rows, and these the limits.
@@ -74,8 +61,8 @@ fn measure(t: &[u8]) -> Size
     if t.len() < 4 {
         return Size::Wrong;
     }
-    let n = half(t, 0);
-    let m = half(t, 2);
+    let n = base::half(t, 0);
+    let m = base::half(t, 2);
     let most = (n <= 512) & ((1 <= m) & ((m <= 12288) & (t.len() == 4 + 4 * n + 4 * m)));
     if (1 <= n) & most {
         return Size::Of(n, m);
@@ -232,13 +219,13 @@ pub fn step(table: &[u8], before: Record, event: u64) -> Stepped
         };
     };
     let e = event as usize;
-    if half(table, 0) <= e {
+    if base::half(table, 0) <= e {
         return Stepped {
             answer: Answer::Refused(14, 0),
             after: before,
         };
     }
-    let w = word(table, 4 + 4 * e);
+    let w = base::word(table, 4 + 4 * e);
     let guard = w / GUARD;
     if values[guard] {
         let set = record::set(bits, e);
@@ -274,7 +261,7 @@ pub fn finished(table: &[u8], before: Record) -> Finish
     let Answer::Done = answer else {
         return as_finish(answer);
     };
-    let last = half(table, 2) - 1;
+    let last = base::half(table, 2) - 1;
     if values[last] {
         return Finish::Yes;
     }
@@ -314,8 +301,8 @@ pub fn offer(table: &[u8], before: Record, out: &mut [u8]) -> Answer
     let Answer::Done = answer else {
         return answer;
     };
-    let n = half(table, 0);
-    let m = half(table, 2);
+    let n = base::half(table, 0);
+    let m = base::half(table, 2);
     let o = gather(table, n, m, &values);
     record::store(out, o);
     answer

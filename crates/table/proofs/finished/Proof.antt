@@ -4,7 +4,7 @@ use native.Mathlib.Omega.{arith}
 use borrow.Author.Needs.{needs}
 use Rattle.table.specs.Steps.{admit-of}
 use Rattle.table.specs.declared.Answer.the-variants.{Done}
-use Rattle.table.proofs.Answered.{long-table, last-below-most, values-ended, finished-passed, finished-yes, finished-no}
+use Rattle.table.proofs.Answered.{last-below-most, values-ended, finished-passed, finished-yes, finished-no}
 use Rattle.table.proofs.finished.Statement.{statement}
 use Rattle.table.proofs.finished.Tie as tie
 
@@ -19,9 +19,6 @@ returns c =
 admitted : (c : tie.After-enum-told)
     → admit-of (c .before .before .before .before .before .before .before .args .table .now) (c .before .before .before .before .before .before .before .args .before .bits) ≡ Done
 admitted c = sym (c .before .before .admit .ensures .0) ∙ c .enum-told .given .1
-
-half-requires : tie.Need-half-requires
-half-requires c κs = long-table _ _ (admitted c)
 
 sub-last : tie.Need-sub-last
 sub-last c = last-below-most _ _ (admitted (c .before)) _ (c .half .ensures .0) .0
@@ -46,5 +43,5 @@ returns-3 c =
 pub finished-spec : {M : Type 1} → statement M
 finished-spec =
     tie.close
-    (tie.spec admit-requires (λ c. search needs) (λ c. search needs) (λ c κs. search needs) returns half-requires sub-last array-read-if1
+    (tie.spec admit-requires (λ c. search needs) (λ c. search needs) (λ c κs. search needs) returns (λ c κs. search needs) sub-last array-read-if1
     returns-2 returns-3)

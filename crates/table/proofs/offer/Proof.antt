@@ -6,7 +6,7 @@ use borrow.Author.Needs.{needs}
 use Rattle.base.proofs.Filled.{fill-length}
 use Rattle.table.specs.Steps.{admit-of}
 use Rattle.table.specs.declared.Answer.the-variants.{Done}
-use Rattle.table.proofs.Answered.{long-table, gather-ready, offer-1, offer-passed, offer-done}
+use Rattle.table.proofs.Answered.{gather-ready, offer-1, offer-passed, offer-done}
 use Rattle.table.proofs.offer.Statement.{statement}
 use Rattle.table.proofs.offer.Tie as tie
 
@@ -27,12 +27,6 @@ admitted : (c : tie.After-enum-told)
     (c .before .before .before .before .before .before .before .before .before .args .before .bits) ≡ Done
 admitted c = sym (c .before .before .admit .ensures .0) ∙ c .enum-told .given .1
 
-half-requires : tie.Need-half-requires
-half-requires c κs = let l = long-table _ _ (admitted c) in omega (arith, l)
-
-half-requires-2 : tie.Need-half-requires-2
-half-requires-2 c κs = long-table _ _ (admitted (c .before))
-
 gather-requires : tie.Need-gather-requires
 gather-requires c κs =
     gather-ready _ _ (admitted (c .before .before .before)) _ _ (c .before .before .half .ensures .0) (c .before .half2 .ensures .0)
@@ -52,5 +46,5 @@ returns-3 c =
 pub offer-spec : {M : Type 1} → statement M
 offer-spec =
     tie.close
-    (tie.spec returns admit-requires (λ c. search needs) (λ c. search needs) returns-2 half-requires half-requires-2 gather-requires
+    (tie.spec returns admit-requires (λ c. search needs) (λ c. search needs) returns-2 (λ c κs. search needs) (λ c κs. search needs) gather-requires
     (λ c κs. search needs) same-length returns-3)

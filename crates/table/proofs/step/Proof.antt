@@ -1,12 +1,11 @@
 -- `table::step` meets its contract: what the first look refuses is passed on; then 14, 15, or the event's bit set and its run cleared.
 use mathlib.Core.Path.{_≡_, refl, sym, _∙_}
 use Prim.Native.Nat.{_<_}
-use native.Mathlib.Omega.{arith}
 use borrow.Author.Needs.{needs}
 use Rattle.table.specs.Fields.{events}
 use Rattle.table.specs.Steps.{admit-of}
 use Rattle.table.specs.declared.Answer.the-variants.{Done}
-use Rattle.table.proofs.Answered.{long-table, few-events, in-table, guard-below-most, values-allow, step-passed, step-14, step-15, step-done}
+use Rattle.table.proofs.Answered.{guard-below-most, values-allow, step-passed, step-14, step-15, step-done}
 use Rattle.table.proofs.step.Statement.{statement}
 use Rattle.table.proofs.step.Tie as tie
 
@@ -27,21 +26,9 @@ below : (c : tie.Else1)
     < events (c .before .before .before .before .before .before .before .before .before .args .table .now)
 below c = rw (← (c .before .half .ensures .0)) (c .if1 .left)
 
-half-requires : tie.Need-half-requires
-half-requires c κs = let l = long-table _ _ (admitted c) in omega (arith, l)
-
 returns-2 : tie.Need-returns-2
 returns-2 c =
     step-14 _ _ _ (admitted (c .before .before)) (rw (← (c .before .half .ensures .0)) (c .if1 .taken))
-
-mul-word : tie.Need-mul-word
-mul-word c = omega (arith, below c, few-events _ _ (admitted (c .before .before)))
-
-add-word : tie.Need-add-word
-add-word c = omega (arith, below c, few-events _ _ (admitted (c .before .before)))
-
-word-requires : tie.Need-word-requires
-word-requires c κs = in-table _ _ (admitted (c .before .before)) _ (below c)
 
 array-read-if2 : tie.Need-array-read-if2
 array-read-if2 c = guard-below-most _ _ (admitted (c .before .before .before)) _ _ (below (c .before)) (c .word .ensures .0)
@@ -66,5 +53,5 @@ returns-4 c =
 pub step-spec : {M : Type 1} → statement M
 step-spec =
     tie.close
-    (tie.spec admit-requires (λ c. search needs) (λ c. search needs) returns half-requires returns-2 mul-word add-word word-requires
+    (tie.spec admit-requires (λ c. search needs) (λ c. search needs) returns (λ c κs. search needs) returns-2 (λ c. search needs) (λ c. search needs) (λ c κs. search needs)
     array-read-if2 (λ c κs. search needs) (λ c κs. search needs) returns-3 returns-4)
