@@ -8,9 +8,9 @@ use Rattle.process.specs.Process.{Process}
 use Rattle.process.specs.Bits.{clears}
 use Rattle.process.specs.Guards.{complete, enabled}
 use Rattle.record.specs.Bits.{bit-at}
-use Rattle.table.specs.Fields.{events, event-word, first-of, count-of}
-use Rattle.table.specs.Sound.{sound}
-use Rattle.table.specs.Values.{values-of, allows, ended}
+use Rattle.layout.specs.Fields.{events, event-word, first-of, count-of}
+use Rattle.layout.specs.Sound.{sound}
+use Rattle.layout.specs.Values.{values-of, allows, ended}
 
 pub record Agrees (p : Process) (n : ℕ) (t : List ℕ) : Type 0 where
   pub its-sound : sound t ≡ true

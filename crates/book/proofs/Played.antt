@@ -23,8 +23,8 @@ use Rattle.record.specs.Bits.{bit-at}
 use Rattle.record.specs.Blank.{blank-record}
 use Rattle.record.proofs.RoundTrip.{same-bits}
 use Rattle.record.proofs.PastEvents.{clear-each}
-use Rattle.table.specs.Fields.{events}
-use Rattle.table.specs.Values.{values-of, allows, ended}
+use Rattle.layout.specs.Fields.{events}
+use Rattle.layout.specs.Values.{values-of, allows, ended}
 use Rattle.table.specs.Steps.{step-of, finished-of}
 use Rattle.table.specs.Bounds.{Ready, NotReady, unsound, bit-past, Step-answer, event-taken, step-not-ready, past-events, guard-says-no, Finish-answer, run-finished, run-open, finished-not-ready}
 use Rattle.table.specs.declared.Answer.the-variants.{Done}

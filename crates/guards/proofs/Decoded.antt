@@ -4,7 +4,7 @@ use mathlib.Core.Bool.{Bool, not, _&&_, _||_}
 use Prim.Native.Nat.{ℕ, _+_, _*_, _<_, _^_}
 use native.Mathlib.Omega.{arith}
 use Rattle.process.specs.Bits.{Bits}
-use Rattle.table.specs.Fields.{guard-of, first-of, count-of, kind-of, left-of, right-of, bit-row, not-row, both-row, either-row, event-record}
+use Rattle.layout.specs.Fields.{guard-of, first-of, count-of, kind-of, left-of, right-of, bit-row, not-row, both-row, either-row, event-record}
 use Rattle.guards.proofs.Says.{says}
 
 pub record Fields (w kind left right : ℕ) : Type 0 where

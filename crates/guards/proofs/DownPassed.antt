@@ -10,7 +10,7 @@ use Rattle.postfix.specs.Postfix.{postfix, joint-code}
 use Rattle.process.proofs.Numbered.{size, Numbered}
 use Rattle.guards.specs.Words.{put-rows}
 use Rattle.base.specs.Packed.{put-word}
-use Rattle.table.specs.Fields.{both-row, event-record}
+use Rattle.layout.specs.Fields.{both-row, event-record}
 use Rattle.guards.specs.Pieces.{Piece}
 use Rattle.guards.specs.Passes.{Down, down-words, down-with, down-step, downs}
 use Rattle.guards.specs.Plan.{Plan, joined, up, Guards, guards, join-guards, later-may, earlier-may, down}

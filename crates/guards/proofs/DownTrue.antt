@@ -15,7 +15,7 @@ use Rattle.process.specs.Bits.{Bits}
 use Rattle.process.specs.Guards.{begun, complete, enabled}
 use Rattle.postfix.specs.Postfix.{joint-code}
 use Rattle.process.proofs.Numbered.{Numbered, size, interval}
-use Rattle.table.specs.Fields.{guard-of, both-row, event-record}
+use Rattle.layout.specs.Fields.{guard-of, both-row, event-record}
 use Rattle.guards.specs.Pieces.{rounds-piece, join-piece}
 use Rattle.guards.specs.Plan.{Plan, Guards, joined, up, later-may, earlier-may, joint-words, down}
 use Rattle.guards.specs.declared.Mark.{Mark}

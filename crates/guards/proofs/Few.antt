@@ -15,7 +15,7 @@ use Rattle.diagram.specs.Sizes.{flow-sized, children-sized, child-sized, member
 use Rattle.process.specs.Process.{Joint, seq, and, or, xor, Process, event, join, again, rounds}
 use Rattle.process.specs.Expand.{joint, copies, expand, flow-process, children-process, child-process, loop-process, member-process, members-process}
 use Rattle.postfix.specs.Postfix.{joint-code}
-use Rattle.table.specs.Fields.{both-row}
+use Rattle.layout.specs.Fields.{both-row}
 use Rattle.guards.specs.Pieces.{settling, rounds-piece}
 use Rattle.guards.specs.Passes.{down-words}
 use Rattle.guards.specs.Plan.{Plan, joined, joint-words, later-may, earlier-may, up, down, middle, rows-of}

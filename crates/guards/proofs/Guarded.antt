@@ -13,7 +13,7 @@ use Rattle.process.specs.Bits.{Bits, clears}
 use Rattle.process.specs.Guards.{complete, enabled}
 use Rattle.process.proofs.Numbered.{size, Numbered, interval}
 use Rattle.process.proofs.Cleared.{size-positive}
-use Rattle.table.specs.Fields.{rows, guard-of, both-row}
+use Rattle.layout.specs.Fields.{rows, guard-of, both-row}
 use Rattle.agreement.specs.Agrees.{Agrees}
 use Rattle.guards.specs.Lays.{constants}
 use Rattle.guards.specs.Plan.{up, down, middle, rows-of, records-of, planned}

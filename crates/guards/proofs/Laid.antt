@@ -9,7 +9,7 @@ use lib.ListN.{length}
 use Rattle.base.proofs.Truth.{by-cases, and-l, and-r}
 use Rattle.guards.specs.Words.{put-rows}
 use Rattle.base.specs.Packed.{put-word}
-use Rattle.table.specs.Fields.{not-row, either-row}
+use Rattle.layout.specs.Fields.{not-row, either-row}
 use Rattle.guards.specs.Passes.{Up, ups}
 use Rattle.guards.specs.Lays.{constants, base-of, first-pass, second-pass, last-row, room, laid-size, laid-out}
 use Rattle.guards.proofs.Stepped.{up-at}

@@ -15,7 +15,7 @@ use Rattle.postfix.proofs.Short.{postfix-short}
 use Rattle.process.proofs.Numbered.{size, Numbered}
 use Rattle.guards.specs.Words.{put-rows}
 use Rattle.base.specs.Packed.{put-word}
-use Rattle.table.specs.Fields.{both-row}
+use Rattle.layout.specs.Fields.{both-row}
 use Rattle.guards.specs.Passes.{Up, Down}
 use Rattle.guards.specs.Lays.{constants, base-of, up-start, down-start, first-pass, second-pass, finish, room, laid-size, laid-out}
 use Rattle.guards.specs.Plan.{up, down, middle, rows-of, records-of, planned}

@@ -15,8 +15,8 @@ use Rattle.process.specs.Bits.{clears}
 use Rattle.process.proofs.Numbered.{size, Numbered, interval, apart, reset-out}
 use Rattle.process.proofs.Cleared.{size-positive}
 use Rattle.process.proofs.Local.{closed}
-use Rattle.table.specs.Fields.{guard-of, first-of, count-of, event-record}
-use Rattle.table.specs.Sound.{Run}
+use Rattle.layout.specs.Fields.{guard-of, first-of, count-of, event-record}
+use Rattle.layout.specs.Sound.{Run}
 use Rattle.guards.specs.Plan.{up, down, joined, joint-words, later-may, earlier-may}
 use Rattle.guards.proofs.Decoded.{record-fields}
 use Rattle.guards.proofs.Mays.{mays-below}

@@ -9,8 +9,8 @@ use Rattle.base.proofs.Truth.{by-cases}
 use Rattle.process.specs.Process.{Joint, seq, and, or, xor, Process, event, join, again, rounds}
 use Rattle.postfix.specs.Postfix.{joint-code}
 use Rattle.process.proofs.Numbered.{Numbered, size}
-use Rattle.table.specs.Sound.{Row-keeps}
-use Rattle.table.specs.Fields.{bit-row, not-row, both-row, either-row}
+use Rattle.layout.specs.Sound.{Row-keeps}
+use Rattle.layout.specs.Fields.{bit-row, not-row, both-row, either-row}
 use Rattle.guards.specs.Pieces.{Piece, rounds-piece, both-piece, one-piece, settling, settled-row, some-piece, or-piece, join-piece}
 use Rattle.guards.specs.Plan.{up, down, joined, joint-words, later-may, earlier-may}
 use Rattle.guards.specs.declared.Mark.{Mark}

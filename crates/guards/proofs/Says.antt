@@ -7,8 +7,8 @@ use lib.Dec.{eqb}
 use Rattle.process.specs.Process.{Process}
 use Rattle.process.specs.Bits.{Bits}
 use Rattle.process.specs.Guards.{begun, complete}
-use Rattle.table.specs.Fields.{kind-of, left-of, right-of}
-use Rattle.table.specs.Sound.{Row-keeps}
+use Rattle.layout.specs.Fields.{kind-of, left-of, right-of}
+use Rattle.layout.specs.Sound.{Row-keeps}
 use Rattle.guards.specs.declared.Mark.{Mark}
 
 -- ---- what rows say

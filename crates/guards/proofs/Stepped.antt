@@ -10,7 +10,7 @@ use lib.Dec.{eqb, ltb}
 use lib.ListN.{length, getD, set}
 use Rattle.guards.specs.Words.{put-rows}
 use Rattle.base.specs.Packed.{put-word}
-use Rattle.table.specs.Fields.{both-row}
+use Rattle.layout.specs.Fields.{both-row}
 use Rattle.guards.specs.Passes.{Up, mark-at, put-mark, piece-of, moved, counted, up-step, ups, Down, narrow, down-words, down-record, may-top, may-rows, down-step, downs}
 use Rattle.guards.specs.Made.{Makes}
 use Rattle.guards.specs.declared.Mark.{Mark}

@@ -13,11 +13,11 @@ use Rattle.process.specs.Process.{Process}
 use Rattle.process.specs.Bits.{Bits, clears}
 use Rattle.process.specs.Guards.{complete, enabled}
 use Rattle.record.specs.Bits.{bit-at}
-use Rattle.table.specs.Fields.{events, rows, event-word, row-word, guard-of, first-of, count-of}
-use Rattle.table.specs.Sound.{sound, Run, Row-keeps, Sound-table}
-use Rattle.table.specs.Values.{row-value, values-of}
-use Rattle.table.proofs.Sentences.{sound-exactly}
-use Rattle.table.proofs.Obeyed.{values-obey}
+use Rattle.layout.specs.Fields.{events, rows, event-word, row-word, guard-of, first-of, count-of}
+use Rattle.layout.specs.Sound.{sound, Run, Row-keeps, Sound-table}
+use Rattle.layout.specs.Values.{row-value, values-of}
+use Rattle.layout.proofs.Sentences.{sound-exactly}
+use Rattle.layout.proofs.Obeyed.{values-obey}
 use Rattle.agreement.specs.Agrees.{Agrees}
 use Rattle.guards.specs.Words.{put-rows}
 use Rattle.guards.specs.Lays.{base-of}

@@ -6,7 +6,7 @@ use lib.Dec.{leb}
 use lib.ListN.{length, getD, set, replicate}
 use Rattle.guards.specs.Words.{put-rows}
 use Rattle.base.specs.Packed.{put-word}
-use Rattle.table.specs.Fields.{bit-row, not-row, both-row, either-row}
+use Rattle.layout.specs.Fields.{bit-row, not-row, both-row, either-row}
 use Rattle.guards.specs.Passes.{Up, ups, Down, downs}
 
 -- Three rows before all others, of which the third says yes always.

@@ -7,7 +7,7 @@ use lib.Dec.{eqb, ltb}
 use lib.ListN.{length, getD, set}
 use Rattle.guards.specs.Words.{put-rows}
 use Rattle.base.specs.Packed.{put-word}
-use Rattle.table.specs.Fields.{both-row, event-record}
+use Rattle.layout.specs.Fields.{both-row, event-record}
 use Rattle.guards.specs.Pieces.{Piece, mark, event-piece, again-piece, rounds-piece, join-piece}
 use Rattle.guards.specs.declared.Mark.{Mark}
 

@@ -4,7 +4,7 @@ use mathlib.Core.List.{List, [], _∷_, _++_}
 use Prim.Native.Nat.{ℕ, _+_}
 use lib.Dec.{eqb}
 use lib.ListN.{length}
-use Rattle.table.specs.Fields.{bit-row, not-row, both-row, either-row}
+use Rattle.layout.specs.Fields.{bit-row, not-row, both-row, either-row}
 use Rattle.guards.specs.declared.Mark.{Mark}
 
 -- The rows of a part: that it is begun; that it is not; that it is complete; that it is complete or not begun, or 0 where no row says so yet; and the part's first

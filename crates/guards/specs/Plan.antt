@@ -6,7 +6,7 @@ use lib.ListN.{length}
 use Rattle.process.specs.Process.{Joint, seq, and, or, xor, Process, event, join, again, rounds}
 use Rattle.postfix.specs.Postfix.{joint-code}
 use Rattle.base.specs.Packed.{packed}
-use Rattle.table.specs.Fields.{both-row}
+use Rattle.layout.specs.Fields.{both-row}
 use Rattle.guards.specs.Pieces.{Piece, event-piece, again-piece, rounds-piece, join-piece}
 use Rattle.guards.specs.Passes.{down-words, down-record}
 use Rattle.guards.specs.Lays.{constants}

@@ -13,10 +13,10 @@ use Rattle.base.proofs.Truth.{by-cases, and-r}
 use Rattle.record.specs.Bits.{set-bit, clear-bits, set-past}
 use Rattle.record.specs.Bytes.{bytes-of}
 use Rattle.record.specs.declared.Record.{Record}
-use Rattle.table.specs.Fields.{events, rows, event-word, guard-of, first-of, count-of}
-use Rattle.table.specs.Sound.{sound, events-sound, rows-sound}
+use Rattle.layout.specs.Fields.{events, rows, event-word, guard-of, first-of, count-of}
+use Rattle.layout.specs.Sound.{sound, events-sound, rows-sound}
 use Rattle.table.specs.Shaped.{size-of, Shaped}
-use Rattle.table.specs.Values.{row-values, values-of, allows, ended}
+use Rattle.layout.specs.Values.{row-values, values-of, allows, ended}
 use Rattle.table.specs.Steps.{admit-of, taken, refused, taken-or-not, step-of, as-finish, finished-of, offered, offer-of, offer-left}
 use Rattle.table.specs.declared.Answer.{Answer}
 use Rattle.table.specs.declared.Answer.the-variants.{Done, Refused}

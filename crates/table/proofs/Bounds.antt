@@ -11,9 +11,9 @@ use Rattle.base.proofs.Truth.{by-cases}
 use Rattle.base.specs.Reports.{Report, refusal}
 use Rattle.record.specs.Bits.{set-past}
 use Rattle.record.specs.declared.Record.{Record}
-use Rattle.table.specs.Fields.{events}
-use Rattle.table.specs.Sound.{sound}
-use Rattle.table.specs.Values.{values-of, allows, ended}
+use Rattle.layout.specs.Fields.{events}
+use Rattle.layout.specs.Sound.{sound}
+use Rattle.layout.specs.Values.{values-of, allows, ended}
 use Rattle.table.specs.Steps.{check-of, admit-of, taken, refused, step-of, finished-of, offer-of, offer-left}
 use Rattle.table.specs.Bounds.{Answers, Check-answer, is-sound, not-sound, Ready, NotReady, unsound, bit-past, Step-answer, event-taken, step-not-ready, past-events, guard-says-no, Finish-answer, run-finished, run-open, finished-not-ready, Offer-answer, offer-made, buffer-short, offer-not-ready}
 use Rattle.table.specs.Reports.{report, finish-report}

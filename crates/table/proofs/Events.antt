@@ -8,8 +8,8 @@ use native.Mathlib.Omega.{arith}
 use lib.Dec.{ltb, eqb}
 use borrow.Author.Tests.{ltb-true, eq-eqb, ne-eqb, eqb-true, eqb-false}
 use Rattle.base.proofs.Truth.{cases, and-l, and-r}
-use Rattle.table.specs.Fields.{events, rows, event-word, guard-of, first-of, count-of}
-use Rattle.table.specs.Sound.{event-sound, events-sound, sound, Run}
+use Rattle.layout.specs.Fields.{events, rows, event-word, guard-of, first-of, count-of}
+use Rattle.layout.specs.Sound.{event-sound, events-sound, sound, Run}
 use Rattle.base.proofs.Each.{each-below}
 use Rattle.table.proofs.Sizes.{sound-events}
 

@@ -18,8 +18,8 @@ use Rattle.record.proofs.Bits.{bit-set-same, bit-set-other, bits-cleared, lengt
 use Rattle.record.proofs.PastEvents.{each-clear, clear-each}
 use Rattle.record.proofs.Bytes.{bytes-length}
 use Rattle.record.proofs.RoundTrip.{words-back}
-use Rattle.table.specs.Fields.{events, rows, event-word, first-of, count-of}
-use Rattle.table.specs.Values.{values-of, allows, ended}
+use Rattle.layout.specs.Fields.{events, rows, event-word, first-of, count-of}
+use Rattle.layout.specs.Values.{values-of, allows, ended}
 use Rattle.table.specs.Steps.{admit-of, taken, refused, step-of, finished-of, offered, offer-of, offer-left}
 use Rattle.table.specs.declared.Answer.{Answer}
 use Rattle.table.specs.declared.Answer.the-variants.{Done, Refused}

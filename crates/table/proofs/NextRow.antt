@@ -7,9 +7,9 @@ use native.Mathlib.Numerals.{add-one}
 use lib.ListN.{length, take, set}
 use Rattle.base.proofs.Truth.{and-l, and-r}
 use Rattle.base.specs.Packed.{field}
-use Rattle.table.specs.Fields.{events, row-word}
-use Rattle.table.specs.Sound.{row-sound, rows-sound}
-use Rattle.table.specs.Values.{row-value, row-values}
+use Rattle.layout.specs.Fields.{events, row-word}
+use Rattle.layout.specs.Sound.{row-sound, rows-sound}
+use Rattle.layout.specs.Values.{row-value, row-values}
 use Rattle.table.proofs.Rows.{values-more}
 
 module _ (t : List ℕ) (n i w : ℕ) (ok this : Bool) (N : n ≡ events t) (W : w ≡ field 4 t (4 + 4 * n + 4 * i)) (S : this ≡ row-sound w n i) where

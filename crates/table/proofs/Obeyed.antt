@@ -10,9 +10,9 @@ use lib.Seq.{getD-take, take-all, take-append-le, getD-append-seam}
 use borrow.Author.Tests.{eqb-true, eqb-false}
 use Rattle.base.proofs.Truth.{by-cases}
 use Rattle.base.proofs.Each.{each-below}
-use Rattle.table.specs.Fields.{events, rows, row-word}
-use Rattle.table.specs.Sound.{row-sound, rows-sound, sound}
-use Rattle.table.specs.Values.{row-value, row-values, values-of}
+use Rattle.layout.specs.Fields.{events, rows, row-word}
+use Rattle.layout.specs.Sound.{row-sound, rows-sound, sound}
+use Rattle.layout.specs.Values.{row-value, row-values, values-of}
 use Rattle.table.proofs.Sizes.{sound-rows}
 use Rattle.table.proofs.Rows.{value-before}
 

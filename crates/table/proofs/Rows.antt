@@ -11,9 +11,9 @@ use lib.ListN.{length, getD, take, set}
 use lib.Seq.{getD-take, take-suc-set}
 use borrow.Author.Tests.{lt-ltb, ltb-true, eq-eqb, ne-eqb, eqb-true, eqb-false}
 use Rattle.base.proofs.Truth.{cases, agree, and-l, and-r}
-use Rattle.table.specs.Fields.{events, row-word, kind-of, left-of, right-of}
-use Rattle.table.specs.Sound.{row-sound}
-use Rattle.table.specs.Values.{row-value, row-values}
+use Rattle.layout.specs.Fields.{events, row-word, kind-of, left-of, right-of}
+use Rattle.layout.specs.Sound.{row-sound}
+use Rattle.layout.specs.Values.{row-value, row-values}
 
 -- That a number is 0, as a bound.
 below-one : (r : ℕ) → ltb r 1 ≡ eqb r 0

@@ -8,8 +8,8 @@ use native.Mathlib.Omega.{arith}
 use lib.Dec.{ltb, eqb}
 use borrow.Author.Tests.{ltb-true, lt-ltb, eqb-true, eqb-false, eq-eqb}
 use Rattle.base.proofs.Truth.{by-cases, and-l, and-r, and-i}
-use Rattle.table.specs.Fields.{events, rows, event-word, row-word, guard-of, first-of, count-of, kind-of, left-of, right-of}
-use Rattle.table.specs.Sound.{event-sound, events-sound, row-sound, rows-sound, sound, Run, Row-keeps, Sound-table}
+use Rattle.layout.specs.Fields.{events, rows, event-word, row-word, guard-of, first-of, count-of, kind-of, left-of, right-of}
+use Rattle.layout.specs.Sound.{event-sound, events-sound, row-sound, rows-sound, sound, Run, Row-keeps, Sound-table}
 use Rattle.table.specs.Shaped.{Shaped}
 use Rattle.base.proofs.Each.{each-below, below-each}
 use Rattle.table.proofs.Sizes.{sound-shaped, sound-rows, shaped-sound}

@@ -9,9 +9,9 @@ use lib.Dec.{leb, eqb}
 use lib.ListN.{length}
 use borrow.Author.Tests.{leb-true, le-leb, eqb-true, eq-eqb}
 use Rattle.base.proofs.Truth.{cases, is-false, and-l, and-r}
-use Rattle.table.specs.Fields.{events, rows}
+use Rattle.layout.specs.Fields.{events, rows}
 use Rattle.table.specs.Shaped.{size-of, Shaped}
-use Rattle.table.specs.Sound.{sized, events-sound, rows-sound, sound}
+use Rattle.layout.specs.Sound.{sized, events-sound, rows-sound, sound}
 use Rattle.table.specs.Steps.{check-of}
 use Rattle.table.specs.declared.Answer.the-variants.{Done, Refused}
 use Rattle.table.specs.declared.Size.the-variants.{Of, Wrong}

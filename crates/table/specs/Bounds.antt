@@ -10,9 +10,9 @@ use Rattle.base.specs.Reports.{Report, refusal}
 use Rattle.record.specs.Bits.{set-past}
 use Rattle.record.specs.Bytes.{bytes-of}
 use Rattle.record.specs.declared.Record.{Record}
-use Rattle.table.specs.Fields.{events}
-use Rattle.table.specs.Sound.{sound}
-use Rattle.table.specs.Values.{values-of, allows, ended}
+use Rattle.layout.specs.Fields.{events}
+use Rattle.layout.specs.Sound.{sound}
+use Rattle.layout.specs.Values.{values-of, allows, ended}
 use Rattle.table.specs.Steps.{check-of, taken, step-of, finished-of, offered, offer-of, offer-left}
 use Rattle.table.specs.Reports.{report, finish-report}
 use Rattle.table.specs.declared.Answer.{Answer}

@@ -4,8 +4,8 @@ use mathlib.Core.Bool.{cond}
 use mathlib.Core.List.{List}
 use Prim.Native.Nat.{ℕ, _+_, _*_, _≤_}
 use lib.ListN.{length}
-use Rattle.table.specs.Fields.{events, rows}
-use Rattle.table.specs.Sound.{sized}
+use Rattle.layout.specs.Fields.{events, rows}
+use Rattle.layout.specs.Sound.{sized}
 use Rattle.table.specs.declared.Size.{Size}
 use Rattle.table.specs.declared.Size.the-variants.{Of, Wrong}
 

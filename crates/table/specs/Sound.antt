@@ -6,7 +6,7 @@ use mathlib.Core.List.{List}
 use Prim.Native.Nat.{ℕ, zero, suc, _+_, _*_, _≤_, _<_}
 use lib.Dec.{leb, ltb, eqb}
 use lib.ListN.{length}
-use Rattle.table.specs.Fields.{events, rows, event-word, row-word, guard-of, first-of, count-of, kind-of, left-of, right-of}
+use Rattle.layout.specs.Fields.{events, rows, event-word, row-word, guard-of, first-of, count-of, kind-of, left-of, right-of}
 
 -- "E 1 to 512, R 1 to 12,288, length exactly 4+4E+4R"
 unfoldable pub sized : List ℕ → Bool

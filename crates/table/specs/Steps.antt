@@ -8,9 +8,9 @@ use Rattle.base.specs.Fill.{fill}
 use Rattle.record.specs.Bits.{set-bit, clear-bits, set-past}
 use Rattle.record.specs.Bytes.{bytes-of}
 use Rattle.record.specs.declared.Record.{Record}
-use Rattle.table.specs.Fields.{events, event-word, first-of, count-of}
-use Rattle.table.specs.Sound.{sound}
-use Rattle.table.specs.Values.{values-of, allows, ended}
+use Rattle.layout.specs.Fields.{events, event-word, first-of, count-of}
+use Rattle.layout.specs.Sound.{sound}
+use Rattle.layout.specs.Values.{values-of, allows, ended}
 use Rattle.table.specs.declared.Answer.{Answer}
 use Rattle.table.specs.declared.Answer.the-variants.{Done, Refused}
 use Rattle.table.specs.declared.Finish.{Finish}

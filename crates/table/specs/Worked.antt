@@ -7,7 +7,7 @@ use Prim.Native.Nat.{ℕ, _+_, _*_, _/_, _%_, _^_}
 use lib.ListN.{take, set, replicate}
 use Rattle.base.specs.Reports.{Report}
 use Rattle.record.specs.declared.Record.{Record}
-use Rattle.table.specs.Sound.{sized}
+use Rattle.layout.specs.Sound.{sized}
 use Rattle.table.specs.Steps.{check-of, step-of, finished-of, offer-of, offer-left}
 use Rattle.table.specs.Reports.{report, finish-report}
 

@@ -20,8 +20,8 @@ use Rattle.reader.specs.declared.Answer.the-variants.{Refused as Unread}
 use Rattle.reader.specs.declared.ReadResult.{ReadResult}
 use Rattle.reader.proofs.Bounds.{read-bounded}
 use Rattle.reader.proofs.Exact.{accepted-read, accepted-once, refused-exactly, done-refused, Fate, taken, refused-at, fate}
-use Rattle.table.specs.Sound.{Sound-table}
-use Rattle.table.proofs.Sentences.{sound-exactly}
+use Rattle.layout.specs.Sound.{Sound-table}
+use Rattle.layout.proofs.Sentences.{sound-exactly}
 use Rattle.translator.specs.Reports.{report}
 use Rattle.translator.specs.Translates.{Table-of, table-of, Written, Translation, short, refused, done}
 use Rattle.translator.specs.Bounds.{Result, Reason, short-sheet, of-text, Refusal, Bounded, its-result, its-refusal}

@@ -18,8 +18,8 @@ use Rattle.reader.specs.declared.Answer.{Answer}
 use Rattle.reader.specs.declared.Answer.the-variants.{Done, Refused as Unread}
 use Rattle.process.specs.Expand.{expand}
 use Rattle.process.specs.Bits.{clears}
-use Rattle.table.specs.Fields.{events, rows, event-word, first-of, count-of}
-use Rattle.table.specs.Sound.{sound}
+use Rattle.layout.specs.Fields.{events, rows, event-word, first-of, count-of}
+use Rattle.layout.specs.Sound.{sound}
 use Rattle.book.specs.Plays.{Plays-by-book}
 use Rattle.guards.specs.Plan.{planned}
 use Rattle.translator.specs.Reports.{report}

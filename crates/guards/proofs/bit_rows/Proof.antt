@@ -4,7 +4,7 @@ use mathlib.Core.List.{[], _∷_}
 use native.Mathlib.Omega.{arith}
 use borrow.Author.Needs.{needs}
 use Rattle.guards.proofs.Rowed.{row-first, row-then}
-use Rattle.table.specs.Fields.{bit-row, not-row}
+use Rattle.layout.specs.Fields.{bit-row, not-row}
 use Rattle.guards.proofs.bit_rows.Statement.{statement}
 use Rattle.guards.proofs.bit_rows.Tie as tie
 

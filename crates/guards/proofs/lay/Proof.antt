@@ -6,7 +6,7 @@ use mathlib.Core.List.{List}
 use Prim.Native.Nat.{ℕ, _≤_}
 use lib.ListN.{length}
 use Rattle.guards.specs.Words.{put-rows}
-use Rattle.table.specs.Fields.{both-row}
+use Rattle.layout.specs.Fields.{both-row}
 use Rattle.guards.specs.Passes.{Up, Down}
 use Rattle.guards.specs.Lays.{constants, base-of, first-pass, second-pass}
 use Rattle.guards.proofs.Stepped.{up-at}

@@ -4,7 +4,7 @@ use mathlib.Core.List.{[], _∷_}
 use native.Mathlib.Omega.{arith}
 use borrow.Author.Needs.{needs}
 use Rattle.guards.proofs.Rowed.{row-first, row-then, same-mark}
-use Rattle.table.specs.Fields.{bit-row, not-row, either-row}
+use Rattle.layout.specs.Fields.{bit-row, not-row, either-row}
 use Rattle.guards.proofs.rounds.Statement.{statement}
 use Rattle.guards.proofs.rounds.Tie as tie
 

@@ -4,7 +4,7 @@ use mathlib.Core.List.{[], _∷_}
 use native.Mathlib.Omega.{arith}
 use borrow.Author.Needs.{needs}
 use Rattle.guards.proofs.Rowed.{row-first, none-put, rows-as, settled-new, settled-old, settling-new, settling-old}
-use Rattle.table.specs.Fields.{either-row}
+use Rattle.layout.specs.Fields.{either-row}
 use Rattle.guards.proofs.settle.Statement.{statement}
 use Rattle.guards.proofs.settle.Tie as tie
 

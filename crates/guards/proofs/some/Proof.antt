@@ -5,7 +5,7 @@ use mathlib.Core.List.{[], _∷_}
 use native.Mathlib.Omega.{arith}
 use borrow.Author.Needs.{needs}
 use Rattle.guards.proofs.Rowed.{row-then, same-mark, or-made}
-use Rattle.table.specs.Fields.{not-row, both-row, either-row}
+use Rattle.layout.specs.Fields.{not-row, both-row, either-row}
 use Rattle.guards.proofs.some.Statement.{statement}
 use Rattle.guards.proofs.some.Tie as tie
 

@@ -4,7 +4,7 @@ use Prim.Native.Nat.{_≤_, _-_}
 use native.Mathlib.Numerals.{add-one}
 use native.Mathlib.Omega.{arith}
 use borrow.Author.Needs.{needs}
-use Rattle.table.specs.Sound.{events-sound}
+use Rattle.layout.specs.Sound.{events-sound}
 use Rattle.table.proofs.events_sound.Statement.{statement}
 use Rattle.table.proofs.events_sound.Tie as tie
 

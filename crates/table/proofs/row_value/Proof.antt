@@ -2,8 +2,8 @@
 use native.Mathlib.Omega.{arith}
 use borrow.Author.Tests.{eq-eqb, ne-eqb}
 use borrow.Author.Needs.{needs}
-use Rattle.table.specs.Fields.{kind-of}
-use Rattle.table.specs.Values.{row-value}
+use Rattle.layout.specs.Fields.{kind-of}
+use Rattle.layout.specs.Values.{row-value}
 use Rattle.table.proofs.Rows.{left-below-most, right-below-most}
 use Rattle.table.proofs.row_value.Statement.{statement}
 use Rattle.table.proofs.row_value.Tie as tie

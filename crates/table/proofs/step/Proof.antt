@@ -2,7 +2,7 @@
 use mathlib.Core.Path.{_≡_, refl, sym, _∙_}
 use Prim.Native.Nat.{_<_}
 use borrow.Author.Needs.{needs}
-use Rattle.table.specs.Fields.{events}
+use Rattle.layout.specs.Fields.{events}
 use Rattle.table.specs.Steps.{admit-of}
 use Rattle.table.specs.declared.Answer.the-variants.{Done}
 use Rattle.table.proofs.Answered.{guard-below-most, values-allow, step-passed, step-14, step-15, step-done}

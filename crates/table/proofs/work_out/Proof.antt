@@ -5,8 +5,8 @@ use mathlib.Core.Logic.{⊎-elim}
 use Prim.Native.Nat.{_+_, _≤_, _<_, _-_}
 use lib.ListN.{length, take, length-set}
 use Rattle.base.proofs.Truth.{clash}
-use Rattle.table.specs.Sound.{rows-sound}
-use Rattle.table.specs.Values.{row-values}
+use Rattle.layout.specs.Sound.{rows-sound}
+use Rattle.layout.specs.Values.{row-values}
 use Rattle.table.proofs.NextRow.{rows-more, row-now, worked-more}
 use borrow.Author.Needs.{needs}
 use native.Mathlib.Omega.{arith}
