@@ -1,6 +1,6 @@
 -- What the calls answer, case by case, in the words of the definitions.
-use mathlib.Core.Path.{_≡_, sym, ap, _∙_}
-use mathlib.Core.Bool.{Bool, true, false, _&&_, true≢false}
+use mathlib.Core.Path.{_≡_, refl, sym, ap, _∙_}
+use mathlib.Core.Bool.{Bool, true, false, cond}
 use mathlib.Core.List.{List}
 use Prim.Native.Nat.{ℕ, _+_, _-_, _≤_, _<_}
 use native.Mathlib.Numerals.{add-one}
@@ -9,30 +9,27 @@ use lib.ListN.{length, getD, take}
 use lib.Seq.{getD-take}
 use borrow.Author.Tests.{lt-ltb, le-ltb}
 use Rattle.base.specs.Fill.{fill}
-use Rattle.base.proofs.Truth.{by-cases, and-r}
+use Rattle.base.proofs.Truth.{by-cases}
 use Rattle.record.specs.Bits.{set-bit, clear-bits, set-past}
 use Rattle.record.specs.Bytes.{bytes-of}
 use Rattle.record.specs.declared.Record.{Record}
 use Rattle.layout.specs.Fields.{events, rows, event-word, guard-of, first-of, count-of}
-use Rattle.layout.specs.Sound.{sound, events-sound, rows-sound}
-use Rattle.table.specs.Shaped.{size-of, Shaped}
-use Rattle.layout.specs.Values.{row-values, values-of, allows, ended}
-use Rattle.table.specs.Steps.{admit-of, taken, refused, taken-or-not, step-of, as-finish, finished-of, offered, offer-of, offer-left}
+use Rattle.layout.specs.Sound.{sound}
+use Rattle.layout.specs.Values.{values-of, allows, ended}
+use Rattle.layout.proofs.Sizes.{sound-shaped}
+use Rattle.layout.proofs.Events.{sound-guard}
+use Rattle.table.specs.Steps.{check-of, admit-of, taken, refused, taken-or-not, step-of, as-finish, finished-of, offered, offer-of, offer-left}
 use Rattle.table.specs.declared.Answer.{Answer}
 use Rattle.table.specs.declared.Answer.the-variants.{Done, Refused}
-use Rattle.table.specs.declared.Size.the-variants.{Of, Wrong}
 use Rattle.table.specs.declared.Finish.the-variants.{No, Yes}
-use Rattle.table.proofs.Sizes.{shaped-as, sound-shaped, sound-events, sound-as, of-shaped, wrong-unsound}
-use Rattle.table.proofs.Rows.{values-at}
-use Rattle.table.proofs.Events.{sound-guard, guard-below, events-each}
 
 -- A refusal is not done.
-abbrev done? : Answer → Bool
-done? Done = true
-done? (Refused number place) = false
-
 pub not-done : (number place : ℕ) → Refused number place ≡ Done → ⊥
-not-done number place e = true≢false (sym (ap done? e))
+not-done number place e = let z : _≡_ {A = ℕ} 0 1 = cc in omega arith
+
+pub checked : (t : List ℕ) (v : Bool) → sound t ≡ v → cond v Done (Refused 12 0) ≡ check-of t
+unfolding check-of
+checked t v e = rw e
 
 module _ (t bits : List ℕ) where
   pub admit-12 : sound t ≡ false → Refused 12 0 ≡ admit-of t bits
@@ -51,54 +48,20 @@ module _ (t bits : List ℕ) where
   unfolding admit-of
   done-sound d = by-cases (sound t) (λ e. e) (λ e. absurd (not-done 12 0 (admit-12 e ∙ d)))
 
--- The first look, by what it found: the answer, and, where it is done, what every row says.
-abbrev pub Looked : List ℕ → List ℕ → List Bool → Answer → Type 0
-Looked t bits vs a = (a ≡ admit-of t bits) × (a ≡ Done → take (rows t) vs ≡ row-values t bits (rows t))
+-- Of a sound table: the last row and the guard row of each event stand on the sheet, and what they say is among what the rows say.
+module _ (t : List ℕ) (ok : sound t ≡ true) where
+  pub last-within : (m : ℕ) → m ≡ rows t → (1 ≤ m) × (m - 1 < 12288)
+  last-within m M = let s = sound-shaped t ok in (omega (arith, M, s .rows-least), omega (arith, M, s .rows-least, s .rows-most))
 
-pub looked-wrong : (t bits : List ℕ) (vs : List Bool) → size-of t ≡ Wrong → Looked t bits vs (Refused 12 0)
-looked-wrong t bits vs e = (admit-12 t bits (wrong-unsound t e), λ z. absurd (not-done 12 0 z))
+  pub guard-within : (e w : ℕ) → e < events t → w ≡ event-word t e → guard-of w < 12288
+  guard-within e w h W = rw W (omega (arith, sound-guard t e ok h, sound-shaped t ok .rows-most))
 
-module _ (t bits : List ℕ) (vs : List Bool) (n m : ℕ) (a b : Bool) (Z : size-of t ≡ Of n m) (A : a ≡ events-sound t n)
-    (B : (b ≡ rows-sound t m) × (b ≡ true → take m vs ≡ row-values t bits m)) where
-  pub looked-12 : (a && b) ≡ false → Looked t bits vs (Refused 12 0)
-  looked-12 e = (admit-12 t bits (sound-as t n m a b false Z A (B .0) e), λ z. absurd (not-done 12 0 z))
+  module _ (vs said : List Bool) (q : take (rows t) vs ≡ said) where
+    pub last-said : (m : ℕ) → m ≡ rows t → getD vs (m - 1) false ≡ ended t said
+    last-said m M = rw (M, ← q) (sym (getD-take (rows t) vs (rows t - 1) false (omega (arith, sound-shaped t ok .rows-least))))
 
-  module _ (e : (a && b) ≡ true) (s : Bool) (S : s ≡ set-past bits n) where
-    is-sound : sound t ≡ true
-    is-sound = sound-as t n m a b true Z A (B .0) e
-
-    shape : Shaped t n m
-    shape = of-shaped t n m Z
-
-    pub looked-13 : s ≡ true → Looked t bits vs (Refused 13 0)
-    looked-13 y = (admit-13 t bits is-sound (rw (← (shape .n-is), ← S) y), λ z. absurd (not-done 13 0 z))
-
-    pub looked-done : s ≡ false → Looked t bits vs Done
-    looked-done y = (admit-done t bits is-sound (rw (← (shape .n-is), ← S) y), λ z. rw (← (shape .m-is)) (B .1 (and-r a b e)))
-
--- After the first look a table is sound, and the list has what every row says.
-module _ (t bits : List ℕ) (d : admit-of t bits ≡ Done) where
-  pub last-below-most : (m : ℕ) → m ≡ rows t → (1 ≤ m) × (m - 1 < 12288)
-  last-below-most m q = let s = sound-shaped t (done-sound t bits d) in (omega (arith, s .m-least), omega (arith, s .m-most))
-
-  pub gather-ready : (n m : ℕ) → n ≡ events t → m ≡ rows t → Shaped t n m × (events-sound t n ≡ true)
-  gather-ready n m N M =
-      let ok = done-sound t bits d in (shaped-as t n m (sound-shaped t ok) N M, rw N (sound-events t ok))
-
-  pub guard-below-most : (e w : ℕ) → e < events t → w ≡ event-word t e → guard-of w < 12288
-  guard-below-most e w h q =
-      let s = sound-shaped t (done-sound t bits d) in
-      let g = sound-guard t e (done-sound t bits d) h in
-      rw q (omega (arith, g, s .m-most))
-
-  module _ (vs : List Bool) (q : take (rows t) vs ≡ row-values t bits (rows t)) where
-    pub values-ended : (m : ℕ) → m ≡ rows t → getD vs (m - 1) false ≡ ended t (values-of t bits)
-    values-ended m p =
-        let s = sound-shaped t (done-sound t bits d) in
-        rw p (values-at t bits vs (rows t) (rows t - 1) q (omega (arith, s .m-least)))
-
-    pub values-allow : (e w : ℕ) → e < events t → w ≡ event-word t e → getD vs (guard-of w) false ≡ allows t (values-of t bits) e
-    values-allow e w h p = rw p (values-at t bits vs (rows t) (guard-of (event-word t e)) q (sound-guard t e (done-sound t bits d) h))
+    pub guard-said : (e w : ℕ) → e < events t → w ≡ event-word t e → getD vs (guard-of w) false ≡ allows t said e
+    guard-said e w h W = rw (W, ← q) (sym (getD-take (rows t) vs (guard-of (event-word t e)) false (sound-guard t e ok h)))
 
 module _ (t : List ℕ) (before : Record) (e : ℕ) where
   pub step-passed : (a : Answer) (number place : ℕ) → a ≡ Refused number place → a ≡ admit-of t (before .bits) → refused before a ≡ step-of t before e
@@ -135,23 +98,14 @@ module _ (t : List ℕ) (before : Record) where
     finished-no y = rw (d, y)
 
 -- One more event of the offer.
-module _ (t : List ℕ) (vs : List Bool) (n m e w : ℕ) (s : Shaped t n m) (ok : events-sound t n ≡ true) (h : e < n) (W : w ≡ event-word t e) where
-  guard-in : guard-of w < m
-  guard-in = rw (W, s .m-is) (guard-below (event-word t e) (rows t) e (events-each t n e ok h))
-
-  pub gather-below-most : guard-of w < 12288
-  gather-below-most = omega (arith, guard-in, s .m-most)
-
-  its-guard : getD vs (guard-of w) false ≡ allows t (take m vs) e
-  its-guard = sym (getD-take m vs (guard-of w) false guard-in) ∙ rw W
-
-  pub gather-yes : (o next : List ℕ) → getD vs (guard-of w) false ≡ true → o ≡ offered t (take m vs) e → next ≡ set-bit o e → next ≡ offered t (take m vs) (e + 1)
+module _ (t : List ℕ) (ok : sound t ≡ true) (vs : List Bool) (e w : ℕ) (h : e < events t) (W : w ≡ event-word t e) (o : List ℕ) (O : o ≡ offered t (take (rows t) vs) e) where
+  pub gather-yes : (next : List ℕ) → getD vs (guard-of w) false ≡ true → next ≡ set-bit o e → next ≡ offered t (take (rows t) vs) (e + 1)
   unfolding offered
-  gather-yes o next y q p = rw (add-one e, sym its-guard ∙ y) (p ∙ ap (λ (x : List ℕ). set-bit x e) q)
+  gather-yes next y p = rw (add-one e, sym (guard-said t ok vs _ refl e w h W) ∙ y) (p ∙ ap (λ (x : List ℕ). set-bit x e) O)
 
-  pub gather-no : (o : List ℕ) → getD vs (guard-of w) false ≡ false → o ≡ offered t (take m vs) e → o ≡ offered t (take m vs) (e + 1)
+  pub gather-no : getD vs (guard-of w) false ≡ false → o ≡ offered t (take (rows t) vs) (e + 1)
   unfolding offered
-  gather-no o y q = rw (add-one e, sym its-guard ∙ y) q
+  gather-no y = rw (add-one e, sym (guard-said t ok vs _ refl e w h W) ∙ y) O
 
 module _ (t : List ℕ) (before : Record) (lent : List ℕ) where
   pub offer-1 : length lent < 64
@@ -171,8 +125,7 @@ module _ (t : List ℕ) (before : Record) (lent : List ℕ) where
     unfolding offer-of
     offer-ready d = (rw (le-ltb (length lent) 64 h, d), rw (le-ltb (length lent) 64 h, d))
 
-    pub offer-done : (a : Answer) (vs : List Bool) (n m : ℕ) (o out : List ℕ) → a ≡ Done → a ≡ admit-of t (before .bits)
-        → take (rows t) vs ≡ row-values t (before .bits) (rows t) → n ≡ events t → m ≡ rows t → o ≡ offered t (take m vs) n → out ≡ fill lent (bytes-of o)
+    pub offer-done : (a : Answer) (vs : List Bool) (o out : List ℕ) → a ≡ Done → a ≡ admit-of t (before .bits)
+        → take (rows t) vs ≡ values-of t (before .bits) → o ≡ offered t (take (rows t) vs) (events t) → out ≡ fill lent (bytes-of o)
         → (a ≡ offer-of t before lent) × (out ≡ offer-left t before lent (offer-of t before lent))
-    offer-done a vs n m o out p q s N M O W =
-        let r = offer-ready (sym q ∙ p) in (p ∙ sym (r .0), W ∙ rw (O, N, M, s) (sym (r .1)))
+    offer-done a vs o out p q s O W = let r = offer-ready (sym q ∙ p) in (p ∙ sym (r .0), W ∙ rw (O, s) (sym (r .1)))

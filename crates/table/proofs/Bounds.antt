@@ -22,8 +22,7 @@ use Rattle.table.specs.declared.Finish.{Finish}
 use Rattle.table.specs.declared.Finish.the-variants.{No, Yes, Refused as Unasked}
 use Rattle.table.specs.declared.Answer.the-variants.{Done, Refused}
 use Rattle.table.specs.declared.Stepped.{Stepped}
-use Rattle.table.proofs.Sizes.{checked}
-use Rattle.table.proofs.Answered.{admit-12, admit-13, admit-done, step-passed, step-14, step-15, step-done, finished-passed, finished-yes, finished-no, offer-1, offer-passed, offer-ready}
+use Rattle.table.proofs.Answered.{checked, admit-12, admit-13, admit-done, step-passed, step-14, step-15, step-done, finished-passed, finished-yes, finished-no, offer-1, offer-passed, offer-ready}
 
 pub check-answered : (t : List ℕ) → Check-answer t (check-of t)
 unfolding check-of

@@ -25,8 +25,8 @@ use Rattle.table.specs.declared.Answer.{Answer}
 use Rattle.table.specs.declared.Answer.the-variants.{Done, Refused}
 use Rattle.table.specs.declared.Finish.the-variants.{Yes}
 use Rattle.table.specs.declared.Stepped.{Stepped}
-use Rattle.table.proofs.Sizes.{sound-shaped}
-use Rattle.table.proofs.Events.{run-below, sound-event}
+use Rattle.layout.proofs.Sizes.{sound-shaped}
+use Rattle.layout.proofs.Events.{run-below, sound-event}
 use Rattle.table.specs.Bounds.{Ready, Takes, Ends, unsound, bit-past, Step-answer, event-taken, step-not-ready, past-events, guard-says-no}
 use Rattle.table.proofs.Bounds.{first-look, refused-step, ready-admitted, step-answered}
 use Rattle.table.proofs.Answered.{not-done, step-done, offer-1, finished-passed, finished-yes, finished-no}
@@ -82,7 +82,7 @@ module _ (t : List ℕ) (before : Record) (e : ℕ) where
   -- ---- the record after a step that is done, bit by bit
   module _ (d : step-of t before e .answer ≡ Done) (l : length (before .bits) ≡ 8) where
     in-record : e < 512
-    in-record = let k = done-exactly .0 d in let s = sound-shaped t (k .ready .its-table) in omega (arith, k .below, s .n-most)
+    in-record = let k = done-exactly .0 d in let s = sound-shaped t (k .ready .its-table) in omega (arith, k .below, s .events-most)
 
     before-own : run-end t e ≤ e
     before-own = let k = done-exactly .0 d in run-below (event-word t e) (rows t) e (sound-event t e (k .ready .its-table) (k .below))
@@ -182,7 +182,7 @@ module _ (t : List ℕ) (before : Record) (lent : List ℕ) where
       let s = sound-shaped t (admitted t (before .bits) (offer-told d .1) .its-table) in
       ap (λ (a : Answer). bit-at (words-of (offer-left t before lent a)) e) d
       ∙ ap (λ (ws : List ℕ). bit-at ws e) (words-back (offered t (values-of t (before .bits)) (events t)) lent o (offer-told d .0))
-      ∙ offered-bit t (values-of t (before .bits)) (events t) e (s .n-most) h
+      ∙ offered-bit t (values-of t (before .bits)) (events t) e (s .events-most) h
 
   -- Its bit e is exactly whether a step with e would be done.
   pub offer-exactly : offer-of t before lent ≡ Done → (e : ℕ) → e < 512

@@ -1,11 +1,5 @@
-pub mod Sizes
-pub mod Rows
-pub mod Events
-pub mod Sentences
-pub mod NextRow
 pub mod Answered
 pub mod Bounds
 pub mod Laws
-pub mod Obeyed
 pub mod Promised
 pub mod Worked

@@ -1,46 +1,34 @@
--- `table::admit` meets its contract: 12, then 13; where there is neither, the loop over the rows has worked them out.
-use mathlib.Core.Path.{sym, _∙_}
+-- `table::admit` meets its contract: 12, then 13; where there is neither, the rows are worked out.
+use mathlib.Core.Path.{_≡_, sym, ap, _∙_}
+use mathlib.Core.Bool.{true}
 use borrow.Author.Needs.{needs}
-use Rattle.table.proofs.Sizes.{of-shaped}
-use Rattle.table.proofs.Answered.{looked-wrong, looked-12, looked-13, looked-done}
+use Rattle.base.proofs.Truth.{not-e, not-no}
+use Rattle.record.specs.Bits.{set-past}
+use Rattle.layout.specs.Fields.{events}
+use Rattle.layout.specs.Sound.{sound}
+use Rattle.table.proofs.Answered.{not-done, admit-12, admit-13, admit-done}
 use Rattle.table.proofs.admit.Statement.{statement}
 use Rattle.table.proofs.admit.Tie as tie
 
 returns : tie.Need-returns
-returns c = looked-wrong _ _ _ (sym (c .before .before .measure .ensures) ∙ c .enum-told .given .1)
+returns c = (admit-12 _ _ (sym (c .before .work-out .ensures .0) ∙ not-e _ (c .if1 .taken)), λ z. absurd (not-done 12 0 z))
 
-events-sound-requires : tie.Need-events-sound-requires
-events-sound-requires c κs = of-shaped _ _ _ (sym (c .before .before .before .measure .ensures) ∙ c .before .size .given .1)
+-- What the two looks found: whether the table is sound, and whether a bit at or past E is set.
+is-sound : (c : tie.Else1) → sound (c .before .before .before .before .args .t .now) ≡ true
+is-sound c = sym (c .before .work-out .ensures .0) ∙ not-no _ (c .if1 .left)
 
-work-out-requires : tie.Need-work-out-requires
-work-out-requires c κs = (
-  of-shaped _ _ _ (sym (c .before .before .before .before .before .measure .ensures) ∙ c .before .before .before .size .given .1),
-  c .before .before .before .before .before .before .before .pre,
-)
+found : (c : tie.After-set-past)
+    → c .set-past .result ≡ set-past (c .before .before .before .before .before .before .args .bits .now) (events (c .before .before .before .before .before .before .args .t .now))
+found c = c .set-past .ensures ∙ ap (set-past _) (c .before .half .ensures .0)
 
 returns-2 : tie.Need-returns-2
 returns-2 c =
-    let worked = c .before .before .before in
-    let sized = worked .before .before .before .before in
-    looked-13 _ _ _ _ _ _ _ (sym (sized .before .before .measure .ensures) ∙ sized .size .given .1) (worked .before .before .events-sound .ensures)
-    (worked .work-out .ensures) (c .before .before .if1 .taken) _ (c .before .set-past .ensures) (c .if2 .taken)
+    (admit-13 _ _ (is-sound (c .before .before .before)) (sym (found (c .before)) ∙ c .if2 .taken), λ z. absurd (not-done 13 0 z))
 
 returns-3 : tie.Need-returns-3
 returns-3 c =
-    let worked = c .before .before .before in
-    let sized = worked .before .before .before .before in
-    looked-done _ _ _ _ _ _ _ (sym (sized .before .before .measure .ensures) ∙ sized .size .given .1) (worked .before .before .events-sound .ensures)
-    (worked .work-out .ensures) (c .before .before .if1 .taken) _ (c .before .set-past .ensures) (c .if2 .left)
-
-returns-4 : tie.Need-returns-4
-returns-4 c =
-    let worked = c .before in
-    let sized = worked .before .before .before .before in
-    looked-12 _ _ _ _ _ _ _ (sym (sized .before .before .measure .ensures) ∙ sized .size .given .1) (worked .before .before .events-sound .ensures)
-    (worked .work-out .ensures) (c .if1 .left)
+    let look = c .before .before .before in
+    (admit-done _ _ (is-sound look) (sym (found (c .before)) ∙ c .if2 .left), λ z. look .before .work-out .ensures .1 (not-no _ (look .if1 .left)))
 
 pub admit-spec : {M : Type 1} → statement M
-admit-spec =
-    tie.close
-    (tie.spec (λ c κs. search needs) (λ c. search needs) (λ c. search needs) returns events-sound-requires work-out-requires
-    (λ c κs. search needs) returns-2 returns-3 returns-4)
+admit-spec = tie.close (tie.spec (λ c κs. search needs) returns (λ c κs. search needs) (λ c κs. search needs) returns-2 returns-3)

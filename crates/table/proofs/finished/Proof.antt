@@ -4,12 +4,9 @@ use native.Mathlib.Omega.{arith}
 use borrow.Author.Needs.{needs}
 use Rattle.table.specs.Steps.{admit-of}
 use Rattle.table.specs.declared.Answer.the-variants.{Done}
-use Rattle.table.proofs.Answered.{last-below-most, values-ended, finished-passed, finished-yes, finished-no}
+use Rattle.table.proofs.Answered.{done-sound, last-within, last-said, finished-passed, finished-yes, finished-no}
 use Rattle.table.proofs.finished.Statement.{statement}
 use Rattle.table.proofs.finished.Tie as tie
-
-admit-requires : tie.Need-admit-requires
-admit-requires c κs = refl
 
 returns : tie.Need-returns
 returns c =
@@ -21,27 +18,27 @@ admitted : (c : tie.After-enum-told)
 admitted c = sym (c .before .before .admit .ensures .0) ∙ c .enum-told .given .1
 
 sub-last : tie.Need-sub-last
-sub-last c = last-below-most _ _ (admitted (c .before)) _ (c .half .ensures .0) .0
+sub-last c = last-within _ (done-sound _ _ (admitted (c .before))) _ (c .half .ensures .0) .0
 
 array-read-if1 : tie.Need-array-read-if1
-array-read-if1 c = let l = last-below-most _ _ (admitted (c .before)) _ (c .half .ensures .0) in omega (arith, l .1)
+array-read-if1 c = last-within _ (done-sound _ _ (admitted (c .before))) _ (c .half .ensures .0) .1
 
 returns-2 : tie.Need-returns-2
 returns-2 c =
     let told = c .before .before in
     let d = admitted told in
     let q = told .before .before .admit .ensures .1 (told .enum-told .given .1) in
-    finished-yes _ _ d (sym (values-ended _ _ d _ q _ (c .before .half .ensures .0)) ∙ c .if1 .taken)
+    finished-yes _ _ d (sym (last-said _ (done-sound _ _ d) _ _ q _ (c .before .half .ensures .0)) ∙ c .if1 .taken)
 
 returns-3 : tie.Need-returns-3
 returns-3 c =
     let told = c .before .before in
     let d = admitted told in
     let q = told .before .before .admit .ensures .1 (told .enum-told .given .1) in
-    finished-no _ _ d (sym (values-ended _ _ d _ q _ (c .before .half .ensures .0)) ∙ c .if1 .left)
+    finished-no _ _ d (sym (last-said _ (done-sound _ _ d) _ _ q _ (c .before .half .ensures .0)) ∙ c .if1 .left)
 
 pub finished-spec : {M : Type 1} → statement M
 finished-spec =
     tie.close
-    (tie.spec admit-requires (λ c. search needs) (λ c. search needs) (λ c κs. search needs) returns (λ c κs. search needs) sub-last array-read-if1
+    (tie.spec (λ c κs. search needs) (λ c. search needs) (λ c. search needs) (λ c κs. search needs) returns (λ c κs. search needs) sub-last array-read-if1
     returns-2 returns-3)

@@ -6,15 +6,12 @@ use borrow.Author.Needs.{needs}
 use Rattle.base.proofs.Filled.{fill-length}
 use Rattle.table.specs.Steps.{admit-of}
 use Rattle.table.specs.declared.Answer.the-variants.{Done}
-use Rattle.table.proofs.Answered.{gather-ready, offer-1, offer-passed, offer-done}
+use Rattle.table.proofs.Answered.{done-sound, offer-1, offer-passed, offer-done}
 use Rattle.table.proofs.offer.Statement.{statement}
 use Rattle.table.proofs.offer.Tie as tie
 
 returns : tie.Need-returns
 returns c = offer-1 _ _ _ (omega arith)
-
-admit-requires : tie.Need-admit-requires
-admit-requires c κs = refl
 
 returns-2 : tie.Need-returns-2
 returns-2 c =
@@ -28,8 +25,7 @@ admitted : (c : tie.After-enum-told)
 admitted c = sym (c .before .before .admit .ensures .0) ∙ c .enum-told .given .1
 
 gather-requires : tie.Need-gather-requires
-gather-requires c κs =
-    gather-ready _ _ (admitted (c .before .before .before)) _ _ (c .before .before .half .ensures .0) (c .before .half2 .ensures .0)
+gather-requires c κs = done-sound _ _ (admitted (c .before))
 
 same-length : tie.Need-same-length
 same-length c = ap length (c .before .before .store .ensures) ∙ fill-length _ _
@@ -37,14 +33,13 @@ same-length c = ap length (c .before .before .store .ensures) ∙ fill-length _ 
 returns-3 : tie.Need-returns-3
 returns-3 c =
     let gathered = c .before .before .before .before in
-    let told = gathered .before .before .before .before in
+    let told = gathered .before .before in
     let looked = told .before .before in
-    offer-done _ _ _ (looked .before .before .before .before .if1 .left) _ _ _ _ _ _ (told .enum-told .given .1) (looked .admit .ensures .0)
-    (looked .admit .ensures .1 (told .enum-told .given .1)) (gathered .before .before .before .half .ensures .0) (gathered .before .before .half2 .ensures .0)
-    (gathered .gather .ensures) (c .before .before .store .ensures)
+    offer-done _ _ _ (looked .before .before .before .before .if1 .left) _ _ _ _ (told .enum-told .given .1) (looked .admit .ensures .0)
+    (looked .admit .ensures .1 (told .enum-told .given .1)) (gathered .gather .ensures) (c .before .before .store .ensures)
 
 pub offer-spec : {M : Type 1} → statement M
 offer-spec =
     tie.close
-    (tie.spec returns admit-requires (λ c. search needs) (λ c. search needs) returns-2 (λ c κs. search needs) (λ c κs. search needs) gather-requires
+    (tie.spec returns (λ c κs. search needs) (λ c. search needs) (λ c. search needs) returns-2 gather-requires
     (λ c κs. search needs) same-length returns-3)

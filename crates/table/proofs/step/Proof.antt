@@ -5,12 +5,9 @@ use borrow.Author.Needs.{needs}
 use Rattle.layout.specs.Fields.{events}
 use Rattle.table.specs.Steps.{admit-of}
 use Rattle.table.specs.declared.Answer.the-variants.{Done}
-use Rattle.table.proofs.Answered.{guard-below-most, values-allow, step-passed, step-14, step-15, step-done}
+use Rattle.table.proofs.Answered.{done-sound, guard-within, guard-said, step-passed, step-14, step-15, step-done}
 use Rattle.table.proofs.step.Statement.{statement}
 use Rattle.table.proofs.step.Tie as tie
-
-admit-requires : tie.Need-admit-requires
-admit-requires c κs = refl
 
 returns : tie.Need-returns
 returns c = step-passed _ _ _ _ _ _ (c .enum-told2 .given .1) (c .before .before .admit .ensures .0)
@@ -31,7 +28,7 @@ returns-2 c =
     step-14 _ _ _ (admitted (c .before .before)) (rw (← (c .before .half .ensures .0)) (c .if1 .taken))
 
 array-read-if2 : tie.Need-array-read-if2
-array-read-if2 c = guard-below-most _ _ (admitted (c .before .before .before)) _ _ (below (c .before)) (c .word .ensures .0)
+array-read-if2 c = guard-within _ (done-sound _ _ (admitted (c .before .before .before))) _ _ (below (c .before)) (c .word .ensures .0)
 
 returns-3 : tie.Need-returns-3
 returns-3 c =
@@ -40,7 +37,7 @@ returns-3 c =
     let b = below (word .before) in
     let w = word .word .ensures .0 in
     let q = word .before .before .before .before .before .admit .ensures .1 (word .before .before .before .enum-told .given .1) in
-    step-done _ _ _ d b _ _ _ (sym (values-allow _ _ d _ q _ _ b w) ∙ c .before .before .if2 .taken) w (c .before .set .ensures) (c .clear .ensures)
+    step-done _ _ _ d b _ _ _ (sym (guard-said _ (done-sound _ _ d) _ _ q _ _ b w) ∙ c .before .before .if2 .taken) w (c .before .set .ensures) (c .clear .ensures)
 
 returns-4 : tie.Need-returns-4
 returns-4 c =
@@ -48,10 +45,10 @@ returns-4 c =
     let d = admitted (word .before .before .before) in
     let b = below (word .before) in
     let q = word .before .before .before .before .before .admit .ensures .1 (word .before .before .before .enum-told .given .1) in
-    step-15 _ _ _ d b (sym (values-allow _ _ d _ q _ _ b (word .word .ensures .0)) ∙ c .if2 .left)
+    step-15 _ _ _ d b (sym (guard-said _ (done-sound _ _ d) _ _ q _ _ b (word .word .ensures .0)) ∙ c .if2 .left)
 
 pub step-spec : {M : Type 1} → statement M
 step-spec =
     tie.close
-    (tie.spec admit-requires (λ c. search needs) (λ c. search needs) returns (λ c κs. search needs) returns-2 (λ c. search needs) (λ c. search needs) (λ c κs. search needs)
+    (tie.spec (λ c κs. search needs) (λ c. search needs) (λ c. search needs) returns (λ c κs. search needs) returns-2 (λ c. search needs) (λ c. search needs) (λ c κs. search needs)
     array-read-if2 (λ c κs. search needs) (λ c κs. search needs) returns-3 returns-4)

@@ -8,13 +8,12 @@ use native.Mathlib.Omega.{arith}
 use lib.Dec.{ltb, eqb}
 use borrow.Author.Tests.{ltb-true, lt-ltb, eqb-true, eqb-false, eq-eqb}
 use Rattle.base.proofs.Truth.{by-cases, and-l, and-r, and-i}
 use Rattle.layout.specs.Fields.{events, rows, event-word, row-word, guard-of, first-of, count-of, kind-of, left-of, right-of}
 use Rattle.layout.specs.Sound.{event-sound, events-sound, row-sound, rows-sound, sound, Run, Row-keeps, Sound-table}
-use Rattle.table.specs.Shaped.{Shaped}
 use Rattle.base.proofs.Each.{each-below, below-each}
-use Rattle.table.proofs.Sizes.{sound-shaped, sound-rows, shaped-sound}
-use Rattle.table.proofs.Rows.{bounds-bit, bounds-not, bounds-two}
-use Rattle.table.proofs.Events.{end-none, end-own, run-ends, sound-event, sound-guard}
+use Rattle.layout.proofs.Sizes.{sound-shaped, sound-rows, sized-holds}
+use Rattle.layout.proofs.Rows.{bounds-bit, bounds-not, bounds-two}
+use Rattle.layout.proofs.Events.{end-none, end-own, run-ends, sound-event, sound-guard}
 
 module _ (w n i : ℕ) where
   -- Left and right of a sound row, by its kind.
@@ -58,11 +57,11 @@ module _ (t : List ℕ) where
   sound-says ok =
       let s = sound-shaped t ok in
       record {
-        events-least = s .n-least;
-        events-most = s .n-most;
-        rows-least = s .m-least;
-        rows-most = s .m-most;
-        length-exact = s .size;
+        events-least = s .events-least;
+        events-most = s .events-most;
+        rows-least = s .rows-least;
+        rows-most = s .rows-most;
+        length-exact = s .length-exact;
         guards = λ e h. sound-guard t e ok h;
         runs = λ e h. run-ends (event-word t e) (rows t) e (sound-event t e ok h);
         rows-keep = λ i h. row-says (row-word t i) (events t) i
@@ -70,23 +69,22 @@ module _ (t : List ℕ) where
       }
 
   sound-holds : Sound-table t → sound t ≡ true
-  unfolding events-sound rows-sound
+  unfolding sound events-sound rows-sound
   sound-holds k =
-      let s : Shaped t (events t) (rows t) = record {
-        n-is = refl;
-        m-is = refl;
-        size = k .length-exact;
-        n-least = k .events-least;
-        n-most = k .events-most;
-        m-least = k .rows-least;
-        m-most = k .rows-most;
-      } in
-      shaped-sound t (events t) (rows t) s
-      ∙ and-i
+      and-i
+      (sized-holds t
+      record {
+        events-least = k .events-least;
+        events-most = k .events-most;
+        rows-least = k .rows-least;
+        rows-most = k .rows-most;
+        length-exact = k .length-exact;
+      })
+      (and-i
       (below-each (events-sound t) (λ e. event-sound (event-word t e) (rows t) e) refl (λ e. refl) (events t)
       (λ e h. event-holds (event-word t e) (rows t) e (k .guards e h) (k .runs e h)))
       (below-each (rows-sound t) (λ i. row-sound (row-word t i) (events t) i) refl (λ i. refl) (rows t)
-      (λ i h. row-holds (row-word t i) (events t) i (k .rows-keep i h)))
+      (λ i h. row-holds (row-word t i) (events t) i (k .rows-keep i h))))
 
   pub sound-exactly : (sound t ≡ true) ↔ Sound-table t
   sound-exactly = (sound-says, sound-holds)

@@ -1,9 +1,9 @@
 -- The run of cleared bits ends at 0 where it is empty, and else at the event's own number.
 use mathlib.Core.Logic.{⊎-elim}
 use borrow.Author.Needs.{needs}
-use Rattle.table.proofs.Events.{end-none, end-own}
-use Rattle.table.proofs.event_sound.Statement.{statement}
-use Rattle.table.proofs.event_sound.Tie as tie
+use Rattle.layout.proofs.Events.{end-none, end-own}
+use Rattle.layout.proofs.event_sound.Statement.{statement}
+use Rattle.layout.proofs.event_sound.Tie as tie
 
 returns : tie.Need-returns
 returns c =

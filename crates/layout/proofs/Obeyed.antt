@@ -10,14 +10,14 @@ use lib.Seq.{getD-take, take-all, take-append-le, getD-append-seam}
 use borrow.Author.Tests.{eqb-true, eqb-false}
 use Rattle.base.proofs.Truth.{by-cases}
 use Rattle.base.proofs.Each.{each-below}
 use Rattle.layout.specs.Fields.{events, rows, row-word}
 use Rattle.layout.specs.Sound.{row-sound, rows-sound, sound}
 use Rattle.layout.specs.Values.{row-value, row-values, values-of}
-use Rattle.table.proofs.Sizes.{sound-rows}
-use Rattle.table.proofs.Rows.{value-before}
+use Rattle.layout.proofs.Sizes.{sound-rows}
+use Rattle.layout.proofs.Rows.{value-before}
 
 module _ (t bits : List ℕ) where
-  pub values-length : (n : ℕ) → length (row-values t bits n) ≡ n
+  values-length : (n : ℕ) → length (row-values t bits n) ≡ n
   unfolding row-values
   values-length zero = refl
   values-length (suc n) = length-append (row-values t bits n) _ ∙ (ap (λ k. k + 1) (values-length n) ∙ omega arith)

@@ -1,9 +1,9 @@
 -- A row is sound if left and right are below two numbers, by its kind: right is 0 where it is below 1.
 use mathlib.Core.Logic.{⊎-elim}
 use native.Mathlib.Omega.{arith}
-use Rattle.table.proofs.Rows.{bounds-bit, bounds-not, bounds-two}
-use Rattle.table.proofs.row_sound.Statement.{statement}
-use Rattle.table.proofs.row_sound.Tie as tie
+use Rattle.layout.proofs.Rows.{bounds-bit, bounds-not, bounds-two}
+use Rattle.layout.proofs.row_sound.Statement.{statement}
+use Rattle.layout.proofs.row_sound.Tie as tie
 
 returns : tie.Need-returns
 returns c =

@@ -6,13 +6,13 @@ use mathlib.Core.List.{List}
 use Prim.Native.Nat.{ℕ, zero, suc, _+_, _*_, _≤_, _<_}
 use lib.Dec.{leb, ltb, eqb}
 use lib.ListN.{length}
 use Rattle.layout.specs.Fields.{events, rows, event-word, row-word, guard-of, first-of, count-of, kind-of, left-of, right-of}
 
 -- "E 1 to 512, R 1 to 12,288, length exactly 4+4E+4R"
 unfoldable pub sized : List ℕ → Bool
 sized t =
-    leb 4 (length t) && (leb 1 (events t) && (leb (events t) 512 && (leb 1 (rows t) && (leb (rows t) 12288
-    && eqb (length t) (4 + 4 * events t + 4 * rows t)))))
+    leb 1 (events t) && (leb (events t) 512 && (leb 1 (rows t) && (leb (rows t) 12288
+    && eqb (length t) (4 + 4 * events t + 4 * rows t))))
 
 -- Of event e's record w, where there are m rows: "every guard below R", "either first and count both 0, or count at least 1 and first+count equal
 -- to the event's own number".

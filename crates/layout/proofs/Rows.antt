@@ -43,13 +43,7 @@ module _ (w n i : ℕ) (ok : row-sound w n i ≡ true) where
   pub right-below : 2 ≤ kind-of w → right-of w < i
   right-below h = ltb-true _ _ (and-r (ltb (left-of w) i) _ (bounds-two w n i h ∙ ok))
 
-  -- So there are the rows that it names, and it reads only the rows before it.
-  pub left-below-most : i < 12288 → (kind-of w ≡ 0 → ⊥) → left-of w < 12288
-  left-below-most h k = omega (arith, left-below k)
-
-  pub right-below-most : i < 12288 → 2 ≤ kind-of w → right-of w < 12288
-  right-below-most h k = omega (arith, right-below k)
-
+  -- So it reads only the rows before it.
   pub value-before : (bits : List ℕ) (vs : List Bool) → row-value w bits vs ≡ row-value w bits (take i vs)
   unfolding row-value
   value-before bits vs =
@@ -70,7 +64,3 @@ module _ (t bits : List ℕ) where
   unfolding row-values
   values-more values i v h q ok p =
       rw (add-one, take-suc-set values i v h, q, p, value-before (row-word t i) (events t) i ok bits values, q)
-
-  pub values-at : (values : List Bool) (m g : ℕ) → take m values ≡ row-values t bits m → g < m
-      → getD values g false ≡ getD (row-values t bits m) g false
-  values-at values m g q h = rw (← q, getD-take m values g false h)

@@ -1,17 +1,18 @@
 -- The event records of a table: what a sound one says.
 use mathlib.Core.Path.{_≡_, refl, _∙_}
-use mathlib.Core.Bool.{true, _&&_}
+use mathlib.Core.Bool.{Bool, true, _&&_}
 use mathlib.Core.List.{List}
 use mathlib.Core.Logic.{inl, inr, ⊎-elim}
 use Prim.Native.Nat.{ℕ, _+_, _<_, _≤_}
+use native.Mathlib.Numerals.{add-one}
 use native.Mathlib.Omega.{arith}
 use lib.Dec.{ltb, eqb}
 use borrow.Author.Tests.{ltb-true, eq-eqb, ne-eqb, eqb-true, eqb-false}
 use Rattle.base.proofs.Truth.{cases, and-l, and-r}
 use Rattle.layout.specs.Fields.{events, rows, event-word, guard-of, first-of, count-of}
 use Rattle.layout.specs.Sound.{event-sound, events-sound, sound, Run}
 use Rattle.base.proofs.Each.{each-below}
-use Rattle.table.proofs.Sizes.{sound-events}
+use Rattle.layout.proofs.Sizes.{sound-events}
 
 -- The run of cleared bits ends at 0 where it is empty, and at the event's own bit where it is not.
 module _ (w m e : ℕ) where
@@ -41,8 +42,14 @@ module _ (w m e : ℕ) (ok : event-sound w m e ≡ true) where
   pub run-below : first-of w + count-of w ≤ e
   run-below = ⊎-elim (λ q. omega arith) (λ q. omega arith) run-ends
 
+-- One more record judged.
+pub events-more : (t : List ℕ) (m e w : ℕ) (ok this : Bool) → m ≡ rows t → w ≡ event-word t e → this ≡ event-sound w m e → ok ≡ events-sound t e
+    → (ok && this) ≡ events-sound t (e + 1)
+unfolding events-sound
+events-more t m e w ok this M W S O = rw (add-one e, O, S, W, M)
+
 -- Of the first n records, each is sound if all are; and so each of a sound table.
-pub events-each : (t : List ℕ) (n e : ℕ) → events-sound t n ≡ true → e < n → event-sound (event-word t e) (rows t) e ≡ true
+events-each : (t : List ℕ) (n e : ℕ) → events-sound t n ≡ true → e < n → event-sound (event-word t e) (rows t) e ≡ true
 unfolding events-sound
 events-each t = each-below (events-sound t) (λ e. event-sound (event-word t e) (rows t) e) (λ k. refl)
 

@@ -1,0 +1,69 @@
+-- The fields of rows and event records that are written as numbers: what was written is read, and a row says what document 01 says of its kind.
+use mathlib.Core.Path.{_≡_}
+use mathlib.Core.Bool.{Bool, false, not, _&&_, _||_}
+use mathlib.Core.List.{List}
+use Prim.Native.Nat.{ℕ, _+_, _*_, _<_, _^_}
+use native.Mathlib.Omega.{arith}
+use lib.ListN.{getD}
+use Rattle.record.specs.Bits.{bit-at}
+use Rattle.layout.specs.Fields.{kind-unit, side-unit, guard-of, first-of, count-of, kind-of, left-of, right-of, bit-row, not-row, both-row, either-row, event-record}
+use Rattle.layout.specs.Values.{row-value}
+
+pub record Fields (w kind left right : ℕ) : Type 0 where
+  pub its-kind : kind-of w ≡ kind
+  pub its-left : left-of w ≡ left
+  pub its-right : right-of w ≡ right
+  pub small : w < 2 ^ 32
+
+-- One law for all rows: a kind and two numbers, in their places.
+pub fields : (w kind left right : ℕ) → w ≡ kind * kind-unit + left * side-unit + right → kind < 4 → left < side-unit → right < side-unit
+    → Fields w kind left right
+fields w kind left right e k l r = record {
+  its-kind = omega (arith, e, k, l, r);
+  its-left = omega (arith, e, k, l, r);
+  its-right = omega (arith, e, k, l, r);
+  small = omega (arith, e, k, l, r);
+}
+
+pub bit-fields : (e : ℕ) → e < side-unit → Fields (bit-row e) 0 e 0
+bit-fields e h = fields (bit-row e) 0 e 0 (omega arith) (omega arith) h (omega arith)
+
+pub not-fields : (a : ℕ) → a < side-unit → Fields (not-row a) 1 a 0
+not-fields a h = fields (not-row a) 1 a 0 (omega arith) (omega arith) h (omega arith)
+
+pub both-fields : (a b : ℕ) → a < side-unit → b < side-unit → Fields (both-row a b) 2 a b
+both-fields a b h k = fields (both-row a b) 2 a b (omega arith) (omega arith) h k
+
+pub either-fields : (a b : ℕ) → a < side-unit → b < side-unit → Fields (either-row a b) 3 a b
+either-fields a b h k = fields (either-row a b) 3 a b (omega arith) (omega arith) h k
+
+module _ (bits : List ℕ) (vs : List Bool) where
+  pub bit-value : (e : ℕ) → e < side-unit → row-value (bit-row e) bits vs ≡ bit-at bits e
+  unfolding row-value
+  bit-value e h = let f = bit-fields e h in rw (f .its-kind, f .its-left)
+
+  pub not-value : (a : ℕ) → a < side-unit → row-value (not-row a) bits vs ≡ not (getD vs a false)
+  unfolding row-value
+  not-value a h = let f = not-fields a h in rw (f .its-kind, f .its-left)
+
+  pub both-value : (a b : ℕ) → a < side-unit → b < side-unit → row-value (both-row a b) bits vs ≡ (getD vs a false && getD vs b false)
+  unfolding row-value
+  both-value a b h k = let f = both-fields a b h k in rw (f .its-kind, f .its-left, f .its-right)
+
+  pub either-value : (a b : ℕ) → a < side-unit → b < side-unit → row-value (either-row a b) bits vs ≡ (getD vs a false || getD vs b false)
+  unfolding row-value
+  either-value a b h k = let f = either-fields a b h k in rw (f .its-kind, f .its-left, f .its-right)
+
+pub record Record-fields (w guard first count : ℕ) : Type 0 where
+  pub its-guard : guard-of w ≡ guard
+  pub its-first : first-of w ≡ first
+  pub its-count : count-of w ≡ count
+  pub small : w < 2 ^ 32
+
+pub record-fields : (guard first count : ℕ) → guard < 16384 → first < 512 → count < 512 → Record-fields (event-record guard first count) guard first count
+record-fields guard first count g f c = record {
+  its-guard = omega (arith, g, f, c);
+  its-first = omega (arith, g, f, c);
+  its-count = omega (arith, g, f, c);
+  small = omega (arith, g, f, c);
+}

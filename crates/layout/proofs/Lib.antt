@@ -1,0 +1,7 @@
+pub mod Sizes
+pub mod Rows
+pub mod Events
+pub mod Sentences
+pub mod NextRow
+pub mod Obeyed
+pub mod Decoded
