@@ -6,7 +6,7 @@ use Prim.Native.Nat.{ℕ, _+_, _*_, _<_, _^_}
 use native.Mathlib.Omega.{arith}
 use lib.ListN.{getD}
 use Rattle.record.specs.Bits.{bit-at}
-use Rattle.layout.specs.Fields.{kind-unit, side-unit, guard-of, first-of, count-of, kind-of, left-of, right-of, bit-row, not-row, both-row, either-row, event-record}
+use Rattle.layout.specs.Fields.{run-unit, kind-unit, side-unit, guard-of, first-of, count-of, kind-of, left-of, right-of, bit-row, not-row, both-row, either-row, event-record}
 use Rattle.layout.specs.Values.{row-value}
 
 pub record Fields (w kind left right : ℕ) : Type 0 where
@@ -60,7 +60,7 @@ pub record Record-fields (w guard first count : ℕ) : Type 0 where
   pub its-count : count-of w ≡ count
   pub small : w < 2 ^ 32
 
-pub record-fields : (guard first count : ℕ) → guard < 16384 → first < 512 → count < 512 → Record-fields (event-record guard first count) guard first count
+pub record-fields : (guard first count : ℕ) → guard < 16384 → first < run-unit → count < run-unit → Record-fields (event-record guard first count) guard first count
 record-fields guard first count g f c = record {
   its-guard = omega (arith, g, f, c);
   its-first = omega (arith, g, f, c);
