@@ -3,32 +3,33 @@ use mathlib.Core.Path.{_≡_}
 use mathlib.Core.Bool.{true, false}
 use mathlib.Core.List.{List, [], _∷_, map}
 use Prim.Native.Nat.{ℕ, zero, suc}
+use Rattle.base.specs.Text.{bytes}
 use Rattle.diagram.specs.Tree.{all, one, Flow, flow, Children, none, next, Child, plain, loop, group, replicator, leaf, inner, end}
 use Rattle.diagram.specs.Count.{flow-nodes, flow-copies, flow-events}
 
 -- T: `flow(trip,1)(leaf(take)(0)loop(leaf(fill))(0)xor(leaf(send)leaf(drop))(0)leaf(free)(1))`.
 abbrev pub T : Flow
 T =
-    flow (116 ∷ 114 ∷ 105 ∷ 112 ∷ []) [] true (plain (leaf (116 ∷ 97 ∷ 107 ∷ 101 ∷ []))) false
-    (next (loop (leaf (102 ∷ 105 ∷ 108 ∷ 108 ∷ []))) false
-    (next (group one (leaf (115 ∷ 101 ∷ 110 ∷ 100 ∷ [])) (leaf (100 ∷ 114 ∷ 111 ∷ 112 ∷ [])) end) false
-    (next (plain (leaf (102 ∷ 114 ∷ 101 ∷ 101 ∷ []))) true none)))
+    flow (bytes "trip") [] true (plain (leaf (bytes "take"))) false
+    (next (loop (leaf (bytes "fill"))) false
+    (next (group one (leaf (bytes "send")) (leaf (bytes "drop")) end) false
+    (next (plain (leaf (bytes "free"))) true none)))
 
 -- U: `flow(t,1)(loop(flow(r,1)(leaf(a)(0)leaf(b)(1)))(0)leaf(c)(1))`.
 abbrev pub U : Flow
 U =
-    flow (116 ∷ []) [] true
-    (loop (inner (flow (114 ∷ []) [] true (plain (leaf (97 ∷ []))) false (next (plain (leaf (98 ∷ []))) true none)))) false
-    (next (plain (leaf (99 ∷ []))) true none)
+    flow (bytes "t") [] true
+    (loop (inner (flow (bytes "r") [] true (plain (leaf (bytes "a"))) false (next (plain (leaf (bytes "b"))) true none)))) false
+    (next (plain (leaf (bytes "c"))) true none)
 
 -- One replicator inside another: `flow(t,1)(all(p:2)(flow(r,p,1)(all(q:2)(leaf(a))(0)leaf(b)(1)))(0)leaf(c)(1))`.
 abbrev pub nested : Flow
 nested =
-    flow (116 ∷ []) [] true
-    (replicator all (112 ∷ []) 2
+    flow (bytes "t") [] true
+    (replicator all (bytes "p") 2
     (inner
-    (flow (114 ∷ []) ((112 ∷ []) ∷ []) true (replicator all (113 ∷ []) 2 (leaf (97 ∷ []))) false (next (plain (leaf (98 ∷ []))) true none))))
-    false (next (plain (leaf (99 ∷ []))) true none)
+    (flow (bytes "r") (bytes "p" ∷ []) true (replicator all (bytes "q") 2 (leaf (bytes "a"))) false (next (plain (leaf (bytes "b"))) true none))))
+    false (next (plain (leaf (bytes "c"))) true none)
 
 -- A root with the first child, a number of further children like the given one, and a number of leaves. Names and solid marks count for
 -- nothing here: the names are left out, and no child is solid.

@@ -2,8 +2,9 @@
 use mathlib.Core.Path.{_≡_}
 use mathlib.Core.Bool.{Bool, true, false}
 use mathlib.Core.List.{List, [], _∷_, map}
-use Prim.Native.Nat.{ℕ}
-use Rattle.diagram.specs.Tree.{Name, all, some, one, Flow, flow, none, next, Child, plain, loop, group, replicator, Member, leaf, inner, end}
+use Prim.Native.String.{String}
+use Rattle.base.specs.Text.{bytes}
+use Rattle.diagram.specs.Tree.{all, some, one, Flow, flow, none, next, Child, plain, loop, group, replicator, Member, leaf, inner, end}
 use Rattle.diagram.specs.Sizes.{flow-sized}
 use Rattle.diagram.specs.Names.{flow-names, differ}
 use Rattle.diagram.specs.Parameters.{flow-parameters}
@@ -14,29 +15,29 @@ use Rattle.diagram.specs.Drawings.{T, U, nested}
 abbrev pub verdict : Flow → List Bool
 verdict d = flow-sized d ∷ differ (flow-names d []) ∷ flow-parameters d [] ∷ each-flow d solid ∷ each-flow d strong ∷ []
 
--- A leaf, and a flow of one solid leaf, by numbers for names.
-abbrev lf : ℕ → Child
-lf n = plain (leaf (n ∷ []))
+-- A leaf, and a flow of one solid leaf.
+abbrev leaf-of : String → Child
+leaf-of n = plain (leaf (bytes n))
 
-abbrev box : ℕ → List Name → ℕ → Member
-box n pars m = inner (flow (n ∷ []) pars true (lf m) true none)
+abbrev flow-of : String → List String → String → Member
+flow-of n pars m = inner (flow (bytes n) (map bytes pars) true (leaf-of m) true none)
 
--- The root 0 with the child given, and the solid leaf 1.
+-- The root t with the child given, and the solid leaf a.
 abbrev beside : Child → Flow
-beside c = flow (0 ∷ []) [] true c false (next (lf 1) true none)
+beside c = flow (bytes "t") [] true c false (next (leaf-of "a") true none)
 
--- The root 0 with one child, solid.
+-- The root t with one child, solid.
 abbrev alone : Child → Flow
-alone c = flow (0 ∷ []) [] true c true none
+alone c = flow (bytes "t") [] true c true none
 
 -- The flow with one child for the par given, and a solid leaf.
-abbrev around : ℕ → List Name → ℕ → ℕ → Member → Member
-around n pars m par body = inner (flow (n ∷ []) pars true (replicator all (par ∷ []) 1 body) false (next (lf m) true none))
+abbrev around : String → List String → String → String → Member → Member
+around n pars m par body =
+    inner (flow (bytes n) (map bytes pars) true (replicator all (bytes par) 1 body) false (next (leaf-of m) true none))
 
--- The parameters 100, 101 and 102 around the body.
+-- The parameters p, q and v around the body.
 abbrev three : Member → Flow
-three body =
-    beside (replicator all (100 ∷ []) 1 (around 10 ((100 ∷ []) ∷ []) 11 101 (around 12 ((100 ∷ []) ∷ (101 ∷ []) ∷ []) 13 102 body)))
+three body = beside (replicator all (bytes "p") 1 (around "r" ("p" ∷ []) "d" "q" (around "s" ("p" ∷ "q" ∷ []) "e" "v" body)))
 
 pub record Case : Type 0 where
   pub drawing : Flow
@@ -51,37 +52,37 @@ cases =
     ∷ breaks U true true true true true
     ∷ breaks nested true true true true true
     -- sizes 0, 1, 16 and 17
-    ∷ breaks (beside (replicator all (9 ∷ []) 0 (leaf (2 ∷ [])))) false true true true true
-    ∷ breaks (beside (replicator all (9 ∷ []) 1 (leaf (2 ∷ [])))) true true true true true
-    ∷ breaks (beside (replicator one (9 ∷ []) 16 (leaf (2 ∷ [])))) true true true true true
-    ∷ breaks (beside (replicator some (9 ∷ []) 17 (leaf (2 ∷ [])))) false true true true true
+    ∷ breaks (beside (replicator all (bytes "p") 0 (leaf (bytes "b")))) false true true true true
+    ∷ breaks (beside (replicator all (bytes "p") 1 (leaf (bytes "b")))) true true true true true
+    ∷ breaks (beside (replicator one (bytes "p") 16 (leaf (bytes "b")))) true true true true true
+    ∷ breaks (beside (replicator some (bytes "p") 17 (leaf (bytes "b")))) false true true true true
     -- a leaf's name that is the root's; a member's that is a leaf's; a name that only begins like another
-    ∷ breaks (alone (lf 0)) true false true true true
-    ∷ breaks (beside (group all (leaf (2 ∷ [])) (box 3 [] 1) end)) true false true true true
-    ∷ breaks (beside (plain (leaf (1 ∷ 1 ∷ [])))) true true true true true
+    ∷ breaks (alone (leaf-of "t")) true false true true true
+    ∷ breaks (beside (group all (leaf (bytes "b")) (flow-of "c" [] "a") end)) true false true true true
+    ∷ breaks (beside (plain (leaf (bytes "aa")))) true true true true true
     -- a par that a replicator around it has; a flow that lists none, or one that is not there, or two in the wrong order
-    ∷ breaks (beside (replicator all (9 ∷ []) 1 (around 10 ((9 ∷ []) ∷ []) 11 9 (leaf (2 ∷ []))))) true true false true true
-    ∷ breaks (beside (replicator all (9 ∷ []) 1 (box 2 [] 3))) true true false true true
-    ∷ breaks (beside (plain (box 2 ((9 ∷ []) ∷ []) 3))) true true false true true
-    ∷ breaks (beside (replicator all (8 ∷ []) 1 (around 10 ((8 ∷ []) ∷ []) 11 9 (box 2 ((9 ∷ []) ∷ (8 ∷ []) ∷ []) 3)))) true true false true true
+    ∷ breaks (beside (replicator all (bytes "p") 1 (around "r" ("p" ∷ []) "d" "p" (leaf (bytes "b"))))) true true false true true
+    ∷ breaks (beside (replicator all (bytes "p") 1 (flow-of "b" [] "c"))) true true false true true
+    ∷ breaks (beside (plain (flow-of "b" ("p" ∷ []) "c"))) true true false true true
+    ∷ breaks (beside (replicator all (bytes "q") 1 (around "r" ("q" ∷ []) "d" "p" (flow-of "b" ("p" ∷ "q" ∷ []) "c")))) true true false true true
     -- three replicators around a node, and four
-    ∷ breaks (three (leaf (2 ∷ []))) true true true true true
-    ∷ breaks (three (around 14 ((100 ∷ []) ∷ (101 ∷ []) ∷ (102 ∷ []) ∷ []) 15 103 (leaf (2 ∷ [])))) true true false true true
+    ∷ breaks (three (leaf (bytes "b"))) true true true true true
+    ∷ breaks (three (around "u" ("p" ∷ "q" ∷ "v" ∷ []) "f" "w" (leaf (bytes "b")))) true true false true true
     -- no solid child, and two
-    ∷ breaks (flow (0 ∷ []) [] true (lf 1) false none) true true true false true
-    ∷ breaks (flow (0 ∷ []) [] true (lf 1) true (next (lf 2) true none)) true true true false true
+    ∷ breaks (flow (bytes "t") [] true (leaf-of "a") false none) true true true false true
+    ∷ breaks (flow (bytes "t") [] true (leaf-of "a") true (next (leaf-of "b") true none)) true true true false true
     -- a solid flow, xor and one; a solid loop, and, or, all and some
-    ∷ breaks (alone (plain (box 2 [] 3))) true true true true true
-    ∷ breaks (alone (group one (leaf (2 ∷ [])) (leaf (3 ∷ [])) end)) true true true true true
-    ∷ breaks (alone (replicator one (9 ∷ []) 2 (leaf (2 ∷ [])))) true true true true true
-    ∷ breaks (alone (loop (leaf (2 ∷ [])))) true true true false true
-    ∷ breaks (alone (group all (leaf (2 ∷ [])) (leaf (3 ∷ [])) end)) true true true false true
-    ∷ breaks (alone (group some (leaf (2 ∷ [])) (leaf (3 ∷ [])) end)) true true true false true
-    ∷ breaks (alone (replicator all (9 ∷ []) 2 (leaf (2 ∷ [])))) true true true false true
-    ∷ breaks (alone (replicator some (9 ∷ []) 2 (leaf (2 ∷ [])))) true true true false true
+    ∷ breaks (alone (plain (flow-of "b" [] "c"))) true true true true true
+    ∷ breaks (alone (group one (leaf (bytes "b")) (leaf (bytes "c")) end)) true true true true true
+    ∷ breaks (alone (replicator one (bytes "p") 2 (leaf (bytes "b")))) true true true true true
+    ∷ breaks (alone (loop (leaf (bytes "b")))) true true true false true
+    ∷ breaks (alone (group all (leaf (bytes "b")) (leaf (bytes "c")) end)) true true true false true
+    ∷ breaks (alone (group some (leaf (bytes "b")) (leaf (bytes "c")) end)) true true true false true
+    ∷ breaks (alone (replicator all (bytes "p") 2 (leaf (bytes "b")))) true true true false true
+    ∷ breaks (alone (replicator some (bytes "p") 2 (leaf (bytes "b")))) true true true false true
     -- a flow inside a loop with no solid child, and one with sw 0
-    ∷ breaks (beside (loop (inner (flow (2 ∷ []) [] true (lf 3) false none)))) true true true false true
-    ∷ breaks (beside (loop (inner (flow (2 ∷ []) [] false (lf 3) true none)))) true true true true false ∷ []
+    ∷ breaks (beside (loop (inner (flow (bytes "b") [] true (leaf-of "c") false none)))) true true true false true
+    ∷ breaks (beside (loop (inner (flow (bytes "b") [] false (leaf-of "c") true none)))) true true true true false ∷ []
 
 -- Each case keeps the rules that it says, and no others.
 abbrev pub Judged : List Case → Type 0

@@ -4,6 +4,7 @@ use mathlib.Core.Logic.{_⊎_, inl, inr, ⊎-elim}
 use mathlib.Core.Bool.{Bool, true, false, not, _&&_, _||_, cond, false≢true}
 use mathlib.Core.List.{List, [], _∷_}
 use Prim.Native.Nat.{ℕ, zero, suc, _+_, _-_, _≤_, _<_}
+use Prim.Native.Char.{code as byte}
 use native.Mathlib.Nat.{le-of-suc-le-suc, not-suc-le-zero}
 use native.Mathlib.Omega.{arith}
 use lib.Dec.{eqb, leb}
@@ -74,13 +75,13 @@ chain-bound (p ∷ l) d m h e =
 
 abbrev classes : ℕ → List (Bool × ℕ)
 classes b =
-    (eqb b 40, 1)
-    ∷ (eqb b 41, 2)
-    ∷ (eqb b 44, 3)
-    ∷ (eqb b 58, 4)
-    ∷ (between 65 90 b || between 97 122 b, 5)
-    ∷ (between 48 57 b, 6)
-    ∷ (eqb b 95, 7)
+    (eqb b (byte "("), 1)
+    ∷ (eqb b (byte ")"), 2)
+    ∷ (eqb b (byte ","), 3)
+    ∷ (eqb b (byte ":"), 4)
+    ∷ (between (byte "A") (byte "Z") b || between (byte "a") (byte "z") b, 5)
+    ∷ (between (byte "0") (byte "9") b, 6)
+    ∷ (eqb b (byte "_"), 7)
     ∷ (spacing b, 8)
     ∷ []
 
@@ -237,16 +238,16 @@ sign-is s v l f t h e =
     r .1 ∙ ap (λ (b : ℕ). b ∷ []) (eqb-true (r .0) v (only-one (eqb (r .0) v) (sym (f (r .0)) ∙ class-hit (r .0) s (r .2))))
 
 pub is-opening : (t : Name) → token t ≡ true → code t ≡ 1 → t ≡ opening
-is-opening = sign-is 1 40 (omega arith) (λ b. refl)
+is-opening = sign-is 1 (byte "(") (omega arith) (λ b. refl)
 
 pub is-closing : (t : Name) → token t ≡ true → code t ≡ 2 → t ≡ closing
-is-closing = sign-is 2 41 (omega arith) (λ b. refl)
+is-closing = sign-is 2 (byte ")") (omega arith) (λ b. refl)
 
 pub is-comma : (t : Name) → token t ≡ true → code t ≡ 3 → t ≡ comma
-is-comma = sign-is 3 44 (omega arith) (λ b. refl)
+is-comma = sign-is 3 (byte ",") (omega arith) (λ b. refl)
 
 pub is-colon : (t : Name) → token t ≡ true → code t ≡ 4 → t ≡ colon
-is-colon = sign-is 4 58 (omega arith) (λ b. refl)
+is-colon = sign-is 4 (byte ":") (omega arith) (λ b. refl)
 
 -- The other way: a token of the grammar, and its number.
 pub record Coded (t : Name) (c : ℕ) : Type 0 where

@@ -5,6 +5,7 @@ use mathlib.Core.List.{List, [], _∷_, _++_}
 use Prim.Native.Nat.{ℕ, _+_, _-_, _≤_}
 use native.Mathlib.Omega.{arith}
 use lib.Dec.{eqb, ltb}
+use Rattle.base.specs.Text.{bytes}
 use Rattle.diagram.specs.Tree.{Name, flow, none, Child, plain, leaf, inner}
 use Rattle.diagram.specs.Sizes.{child-sized}
 use Rattle.lexer.specs.Classes.{between, class-of}
@@ -36,7 +37,7 @@ good-append (v ∷ vs) ws g h = (g .0, good-append vs ws (g .1) h)
 
 -- A shortest name, leaf and flow.
 a-name : Name
-a-name = 97 ∷ []
+a-name = bytes "a"
 
 a-named : named a-name ≡ true
 unfolding a-name named keyword keywords class-of

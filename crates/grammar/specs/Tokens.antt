@@ -4,21 +4,22 @@ use mathlib.Core.List.{List, [], _∷_}
 use Prim.Native.Nat.{ℕ, _+_}
 use lib.Dec.{ltb}
 use lib.ListN.{getD}
+use Rattle.base.specs.Text.{bytes}
 use Rattle.diagram.specs.Tree.{Name, Way, all, some, one, Flow, flow, Children, none, next, Child, plain, loop, group, replicator, Member, leaf, inner, Members, end, also}
 use Rattle.lexer.specs.Words.{keywords}
 
 -- The signs ( ) , : as tokens.
 abbrev pub opening : Name
-opening = 40 ∷ []
+opening = bytes "("
 
 abbrev pub closing : Name
-closing = 41 ∷ []
+closing = bytes ")"
 
 abbrev pub comma : Name
-comma = 44 ∷ []
+comma = bytes ","
 
 abbrev pub colon : Name
-colon = 58 ∷ []
+colon = bytes ":"
 
 -- The keyword at a place of document 01's list.
 unfoldable pub key : ℕ → Name
@@ -36,8 +37,8 @@ replicator-key one = key 7
 
 -- "sw and ref are 0 or 1"
 abbrev pub bit : Bool → Name
-bit false = 48 ∷ []
-bit true = 49 ∷ []
+bit false = bytes "0"
+bit true = bytes "1"
 
 -- "size is 1 to 16 without leading zero"
 unfoldable pub digits : ℕ → Name

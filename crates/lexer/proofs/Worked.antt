@@ -4,9 +4,9 @@ use Rattle.lexer.specs.Classes.{class-of}
 use Rattle.lexer.specs.Words.{front}
 use Rattle.lexer.specs.Spans.{width, spans, spans-of}
 use Rattle.lexer.specs.Scanned.{first-long, scan-of}
-use Rattle.lexer.specs.Worked.{bytes, texts, Classed, Scanned}
+use Rattle.lexer.specs.Worked.{byte-classes, texts, Classed, Scanned}
 
-pub classed : Classed bytes
+pub classed : Classed byte-classes
 unfolding class-of
 classed = refl
 

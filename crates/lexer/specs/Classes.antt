@@ -2,6 +2,7 @@
 -- ( ) , : , blank (32 or 10), or foreign."
 use mathlib.Core.Bool.{Bool, _&&_, _||_, cond}
 use Prim.Native.Nat.{ℕ}
+use Prim.Native.Char.{code as byte}
 use lib.Dec.{eqb, leb}
 
 abbrev pub between : ℕ → ℕ → ℕ → Bool
@@ -14,13 +15,13 @@ spacing b = eqb b 32 || eqb b 10
 -- The classes by number: 0 foreign, 1 to 4 the signs ( ) , : in this order, 5 letter, 6 digit, 7 underscore, 8 blank.
 unfoldable pub class-of : ℕ → ℕ
 class-of b =
-    cond (eqb b 40) 1
-    (cond (eqb b 41) 2
-    (cond (eqb b 44) 3
-    (cond (eqb b 58) 4
-    (cond (between 65 90 b || between 97 122 b) 5
-    (cond (between 48 57 b) 6
-    (cond (eqb b 95) 7
+    cond (eqb b (byte "(")) 1
+    (cond (eqb b (byte ")")) 2
+    (cond (eqb b (byte ",")) 3
+    (cond (eqb b (byte ":")) 4
+    (cond (between (byte "A") (byte "Z") b || between (byte "a") (byte "z") b) 5
+    (cond (between (byte "0") (byte "9") b) 6
+    (cond (eqb b (byte "_")) 7
     (cond (spacing b) 8 0)))))))
 
 -- The byte's class is one of those from a to b.

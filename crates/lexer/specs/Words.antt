@@ -1,9 +1,10 @@
 -- Document 01, "The text": words, keywords and names, and the number that stands for a token in the reader.
 use mathlib.Core.Bool.{Bool, true, false, _&&_, cond}
-use mathlib.Core.List.{List, [], _∷_}
+use mathlib.Core.List.{List, [], _∷_, map}
 use Prim.Native.Nat.{ℕ, suc, _-_}
 use lib.Dec.{eqb, ltb, leb}
 use lib.ListN.{length, getD, take, drop}
+use Rattle.base.specs.Text.{bytes}
 use Rattle.diagram.specs.Tree.{Name}
 use Rattle.diagram.specs.Names.{same}
 use Rattle.lexer.specs.Classes.{between, class-of, letter, worded, blank}
@@ -23,17 +24,7 @@ word-at text at = take (front worded (drop at text)) (drop at text)
 
 -- "Keywords: flow leaf and or xor all some one loop."
 unfoldable pub keywords : List Name
-keywords =
-    (102 ∷ 108 ∷ 111 ∷ 119 ∷ [])
-    ∷ (108 ∷ 101 ∷ 97 ∷ 102 ∷ [])
-    ∷ (97 ∷ 110 ∷ 100 ∷ [])
-    ∷ (111 ∷ 114 ∷ [])
-    ∷ (120 ∷ 111 ∷ 114 ∷ [])
-    ∷ (97 ∷ 108 ∷ 108 ∷ [])
-    ∷ (115 ∷ 111 ∷ 109 ∷ 101 ∷ [])
-    ∷ (111 ∷ 110 ∷ 101 ∷ [])
-    ∷ (108 ∷ 111 ∷ 111 ∷ 112 ∷ [])
-    ∷ []
+keywords = map bytes ("flow" ∷ "leaf" ∷ "and" ∷ "or" ∷ "xor" ∷ "all" ∷ "some" ∷ "one" ∷ "loop" ∷ [])
 
 -- The place of a word in a list whose first place is k, and 0 where it is not there.
 abbrev pub place-in : List Name → ℕ → Name → ℕ
