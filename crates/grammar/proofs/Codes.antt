@@ -15,7 +15,7 @@ use Rattle.diagram.specs.Names.{same}
 use Rattle.base.proofs.Truth.{clash, cases, and-l, and-r, and-i, not-e}
 use Rattle.base.proofs.Decided.{same-decides}
 use Rattle.lexer.specs.Classes.{between, spacing, class-of, worded, blank}
-use Rattle.lexer.specs.Words.{keywords, place-in, keyword, short, every, lettered, named, numeral, word-code, code}
+use Rattle.lexer.specs.Words.{keywords, numerals, place-in, keyword, short, every, lettered, named, numeral, word-code, code}
 use Rattle.grammar.specs.Tokens.{opening, closing, comma, colon, key, bit, digits}
 use Rattle.grammar.specs.Derives.{token}
 
@@ -103,18 +103,20 @@ sign-byte b s = hit (classes b) 0 s
 class-hit : (b s : ℕ) → class-of b ≡ s → sign-byte b s ≡ true
 class-hit b s e = chain-hit (classes b) 0 s (sym (class-chain b) ∙ e)
 
--- A keyword's number is its place, counted from k on.
-abbrev Placed : List Name → ℕ → Name → ℕ → Type 0
-Placed ns k w p = (p ≡ 0) ⊎ ((k ≤ p) × (p < k + length ns) × (w ≡ getD ns (p - k) []))
+-- A word's number is its place among words, counted from k on.
+abbrev Placed : List Name → ℕ → ℕ → Name → ℕ → Type 0
+Placed ns k none w p = (p ≡ none) ⊎ ((k ≤ p) × (p < k + length ns) × (w ≡ getD ns (p - k) []))
 
-placed : (ns : List Name) (k : ℕ) (w : Name) → Placed ns k w (place-in ns k w)
-placed [] k w = inl refl
-placed (n ∷ ns) k w = chosen (same w n) k (place-in ns (suc k) w) (Placed (n ∷ ns) k w) here (λ q. later (place-in ns (suc k) w) (placed ns (suc k) w))
+placed : (ns : List Name) (k none : ℕ) (w : Name) → Placed ns k none w (place-in ns k none w)
+placed [] k none w = inl refl
+placed (n ∷ ns) k none w =
+    chosen (same w n) k (place-in ns (suc k) none w) (Placed (n ∷ ns) k none w) here
+    (λ q. later (place-in ns (suc k) none w) (placed ns (suc k) none w))
   where
-    here : same w n ≡ true → Placed (n ∷ ns) k w k
+    here : same w n ≡ true → Placed (n ∷ ns) k none w k
     here q = let z : k - k ≡ 0 = omega arith in inr (omega arith, omega arith, rw z (same-decides w n .0 q))
 
-    later : (p : ℕ) → Placed ns (suc k) w p → Placed (n ∷ ns) k w p
+    later : (p : ℕ) → Placed ns (suc k) none w p → Placed (n ∷ ns) k none w p
     later p (inl z) = inl z
     later p (inr h) =
         let g : suc k ≤ p = h .0 in
@@ -122,33 +124,13 @@ placed (n ∷ ns) k w = chosen (same w n) k (place-in ns (suc k) w) (Placed (n �
         let z : p - k ≡ suc (p - suc k) = omega arith in
         inr (omega arith, omega arith, rw z (h .2))
 
-keyword-placed : (w : Name) → Placed keywords 7 w (keyword w)
+keyword-placed : (w : Name) → Placed keywords 7 0 w (keyword w)
 unfolding keyword
-keyword-placed w = placed keywords 7 w
+keyword-placed w = placed keywords 7 0 w
 
--- A numeral's number is its value, counted from 16 on.
-abbrev Valued : Name → ℕ → Type 0
-Valued w n = (n ≡ 5) ⊎ ((16 ≤ n) × (n ≤ 32) × (w ≡ digits (n - 16)))
-
-numeral-valued : (w : Name) → Valued w (numeral w)
-unfolding numeral digits
-numeral-valued [] = inl refl
-numeral-valued (x ∷ []) = chosen (between 48 57 x) (x - 32) 5 (Valued (x ∷ [])) small (λ q. inl refl)
-  where
-    small : between 48 57 x ≡ true → Valued (x ∷ []) (x - 32)
-    small q =
-        let r = in-range 48 57 x q in
-        let z : x ≡ 48 + (x - 32 - 16) = omega arith in
-        inr (omega arith, omega arith, rw (lt-ltb (x - 32 - 16) 10 (omega arith)) (ap (λ (y : ℕ). y ∷ []) z))
-numeral-valued (x ∷ y ∷ []) = chosen (eqb x 49 && between 48 54 y) (y - 22) 5 (Valued (x ∷ y ∷ [])) large (λ q. inl refl)
-  where
-    large : (eqb x 49 && between 48 54 y) ≡ true → Valued (x ∷ y ∷ []) (y - 22)
-    large q =
-        let r = in-range 48 54 y (and-r (eqb x 49) (between 48 54 y) q) in
-        let e : x ≡ 49 = eqb-true x 49 (and-l (eqb x 49) (between 48 54 y) q) in
-        let z : y ≡ 38 + (y - 22 - 16) = omega arith in
-        inr (omega arith, omega arith, rw (le-ltb (y - 22 - 16) 10 (omega arith)) (ap₂ (λ (a b : ℕ). a ∷ b ∷ []) e z))
-numeral-valued (x ∷ y ∷ z ∷ w) = inl refl
+numeral-placed : (w : Name) → Placed numerals 16 5 w (numeral w)
+unfolding numeral
+numeral-placed w = placed numerals 16 5 w
 
 -- What a token can be, by its number.
 pub data Sort (t : Name) : Type 0 where
@@ -159,11 +141,11 @@ pub data Sort (t : Name) : Type 0 where
   valued : 16 ≤ code t → code t ≤ 32 → t ≡ digits (code t - 16) → Sort t
 
 plain-sort : (t : Name) → every worded t ≡ true → keyword t ≡ 0 → (l s : Bool) → lettered t ≡ l → short t ≡ s → code t ≡ cond l (cond s 6 5) (numeral t) → Sort t
-unfolding named
+unfolding named digits
 plain-sort t v z true true hl hs e = naming e (and-i (and-i hl v) (and-i hs (eq-eqb (keyword t) 0 z)))
 plain-sort t v z true false hl hs e = useless e
 plain-sort t v z false s hl hs e =
-    ⊎-elim (λ h. useless (e ∙ h)) (λ h. valued (rw e (h .0)) (rw e (h .1)) (rw e (h .2))) (numeral-valued t)
+    ⊎-elim (λ h. useless (e ∙ h)) (λ h. valued (rw e (h .0)) (rw e (le-of-suc-le-suc (h .1))) (rw e (h .2))) (numeral-placed t)
 
 word-sort : (t : Name) → code t ≡ word-code t → every worded t ≡ true → Sort t
 unfolding word-code key keywords

@@ -1,12 +1,11 @@
 -- Document 01, "The text": the tokens of each part of the grammar, written before the tokens given.
-use mathlib.Core.Bool.{Bool, true, false, cond}
+use mathlib.Core.Bool.{Bool, true, false}
 use mathlib.Core.List.{List, [], _∷_}
-use Prim.Native.Nat.{ℕ, _+_}
-use lib.Dec.{ltb}
+use Prim.Native.Nat.{ℕ}
 use lib.ListN.{getD}
 use Rattle.base.specs.Text.{bytes}
 use Rattle.diagram.specs.Tree.{Name, Way, all, some, one, Flow, flow, Children, none, next, Child, plain, loop, group, replicator, Member, leaf, inner, Members, end, also}
-use Rattle.lexer.specs.Words.{keywords}
+use Rattle.lexer.specs.Words.{keywords, numerals}
 
 -- The signs ( ) , : as tokens.
 abbrev pub opening : Name
@@ -42,7 +41,7 @@ bit true = bytes "1"
 
 -- "size is 1 to 16 without leading zero"
 unfoldable pub digits : ℕ → Name
-digits n = cond (ltb n 10) ((48 + n) ∷ []) (49 ∷ (38 + n) ∷ [])
+digits n = getD numerals n []
 
 -- The pars of a flow, each after a comma.
 abbrev pub pars-tokens : List Name → List Name → List Name

@@ -1,20 +1,20 @@
--- Two words, byte by byte.
-use mathlib.Core.Path.{_≡_, refl, sym, _∙_, ap, ap₂, subst}
-use mathlib.Core.Logic.{⊎-elim}
+-- Words that start at a place of a text.
+use mathlib.Core.Path.{_≡_, sym, _∙_, ap}
 use mathlib.Core.Bool.{true, false, false≢true}
 use mathlib.Core.List.{List, [], _∷_}
-use Prim.Native.Nat.{ℕ, suc, _+_, _≤_, _<_}
+use Prim.Native.Nat.{ℕ, suc, _+_, _-_, _≤_, _<_}
 use native.Mathlib.Numerals.{add-one}
+use native.Mathlib.Omega.{arith}
 use lib.Dec.{ltb}
-use lib.ListN.{length, getD, take, drop, drop-of-length-le}
+use lib.ListN.{length, getD, take, drop, length-drop, drop-of-length-le, List·getD-eq-default}
 use lib.Seq.{drop-cons}
-use borrow.Author.Tests.{eq-eqb, ltb-true, ltb-false}
+use borrow.Author.Tests.{ltb-true, ltb-false}
 use Rattle.diagram.specs.Tree.{Name}
-use Rattle.diagram.specs.Names.{same}
-use Rattle.base.proofs.Compared.{other-byte}
-use Rattle.base.proofs.Truth.{cases}
-use Rattle.lexer.specs.Classes.{class-of, worded}
+use Rattle.base.proofs.Truth.{by-cases}
+use Rattle.lexer.specs.Classes.{between, class-of, worded}
 use Rattle.lexer.specs.Words.{front, word-at}
+use Rattle.lexer.proofs.Front.{front-le}
+use Rattle.lexer.proofs.Between.{between-in}
 
 -- A word that starts with a byte goes on after it.
 abbrev run-of : List ℕ → Name
@@ -37,40 +37,45 @@ data Starts (text : List ℕ) (at : ℕ) : Type 0 where
   none : word-at text at ≡ [] → Starts text at
   some : at < length text → worded (getD text at 0) ≡ true → word-at text at ≡ getD text at 0 ∷ word-at text (at + 1) → Starts text at
 
-past-none : (text : List ℕ) (at : ℕ) → length text ≤ at → word-at text at ≡ []
+pub past-none : (text : List ℕ) (at : ℕ) → length text ≤ at → word-at text at ≡ []
 unfolding front
 past-none text at h = ap run-of (drop-of-length-le text h)
 
-module _ (text : List ℕ) (at : ℕ) (h : at < length text) where
-  here : drop at text ≡ getD text at 0 ∷ drop (suc at) text
-  here = drop-cons text at 0 h
+-- A word as a part of the text, by its end.
+pub word-inside : (text : List ℕ) (at : ℕ) {e : ℕ} → at ≤ length text → e ≡ at + front worded (drop at text) → e ≤ length text
+word-inside text at h E = omega (arith, front-le worded (drop at text), length-drop at text)
 
-  no-word : worded (getD text at 0) ≡ false → word-at text at ≡ []
-  no-word e = ap run-of here ∙ run-none (getD text at 0) (drop (suc at) text) e
+pub word-part : (text : List ℕ) (at : ℕ) {e : ℕ} → e ≡ at + front worded (drop at text) → take (e - at) (drop at text) ≡ word-at text at
+word-part text at {e} E = let n : e - at ≡ front worded (drop at text) = omega arith in rw n
 
-  word-on : worded (getD text at 0) ≡ true → word-at text at ≡ getD text at 0 ∷ word-at text (at + 1)
-  word-on e =
-      ap run-of here ∙ (run-more (getD text at 0) (drop (suc at) text) e ∙ ap (λ (k : ℕ). getD text at 0 ∷ word-at text k) (sym (add-one at)))
+-- A word starts where a word's byte stands, which past the end is none.
+no-word : (text : List ℕ) (at : ℕ) → worded (getD text at 0) ≡ false → word-at text at ≡ []
+no-word text at e =
+    by-cases (ltb at (length text))
+    (λ q. ap run-of (drop-cons text at 0 (ltb-true at (length text) q)) ∙ run-none (getD text at 0) (drop (suc at) text) e)
+    (λ q. past-none text at (ltb-false at (length text) q))
+
+a-word : (text : List ℕ) (at : ℕ) → worded (getD text at 0) ≡ true → at < length text
+a-word text at e =
+    by-cases (ltb at (length text)) (ltb-true at (length text))
+    (λ q. absurd (zero-no-word (rw (List·getD-eq-default text 0 (ltb-false at (length text) q)) at e)))
+
+word-on : (text : List ℕ) (at : ℕ) → worded (getD text at 0) ≡ true → word-at text at ≡ getD text at 0 ∷ word-at text (at + 1)
+word-on text at e =
+    ap run-of (drop-cons text at 0 (a-word text at e))
+    ∙ (run-more (getD text at 0) (drop (suc at) text) e ∙ ap (λ (k : ℕ). getD text at 0 ∷ word-at text k) (sym (add-one at)))
 
 starts : (text : List ℕ) (at : ℕ) → Starts text at
-starts text at = ⊎-elim (λ q. inside (ltb-true at (length text) q)) (λ q. none (past-none text at (ltb-false at (length text) q))) (cases (ltb at (length text)))
-  where
-    inside : at < length text → Starts text at
-    inside h = ⊎-elim (λ e. some h e (word-on text at h e)) (λ e. none (no-word text at h e)) (cases (worded (getD text at 0)))
+starts text at =
+    by-cases (worded (getD text at 0)) (λ e. some (a-word text at e) e (word-on text at e)) (λ e. none (no-word text at e))
 
--- The first byte of a word, by the three ways to it.
-pub letter-past : (text : List ℕ) (at : ℕ) → length text ≤ at → 0 ≡ getD (word-at text at) 0 0
-letter-past text at h = rw (past-none text at h)
+-- The first byte of a word, or none, by the class c of what stands there.
+module _ (text : List ℕ) (at : ℕ) {b c : ℕ} (B : b ≡ getD text at 0) (C : c ≡ class-of b) where
+  pub letter-none : between 5 7 c ≡ false → 0 ≡ getD (word-at text at) 0 0
+  letter-none f = rw (no-word text at (rw (← B, ← C) f))
 
-pub letter-none : (text : List ℕ) (at : ℕ) → at < length text → worded (getD text at 0) ≡ false → 0 ≡ getD (word-at text at) 0 0
-letter-none text at h e = rw (no-word text at h e)
-
-pub letter-some : (text : List ℕ) (at : ℕ) → at < length text → worded (getD text at 0) ≡ true → getD text at 0 ≡ getD (word-at text at) 0 0
-letter-some text at h e = rw (word-on text at h e)
-
--- Words that start otherwise are not the same.
-pub first-differ : (v w : Name) → (getD v 0 0 ≡ getD w 0 0 → ⊥) → same v w ≡ false
-first-differ v w h = sym (other-byte v w 0 h)
+  pub letter-some : 5 ≤ c → c ≤ 7 → b ≡ getD (word-at text at) 0 0
+  letter-some l u = B ∙ rw (word-on text at (rw (← B, ← C) (between-in 5 7 c l u)))
 
 -- A word whose first byte is 0 is none.
 pub zero-none : (text : List ℕ) (at : ℕ) → getD (word-at text at) 0 0 ≡ 0 → word-at text at ≡ []
@@ -78,13 +83,7 @@ zero-none text at e = go (starts text at)
   where
     go : Starts text at → word-at text at ≡ []
     go (none q) = q
-    go (some h w q) = absurd (zero-no-word (subst (λ (b : ℕ). worded b ≡ true) (sym (letter-first q) ∙ e) w))
-      where
-        letter-first : {b : ℕ} {v u : Name} → v ≡ b ∷ u → getD v 0 0 ≡ b
-        letter-first q = ap (λ (v : Name). getD v 0 0) q
-
-pub both-none : (text : List ℕ) (i j x : ℕ) → x ≡ getD (word-at text i) 0 0 → x ≡ getD (word-at text j) 0 0 → x ≡ 0 → same (word-at text i) (word-at text j) ≡ true
-both-none text i j x e f z = rw (zero-none text i (sym e ∙ z), zero-none text j (sym f ∙ z))
+    go (some h w q) = absurd (zero-no-word (rw (sym (ap (λ (v : Name). getD v 0 0) q) ∙ e) at w))
 
 -- A word that has a first byte stands in the text, and goes on.
 pub some-on : (text : List ℕ) (at x : ℕ) → x ≡ getD (word-at text at) 0 0 → (x ≡ 0 → ⊥) → (at < length text) × (word-at text at ≡ x ∷ word-at text (at + 1))
@@ -93,10 +92,3 @@ some-on text at x e h = go (starts text at)
     go : Starts text at → (at < length text) × (word-at text at ≡ x ∷ word-at text (at + 1))
     go (none q) = absurd (h (e ∙ ap (λ (v : Name). getD v 0 0) q))
     go (some l w q) = (l, q ∙ ap (λ (b : ℕ). b ∷ word-at text (at + 1)) (sym (e ∙ ap (λ (v : Name). getD v 0 0) q)))
-
-same-cons : (x : ℕ) (v w : Name) → same (x ∷ v) (x ∷ w) ≡ same v w
-same-cons x v w = rw (eq-eqb x x refl)
-
-pub both-on : (text : List ℕ) (i j x : ℕ) → x ≡ getD (word-at text i) 0 0 → x ≡ getD (word-at text j) 0 0 → (x ≡ 0 → ⊥)
-    → same (word-at text i) (word-at text j) ≡ same (word-at text (i + 1)) (word-at text (j + 1))
-both-on text i j x e f h = ap₂ same (some-on text i x e h .1) (some-on text j x f h .1) ∙ same-cons x (word-at text (i + 1)) (word-at text (j + 1))

@@ -6,14 +6,13 @@ use native.Mathlib.Nat.{add-zero}
 use native.Mathlib.Numerals.{add-one}
 use native.Mathlib.Omega.{arith}
 use lib.ListN.{length, take, drop, getD, set, length-drop}
-use lib.Seq.{getD-drop, drop-drop, take-all}
+use lib.Seq.{getD-drop, drop-drop, take-all, length-take-le}
 use borrow.Author.Tests.{le-leb, lt-leb}
 use Rattle.base.specs.Fill.{fill}
 use Rattle.base.proofs.Filled.{fill-none, fill-more}
 use Rattle.lexer.specs.Words.{blanks, code}
 use Rattle.lexer.specs.Spans.{Span, width, spans-of, codes, places}
 use Rattle.lexer.specs.Scanned.{first-long}
-use Rattle.lexer.proofs.Slices.{bytes-length}
 use Rattle.lexer.proofs.Steps.{width-some, width-le, from, from-start, from-end, from-skip, from-token}
 use Rattle.lexer.proofs.Spans.{no-span, token-at, code-at, place-at, codes-length, places-length}
 
@@ -40,7 +39,7 @@ short-start text i e =
 
 module _ (text : List ℕ) (at e : ℕ) (so : Short-so-far text at) (h : at < length text) (E : e ≡ at + width (drop at text)) where
   bytes-width : length (take (e - at) (drop at text)) ≡ e - at
-  bytes-width = let a = end-after text at e h E in bytes-length text at e (a .0) (a .1)
+  bytes-width = let a = end-after text at e h E in length-take-le (e - at) (drop at text) (rw (length-drop at text) (omega arith))
 
   long-now : first-long (spans-of text) (length text) ≡ first-long (record { place = at; bytes = take (e - at) (drop at text) } ∷ from text e) (length text)
   long-now = so .1 ∙ ap (λ (ss : List Span). first-long ss (length text)) (from-token text at e h (so .0) E)

@@ -2,7 +2,6 @@ mod Table
 mod Known
 pub mod Front
 pub mod Between
-mod Slices
 mod Ways
 pub mod Steps
 pub mod Spans

@@ -1,44 +1,64 @@
--- What each way through `keyword`, `numeral`, `word_code`, `code` and `token_end` comes to, with no record of the code. Assumes nothing.
+-- What each way through `place`, `code` and `token_end` comes to, with no record of the code. Assumes nothing.
 use mathlib.Core.Path.{_≡_, refl, sym, _∙_}
-use mathlib.Core.Bool.{Bool, true, false, cond}
+use mathlib.Core.Bool.{Bool, true, false, _&&_, cond}
 use mathlib.Core.List.{List, [], _∷_}
 use Prim.Native.Nat.{ℕ, suc, _+_, _-_, _≤_, _<_}
+use native.Mathlib.Numerals.{add-one}
 use native.Mathlib.Omega.{arith}
-use lib.ListN.{length, take, drop, getD, length-drop}
-use borrow.Author.Tests.{eq-eqb, ne-eqb, lt-ltb, le-ltb, le-leb, lt-leb}
+use lib.Dec.{leb}
+use lib.ListN.{length, take, drop, getD, length-drop, drop-of-length-le}
+use lib.Seq.{drop-cons}
+use borrow.Author.Tests.{lt-ltb, le-ltb, le-leb, lt-leb, leb-true}
 use Rattle.diagram.specs.Tree.{Name}
 use Rattle.diagram.specs.Names.{same}
-use Rattle.base.proofs.Truth.{is-false}
+use Rattle.base.proofs.Truth.{and-l, and-r, is-false}
 use Rattle.lexer.specs.Classes.{between, class-of, letter, worded}
-use Rattle.lexer.specs.Words.{front, place-in, keywords, keyword, lettered, numeral, word-code, code}
+use Rattle.lexer.specs.Words.{front, place-in, keyword, lettered, numeral, word-code, code}
+use Rattle.lexer.specs.code.Cuts.{cuts, rising}
 use Rattle.lexer.specs.Spans.{width}
 use Rattle.lexer.proofs.Between.{between-in, between-from, between-to}
-use Rattle.lexer.proofs.Slices.{bytes-length, first-byte, one-byte, two-bytes}
 
--- What is left to test of a word: whether it is one of these, whose first place is k.
-pub record From (w : Name) (ns : List Name) (k : ℕ) : Type 0 where
-  pub is : keyword w ≡ place-in ns k w
+-- What is left to look at: the words from the k-th on, the first of which starts at s and has the number c.
+pub record Left (word words ends : List ℕ) (first none c s k : ℕ) : Type 0 where
+  pub place : place-in (cuts words 0 ends) first none word ≡ place-in (cuts words s (drop k ends)) c none word
+  pub ordered : rising s (drop k ends) (length words) ≡ true
+  pub counted : first + k ≡ c
 
-pub all-left : {w : Name} → From w keywords 7
-unfolding keyword
-all-left = record { is = refl }
+module _ {word words ends : List ℕ} {first none : ℕ} where
+  pub all-left : rising 0 ends (length words) ≡ true → Left word words ends first none first 0 0
+  all-left o = record { place = refl; ordered = o; counted = omega arith }
 
-pub found : {w n : Name} {ns : List Name} {k : ℕ} {b : Bool} → From w (n ∷ ns) k → b ≡ same w n → b ≡ true → k ≡ keyword w
-found {w} {n} {ns} {k} {b} p e t = let q : same w n ≡ true = sym e ∙ t in sym (p .is ∙ rw q)
+  module _ {c s k e : ℕ} (l : Left word words ends first none c s k) (h : k < length ends) (E : e ≡ getD ends k 0) where
+    order : ((leb s e && leb e (length words)) && rising (suc e) (drop (suc k) ends) (length words)) ≡ true
+    unfolding rising
+    order = rw (E) (rw (drop-cons ends k 0 h) at (l .ordered))
 
-pub onward : {w n : Name} {ns : List Name} {k : ℕ} {b : Bool} → From w (n ∷ ns) k → b ≡ same w n → b ≡ false → From w ns (suc k)
-onward {w} {n} {ns} {k} {b} p e f = let q : same w n ≡ false = sym e ∙ f in record { is = p .is ∙ rw q }
+    pub in-order : (s ≤ e) × (e ≤ length words)
+    in-order =
+        let b = and-l (leb s e && leb e (length words)) (rising (suc e) (drop (suc k) ends) (length words)) order in
+        (leb-true s e (and-l (leb s e) (leb e (length words)) b), leb-true e (length words) (and-r (leb s e) (leb e (length words)) b))
 
-pub none-left : {w : Name} {k : ℕ} → From w [] k → 0 ≡ keyword w
-none-left p = sym (p .is)
+    here : place-in (cuts words 0 ends) first none word
+        ≡ cond (same word (take (e - s) (drop s words))) c (place-in (cuts words (suc e) (drop (suc k) ends)) (suc c) none word)
+    unfolding cuts
+    here = l .place ∙ rw (drop-cons ends k 0 h, ← E)
 
--- A numeral has one byte or two.
-numeral-other : (w : Name) → (length w ≡ 1 → ⊥) → (length w ≡ 2 → ⊥) → 5 ≡ numeral w
-unfolding numeral
-numeral-other [] f g = refl
-numeral-other (x ∷ []) f g = absurd (f refl)
-numeral-other (x ∷ y ∷ []) f g = absurd (g refl)
-numeral-other (x ∷ y ∷ z ∷ w) f g = refl
+    pub found : {b : Bool} → b ≡ same word (take (e - s) (drop s words)) → b ≡ true → c ≡ place-in (cuts words 0 ends) first none word
+    found q t = let z : same word (take (e - s) (drop s words)) ≡ true = sym q ∙ t in sym (here ∙ rw z)
+
+    pub onward : {b : Bool} → b ≡ same word (take (e - s) (drop s words)) → b ≡ false → Left word words ends first none (c + 1) (e + 1) (k + 1)
+    onward q f =
+        let z : same word (take (e - s) (drop s words)) ≡ false = sym q ∙ f in
+        rw (add-one c, add-one e, add-one k)
+        (record {
+          place = here ∙ rw z;
+          ordered = and-r (leb s e && leb e (length words)) (rising (suc e) (drop (suc k) ends) (length words)) order;
+          counted = omega (arith, l .counted);
+        })
+
+  pub none-left : {c s k : ℕ} → Left word words ends first none c s k → length ends ≤ k → none ≡ place-in (cuts words 0 ends) first none word
+  unfolding cuts
+  none-left l h = sym (l .place ∙ rw (drop-of-length-le ends h))
 
 pub lettered-first : (w : Name) → lettered w ≡ letter (getD w 0 0)
 unfolding class-of
@@ -48,57 +68,33 @@ lettered-first (b ∷ bs) = refl
 not-five : (c : ℕ) → (c ≡ 5 → ⊥) → between 5 5 c ≡ false
 not-five c f = is-false (between 5 5 c) (λ e. let h = between-from 5 5 c e in let l = between-to 5 5 c e in f (omega arith))
 
-module _ (text : List ℕ) (a e : ℕ) (up : a < e) (fits : e ≤ length text) where
-  pub no-digit : e - a ≡ 1 → between 48 57 (getD text a 0) ≡ false → 5 ≡ numeral (take (e - a) (drop a text))
-  unfolding numeral
-  no-digit n f = rw (one-byte text a e up fits n, f)
+-- A token whose first byte has the class c.
+module _ (w : Name) {b c : ℕ} (B : b ≡ getD w 0 0) (C : c ≡ class-of b) where
+  pub a-sign : between 5 7 c ≡ false → c ≡ code w
+  unfolding code
+  a-sign f = rw (← B, ← C, f)
 
-  pub digit : e - a ≡ 1 → 48 ≤ getD text a 0 → getD text a 0 ≤ 57 → getD text a 0 - 32 ≡ numeral (take (e - a) (drop a text))
-  unfolding numeral
-  digit n h l = rw (one-byte text a e up fits n, between-in 48 57 (getD text a 0) h l)
+  module _ (l : 5 ≤ c) (u : c ≤ 7) {k : ℕ} (K : k ≡ keyword w) where
+    a-word : code w ≡ word-code w
+    unfolding code
+    a-word = rw (← B, ← C, between-in 5 7 c l u)
 
-  pub no-numeral : (e - a ≡ 1 → ⊥) → (e - a ≡ 2 → ⊥) → 5 ≡ numeral (take (e - a) (drop a text))
-  no-numeral f g = let l = bytes-length text a e up fits in numeral-other (take (e - a) (drop a text)) (λ q. f (sym l ∙ q)) (λ q. g (sym l ∙ q))
-
-  pub no-one : e - a ≡ 2 → (getD text a 0 ≡ 49 → ⊥) → 5 ≡ numeral (take (e - a) (drop a text))
-  unfolding numeral
-  no-one n f = rw (two-bytes text a e up fits n, ne-eqb (getD text a 0) 49 f)
-
-  module _ (n : e - a ≡ 2) (one : getD text a 0 ≡ 49) where
-    pub no-teen : between 48 54 (getD text (a + 1) 0) ≡ false → 5 ≡ numeral (take (e - a) (drop a text))
-    unfolding numeral
-    no-teen f = rw (two-bytes text a e up fits n, eq-eqb (getD text a 0) 49 one, f)
-
-    pub teen : 48 ≤ getD text (a + 1) 0 → getD text (a + 1) 0 ≤ 54 → getD text (a + 1) 0 - 22 ≡ numeral (take (e - a) (drop a text))
-    unfolding numeral
-    teen h l = rw (two-bytes text a e up fits n, eq-eqb (getD text a 0) 49 one, between-in 48 54 (getD text (a + 1) 0) h l)
-
-  module _ (k : ℕ) (K : k ≡ keyword (take (e - a) (drop a text))) where
-    pub a-keyword : 0 < k → k ≡ word-code (take (e - a) (drop a text))
+    pub a-keyword : 0 < k → k ≡ code w
     unfolding word-code
-    a-keyword h = rw (← K, lt-ltb 0 k h)
+    a-keyword h = rw (a-word, ← K, lt-ltb 0 k h)
 
-    module _ (c : ℕ) (C : c ≡ class-of (getD text a 0)) (none : k ≤ 0) where
-      pub a-numeral : (r : ℕ) → (c ≡ 5 → ⊥) → r ≡ numeral (take (e - a) (drop a text)) → r ≡ word-code (take (e - a) (drop a text))
+    module _ (none : k ≤ 0) where
+      pub a-numeral : {r : ℕ} → (c ≡ 5 → ⊥) → r ≡ numeral w → r ≡ code w
       unfolding word-code
-      a-numeral r f q = rw (← K, le-ltb 0 k none, lettered-first, first-byte text a e up fits, ← C, not-five c f) q
+      a-numeral f q = rw (a-word, ← K, le-ltb 0 k none, lettered-first, ← B, ← C, not-five c f) q
 
-      pub a-long : c ≡ 5 → 24 < e - a → 5 ≡ word-code (take (e - a) (drop a text))
+      pub a-long : c ≡ 5 → 24 < length w → 5 ≡ code w
       unfolding word-code
-      a-long f l = rw (← K, le-ltb 0 k none, lettered-first, first-byte text a e up fits, ← C, f, bytes-length text a e up fits, lt-leb (e - a) 24 l)
+      a-long f h = rw (a-word, ← K, le-ltb 0 k none, lettered-first, ← B, ← C, f, lt-leb (length w) 24 h)
 
-      pub a-name : c ≡ 5 → e - a ≤ 24 → 6 ≡ word-code (take (e - a) (drop a text))
+      pub a-name : c ≡ 5 → length w ≤ 24 → 6 ≡ code w
       unfolding word-code
-      a-name f l = rw (← K, le-ltb 0 k none, lettered-first, first-byte text a e up fits, ← C, f, bytes-length text a e up fits, le-leb (e - a) 24 l)
-
-  module _ (c : ℕ) (C : c ≡ class-of (getD text a 0)) where
-    pub a-sign : between 5 7 c ≡ false → c ≡ code (take (e - a) (drop a text))
-    unfolding code
-    a-sign f = rw (first-byte text a e up fits, ← C, f)
-
-    pub a-word : (r : ℕ) → 5 ≤ c → c ≤ 7 → r ≡ word-code (take (e - a) (drop a text)) → r ≡ code (take (e - a) (drop a text))
-    unfolding code
-    a-word r h l q = rw (first-byte text a e up fits, ← C, between-in 5 7 c h l) q
+      a-name f h = rw (a-word, ← K, le-ltb 0 k none, lettered-first, ← B, ← C, f, le-leb (length w) 24 h)
 
 -- How wide the token at the front of a list is, by the run of a word there.
 width-if : (v : Bool) (n : ℕ) → 0 < cond v (suc n) 0 → cond v (cond v (suc n) 0) 1 ≡ cond v (suc n) 0

@@ -3,3 +3,4 @@ pub mod Words
 pub mod Spans
 pub mod Scanned
 pub mod Worked
+pub mod code

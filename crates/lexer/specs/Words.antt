@@ -1,13 +1,13 @@
 -- Document 01, "The text": words, keywords and names, and the number that stands for a token in the reader.
 use mathlib.Core.Bool.{Bool, true, false, _&&_, cond}
 use mathlib.Core.List.{List, [], _∷_, map}
-use Prim.Native.Nat.{ℕ, suc, _-_}
+use Prim.Native.Nat.{ℕ, suc}
 use lib.Dec.{eqb, ltb, leb}
 use lib.ListN.{length, getD, take, drop}
 use Rattle.base.specs.Text.{bytes}
 use Rattle.diagram.specs.Tree.{Name}
 use Rattle.diagram.specs.Names.{same}
-use Rattle.lexer.specs.Classes.{between, class-of, letter, worded, blank}
+use Rattle.lexer.specs.Classes.{class-of, letter, worded, blank}
 
 -- How many bytes at the front of a text pass a test, before the first that does not.
 unfoldable pub front : (ℕ → Bool) → List ℕ → ℕ
@@ -26,14 +26,14 @@ word-at text at = take (front worded (drop at text)) (drop at text)
 unfoldable pub keywords : List Name
 keywords = map bytes ("flow" ∷ "leaf" ∷ "and" ∷ "or" ∷ "xor" ∷ "all" ∷ "some" ∷ "one" ∷ "loop" ∷ [])
 
--- The place of a word in a list whose first place is k, and 0 where it is not there.
-abbrev pub place-in : List Name → ℕ → Name → ℕ
-place-in [] k w = 0
-place-in (n ∷ ns) k w = cond (same w n) k (place-in ns (suc k) w)
+-- The place of a word in a list whose first place is k, and `none` where it is not there.
+abbrev pub place-in : List Name → ℕ → ℕ → Name → ℕ
+place-in [] k none w = none
+place-in (n ∷ ns) k none w = cond (same w n) k (place-in ns (suc k) none w)
 
 -- The number of a keyword: 7 flow, 8 leaf, 9 and, 10 or, 11 xor, 12 all, 13 some, 14 one, 15 loop; 0 for any other word.
 unfoldable pub keyword : Name → ℕ
-keyword w = place-in keywords 7 w
+keyword w = place-in keywords 7 0 w
 
 -- "at most 24 bytes"
 abbrev pub short : Name → Bool
@@ -52,12 +52,15 @@ lettered (b ∷ bs) = letter b
 unfoldable pub named : Name → Bool
 named w = (lettered w && every worded w) && (short w && eqb (keyword w) 0)
 
--- The number of a numeral from 0 to 16 without leading zero, counted from 16 on: 16 for `0`, 32 for `16`; 5 for any other word.
+-- "0 or 1" and "1 to 16 without leading zero": the numerals, each at the place that is its value.
+abbrev pub numerals : List Name
+numerals =
+    map bytes
+    ("0" ∷ "1" ∷ "2" ∷ "3" ∷ "4" ∷ "5" ∷ "6" ∷ "7" ∷ "8" ∷ "9" ∷ "10" ∷ "11" ∷ "12" ∷ "13" ∷ "14" ∷ "15" ∷ "16" ∷ [])
+
+-- The number of a numeral: 16 for `0`, and so on up to 32 for `16`; 5 for any other word.
 unfoldable pub numeral : Name → ℕ
-numeral [] = 5
-numeral (x ∷ []) = cond (between 48 57 x) (x - 32) 5
-numeral (x ∷ y ∷ []) = cond (eqb x 49 && between 48 54 y) (y - 22) 5
-numeral (x ∷ y ∷ z ∷ w) = 5
+numeral w = place-in numerals 16 5 w
 
 -- The number of a word: a keyword's, 6 for a name, a numeral's, and 5 for a word that has no place in any drawing.
 unfoldable pub word-code : Name → ℕ

@@ -1,9 +1,11 @@
 ghost use mathlib.Core.Path.{_≡_};
-ghost use Prim.Native.Nat.{_+_, _-_, _≤_, _<_};
-ghost use lib.ListN.{getD, length, take, drop, set};
+ghost use mathlib.Core.Bool.{true};
+ghost use Prim.Native.Nat.{_+_, _≤_, _<_};
+ghost use lib.ListN.{getD, length, drop};
 ghost use Rattle.diagram.specs.Names.{same as alike};
 ghost use Rattle.lexer.specs.Classes.{class-of, within, worded};
-ghost use Rattle.lexer.specs.Words.{front, blanks, word-at, keyword as keyword-of, numeral as numeral-of, word-code, code as code-of};
+ghost use Rattle.lexer.specs.Words.{front, blanks, word-at, place-in, keyword as keyword-of, numeral as numeral-of, code as code-of};
+ghost use Rattle.lexer.specs.code.Cuts.{cuts, rising};
 ghost use Rattle.lexer.specs.Spans.{spans-of, width, codes as codes-of, places as places-of};
 ghost use Rattle.lexer.specs.Scanned.{first-foreign, first-long, scan-of, written};
 ghost use Rattle.base.specs.Fill.{fill};
@@ -280,12 +282,6 @@ fn class(b: u8) -> u8
     CLASS[b as usize]
 }
 
-fn wide(b: u8) -> usize
-    ensures { λ r. ⌜ (r ≡ b) × (r < 256) ⌝ }
-{
-    b as usize
-}
-
 // Past the bytes from `at` on whose class is one of those from `low` to `high`.
 fn past(text: &[u8], at: usize, low: u8, high: u8) -> usize
     ensures { λ r. ⌜ r ≡ at + front (within low high) (drop at (now (text .entry))) ⌝ }
@@ -293,7 +289,7 @@ fn past(text: &[u8], at: usize, low: u8, high: u8) -> usize
     let classes = CLASS;
     let mut i = at;
     while i < text.len() {
-        let c = classes[wide(text[i])];
+        let c = classes[base::wide(text[i])];
         if c < low {
             return i;
         }
@@ -319,122 +315,75 @@ pub fn word_end(text: &[u8], at: usize) -> usize
     past(text, at, 5, 7)
 }
 
-// Whether the bytes from a to e are this word. Past the text's end there are none, and a and e are the same.
-fn equals(text: &[u8], a: usize, e: usize, word: &[u8]) -> bool
-    requires { ⌜ (a ≤ e) × (e - a ≤ length (now text) - a) ⌝ }
-    ensures { λ r. ⌜ r ≡ alike (take (e - a) (drop a (now (text .entry)))) (now (word .entry)) ⌝ }
+// The number of a word among others, counted from `first`, and `none` where it is none of them. Each of the others ends before a place of `ends`, and
+// the next starts after that place.
+fn place(word: &[u8], words: &[u8], ends: &[u8], first: u8, none: u8) -> u8
+    requires { ⌜ (rising 0 (now ends) (length (now words)) ≡ true) × (first + length (now ends) < 256) ⌝ }
+    ensures { λ r. ⌜ r ≡ place-in (cuts (now (words .entry)) 0 (now (ends .entry))) first none (now (word .entry)) ⌝ }
 {
-    if e - a != word.len() {
-        return false;
-    }
-    let mut i = 0;
-    while i < word.len() {
-        if text[a + i] != word[i] {
-            return false;
+    let mut c = first;
+    let mut s = 0;
+    let mut k = 0;
+    while k < ends.len() {
+        let e = base::wide(ends[k]);
+        if base::equal(word, &words[s..e]) {
+            return c;
         }
-        i += 1;
+        c += 1;
+        s = e + 1;
+        k += 1;
     }
-    true
+    none
 }
 
 // The number of a keyword, and 0 for any other word.
-fn keyword(text: &[u8], a: usize, e: usize) -> u8
-    requires { ⌜ (a < e) × (e ≤ length (now text)) ⌝ }
-    ensures { λ r. ⌜ r ≡ keyword-of (take (e - a) (drop a (now (text .entry)))) ⌝ }
+fn keyword(word: &[u8]) -> u8
+    ensures { λ r. ⌜ r ≡ keyword-of (now (word .entry)) ⌝ }
 {
-    if equals(text, a, e, b"flow") {
-        return 7;
-    }
-    if equals(text, a, e, b"leaf") {
-        return 8;
-    }
-    if equals(text, a, e, b"and") {
-        return 9;
-    }
-    if equals(text, a, e, b"or") {
-        return 10;
-    }
-    if equals(text, a, e, b"xor") {
-        return 11;
-    }
-    if equals(text, a, e, b"all") {
-        return 12;
-    }
-    if equals(text, a, e, b"some") {
-        return 13;
-    }
-    if equals(text, a, e, b"one") {
-        return 14;
-    }
-    if equals(text, a, e, b"loop") {
-        return 15;
-    }
-    0
+    place(
+        word,
+        b"flow leaf and or xor all some one loop",
+        b"\x04\x09\x0d\x10\x14\x18\x1d\x21\x26",
+        7,
+        0,
+    )
 }
 
 // The number of a numeral from 0 to 16 without leading zero, and 5 for any other word.
-fn numeral(text: &[u8], a: usize, e: usize) -> u8
-    requires { ⌜ (a < e) × (e ≤ length (now text)) ⌝ }
-    ensures { λ r. ⌜ r ≡ numeral-of (take (e - a) (drop a (now (text .entry)))) ⌝ }
+fn numeral(word: &[u8]) -> u8
+    ensures { λ r. ⌜ r ≡ numeral-of (now (word .entry)) ⌝ }
 {
-    let n = e - a;
-    let x = text[a];
-    if n == 1 {
-        if x < 48 {
-            return 5;
-        }
-        if 57 < x {
-            return 5;
-        }
-        return x - 32;
-    }
-    if n != 2 {
-        return 5;
-    }
-    if x != 49 {
-        return 5;
-    }
-    let y = text[a + 1];
-    if y < 48 {
-        return 5;
-    }
-    if 54 < y {
-        return 5;
-    }
-    y - 22
+    place(
+        word,
+        b"0 1 2 3 4 5 6 7 8 9 10 11 12 13 14 15 16",
+        b"\x01\x03\x05\x07\x09\x0b\x0d\x0f\x11\x13\x16\x19\x1c\x1f\x22\x25\x28",
+        16,
+        5,
+    )
 }
 
-// The number of a word: a keyword's, 6 for a name, a numeral's, 5 for any other.
-fn word_code(text: &[u8], a: usize, e: usize) -> u8
-    requires { ⌜ (a < e) × (e ≤ length (now text)) ⌝ }
-    ensures { λ r. ⌜ r ≡ word-code (take (e - a) (drop a (now (text .entry)))) ⌝ }
+// The number of a token: a sign's class, a keyword's, 6 for a name, a numeral's, 5 for any other word.
+fn code(token: &[u8]) -> u8
+    ensures { λ r. ⌜ r ≡ code-of (now (token .entry)) ⌝ }
 {
-    let k = keyword(text, a, e);
-    if 0 < k {
-        return k;
-    }
-    if class(text[a]) != 5 {
-        return numeral(text, a, e);
-    }
-    if 24 < e - a {
-        return 5;
-    }
-    6
-}
-
-// The number of the token from a to e: a sign's class, or the number of a word.
-fn code(text: &[u8], a: usize, e: usize) -> u8
-    requires { ⌜ (a < e) × (e ≤ length (now text)) ⌝ }
-    ensures { λ r. ⌜ r ≡ code-of (take (e - a) (drop a (now (text .entry)))) ⌝ }
-{
-    let c = class(text[a]);
+    let c = class(base::byte(token, 0));
     if c < 5 {
         return c;
     }
     if 7 < c {
         return c;
     }
-    word_code(text, a, e)
+    let k = keyword(token);
+    if 0 < k {
+        return k;
+    }
+    if c != 5 {
+        return numeral(token);
+    }
+    if 24 < token.len() {
+        return 5;
+    }
+    6
 }
 
 // The end of the token that starts at `at`: of a word, or past the one byte.
@@ -453,36 +402,33 @@ fn token_end(text: &[u8], at: usize) -> usize
 pub fn letter(text: &[u8], at: usize) -> u8
     ensures { λ r. ⌜ r ≡ getD (word-at (now (text .entry)) at) 0 0 ⌝ }
 {
-    if text.len() <= at {
-        return 0;
-    }
-    let c = class(text[at]);
+    let b = base::byte(text, at);
+    let c = class(b);
     if c < 5 {
         return 0;
     }
     if 7 < c {
         return 0;
     }
-    text[at]
+    b
 }
 
-// Whether the words that start at two places are the same, up to the first byte that differs.
+// The word that starts at `at`; empty where the text ends before it.
+fn word(text: &[u8], at: usize) -> &[u8]
+    ensures { λ r. ⌜ now r ≡ word-at (now (text .entry)) at ⌝ }
+{
+    if text.len() < at {
+        return &text[..0];
+    }
+    let end = word_end(text, at);
+    &text[at..end]
+}
+
+// Whether the words that start at two places are the same.
 pub fn same(text: &[u8], a: usize, b: usize) -> bool
     ensures { λ r. ⌜ r ≡ alike (word-at (now (text .entry)) a) (word-at (now (text .entry)) b) ⌝ }
 {
-    let mut i = a;
-    let mut j = b;
-    loop {
-        let x = letter(text, i);
-        if x != letter(text, j) {
-            return false;
-        }
-        if x == 0 {
-            return true;
-        }
-        i += 1;
-        j += 1;
-    }
+    base::equal(word(text, a), word(text, b))
 }
 
 // The place of the first foreign byte, or the text's length.
@@ -507,16 +453,6 @@ fn first_long(text: &[u8]) -> usize
     text.len()
 }
 
-// As `base::put_byte`, for places.
-fn put_start(starts: &mut [u16], n: usize, at: u16)
-    ensures { λ r. ⌜ now (starts .exit) ≡ set (now (starts .entry)) n at ⌝ }
-{
-    if starts.len() <= n {
-        return;
-    }
-    starts[n] = at;
-}
-
 // Writes the number and the place of each token, as far as the lists go, and counts the tokens.
 fn tokens(text: &[u8], codes: &mut [u8], starts: &mut [u16]) -> usize
     requires { ⌜ length (now text) ≤ 16384 ⌝ }
@@ -528,9 +464,9 @@ fn tokens(text: &[u8], codes: &mut [u8], starts: &mut [u16]) -> usize
     let mut at = skip(text, 0);
     while at < text.len() {
         let e = token_end(text, at);
-        let c = code(text, at, e);
+        let c = code(&text[at..e]);
         base::put_byte(codes, n, c);
-        put_start(starts, n, at as u16);
+        base::put_short(starts, n, at as u16);
         n += 1;
         at = skip(text, e);
     }

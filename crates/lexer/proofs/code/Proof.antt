@@ -1,22 +1,47 @@
--- `lexer::code` meets its contract: a sign by its class, a word by its number.
+-- `lexer::code` meets its contract: one law for each way through it.
 use Rattle.lexer.proofs.Between.{between-low, between-high}
-use Rattle.lexer.proofs.Ways.{a-sign, a-word}
+use Rattle.lexer.proofs.Ways.{a-sign, a-keyword, a-numeral, a-long, a-name}
 use borrow.Author.Needs.{needs}
 use Rattle.lexer.proofs.code.Statement.{statement}
 use Rattle.lexer.proofs.code.Tie as tie
 
 returns : tie.Need-returns
-returns c = let s = c .before .before .before .before .pre in a-sign _ _ _ (s .0) (s .1) _ (c .before .class .ensures) (between-low _ _ _ (c .if1 .taken))
+returns c = a-sign _ (c .before .before .byte .ensures) (c .before .class .ensures) (between-low _ _ _ (c .if1 .taken))
 
 returns-2 : tie.Need-returns-2
-returns-2 c = let s = c .before .before .before .before .before .pre in a-sign _ _ _ (s .0) (s .1) _ (c .before .before .class .ensures) (between-high _ _ _ (c .if2 .taken))
+returns-2 c =
+    let f = c .before .before in
+    a-sign _ (f .before .byte .ensures) (f .class .ensures) (between-high _ _ _ (c .if2 .taken))
 
 returns-3 : tie.Need-returns-3
 returns-3 c =
-    let s = c .before .before .before .before .before .before .pre in
-    a-word _ _ _ (s .0) (s .1) _ (c .before .before .before .class .ensures) _ (c .before .before .if1 .left) (c .before .if2 .left) (c .word-code .ensures)
+    let u = c .before .before in
+    let f = u .before .before in
+    a-keyword _ (f .before .byte .ensures) (f .class .ensures) (u .before .if1 .left) (u .if2 .left) (c .before .keyword .ensures) (c .if3 .taken)
+
+returns-4 : tie.Need-returns-4
+returns-4 c =
+    let k = c .before .before .before in
+    let u = k .before in
+    let f = u .before .before in
+    a-numeral _ (f .before .byte .ensures) (f .class .ensures) (u .before .if1 .left) (u .if2 .left) (k .keyword .ensures) (c .before .before .if3 .left) (c .before .if4 .taken) (c .numeral .ensures)
+
+returns-5 : tie.Need-returns-5
+returns-5 c =
+    let k = c .before .before .before in
+    let u = k .before in
+    let f = u .before .before in
+    a-long _ (f .before .byte .ensures) (f .class .ensures) (u .before .if1 .left) (u .if2 .left) (k .keyword .ensures) (c .before .before .if3 .left) (c .before .if4 .left) (c .if5 .taken)
+
+returns-6 : tie.Need-returns-6
+returns-6 c =
+    let k = c .before .before .before in
+    let u = k .before in
+    let f = u .before .before in
+    a-name _ (f .before .byte .ensures) (f .class .ensures) (u .before .if1 .left) (u .if2 .left) (k .keyword .ensures) (c .before .before .if3 .left) (c .before .if4 .left) (c .if5 .left)
 
 pub code-spec : {M : Type 1} → statement M
 code-spec =
     tie.close
-    (tie.spec (λ c. search needs) (λ c κs. search needs) returns returns-2 (λ c κs. search needs) returns-3)
+    (tie.spec (λ c κs. search needs) (λ c κs. search needs) returns returns-2 (λ c κs. search needs) returns-3 (λ c κs. search needs) returns-4
+    returns-5 returns-6)

@@ -10,9 +10,6 @@ use Rattle.lexer.proofs.Known.{Known, table, table-known, class-read}
 use borrow.Author.Needs.{needs}
 use Rattle.lexer.proofs.past.Statement.{statement}
 use Rattle.lexer.proofs.past.Tie as tie
-use Rattle.lexer.proofs.past.Reads as reads
-use Rattle.lexer.proofs.past.Lts as lts
-use Rattle.lexer.proofs.wide.Reads as wide-reads
 
 abbrev Inv-loop : tie.InvT-loop
 Inv-loop text at low high classes i₀ i = Known classes × (at + front (within low high) (drop at text) ≡ i + front (within low high) (drop i text))

@@ -18,22 +18,36 @@ abbrev μ-loop : tie.MeasureT-loop
 loop-holds : tie.Need-loop-holds Inv-loop μ-loop
 loop-holds c = midway-start _ _ _ _ (c .skip .ensures)
 
-code-requires : tie.Need-code-requires Inv-loop μ-loop
-code-requires c κs = end-after _ _ _ (c .before .loop-test .taken) (c .token-end .ensures)
+sub-code : tie.Need-sub-code Inv-loop μ-loop
+sub-code c = let a = end-after _ _ _ (c .before .loop-test .taken) (c .token-end .ensures) in omega (arith, a .0)
 
-cast-put-start : tie.Need-cast-put-start Inv-loop μ-loop
-cast-put-start c = let h = c .before .before .before .before .before .before .before .loop-test .taken in let p = c .before .before .before .before .before .before .before .before .before .before .before .before .before .pre in omega arith
+part-code-end : tie.Need-part-code-end Inv-loop μ-loop
+part-code-end c = end-after _ _ _ (c .before .loop-test .taken) (c .token-end .ensures) .1
+
+cast-put-short : tie.Need-cast-put-short Inv-loop μ-loop
+cast-put-short c =
+    let l = c .before .before .before .before .before .before .before .before in
+    omega (arith, l .loop-test .taken, l .before .before .before .before .before .before .pre)
 
 add-n : tie.Need-add-n Inv-loop μ-loop
-add-n c = let h = c .before .before .before .before .before .before .before .before .before .before .loop-test .taken in let f = c .before .before .before .before .before .before .before .before .before .before .before .loop .inv .few in search needs
+add-n c =
+    let l = c .before .before .before .before .before .before .before .before .before .before .before in
+    let h = l .loop-test .taken in
+    let f = l .before .loop .inv .few in
+    search needs
 
 loop-less : tie.Need-loop-less Inv-loop μ-loop
-loop-less c = less-left _ _ _ _ (c .before .before .before .before .before .before .before .before .before .before .before .loop-test .taken) (c .before .before .before .before .before .before .before .before .before .before .token-end .ensures) (c .skip2 .ensures)
+loop-less c =
+    let e = c .before .before .before .before .before .before .before .before .before .before .before in
+    less-left _ _ _ _ (e .before .loop-test .taken) (e .token-end .ensures) (c .skip2 .ensures)
 
 loop-again : tie.Need-loop-again Inv-loop μ-loop
 loop-again c =
-    let l = c .before .before .before .before .before .before .before .before .before .before .before in
-    midway-again _ _ _ _ _ _ _ (l .before .loop .inv) _ (l .loop-test .taken) (c .before .before .before .before .before .before .before .before .before .before .token-end .ensures) _ _ _ _ (c .before .before .before .before .before .before .before .before .before .code .ensures) (c .before .before .before .before .before .before .before .put-byte .ensures) (c .before .before .before .put-start .ensures) (c .skip2 .ensures)
+    let short = c .before .before .before in
+    let byte = short .before .before .before .before in
+    let e = byte .before .before .before .before in
+    midway-again _ _ _ _ _ _ _ (e .before .before .loop .inv) _ (e .before .loop-test .taken) (e .token-end .ensures) _ _ _ _
+    (byte .before .before .code .ensures) (byte .put-byte .ensures) (short .put-short .ensures) (c .skip2 .ensures)
 
 same-length : tie.Need-same-length Inv-loop μ-loop
 same-length c = ap length (c .before .loop .inv .coded) ∙ fill-length _ _
@@ -47,5 +61,6 @@ returns c = midway-end _ _ _ _ _ _ _ (c .before .loop .inv) (c .loop-test .left)
 pub tokens-spec : {M : Type 1} → statement M
 tokens-spec =
     tie.close
-    (tie.spec Inv-loop μ-loop (λ c κs. search needs) loop-holds (λ c κs. search needs) code-requires (λ c κs. search needs) cast-put-start
-    (λ c κs. search needs) add-n (λ c κs. search needs) loop-less loop-again same-length same-length-2 returns)
+    (tie.spec Inv-loop μ-loop (λ c κs. search needs) loop-holds (λ c κs. search needs) sub-code (λ c. search needs) part-code-end
+    (λ c κs. search needs) (λ c κs. search needs) cast-put-short (λ c κs. search needs) add-n (λ c κs. search needs) loop-less loop-again
+    same-length same-length-2 returns)
