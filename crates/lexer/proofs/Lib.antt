@@ -6,6 +6,6 @@ mod Ways
 pub mod Steps
 pub mod Spans
 pub mod Filled
-pub mod Alike
+pub mod WordAt
 mod Answer
 pub mod Worked
