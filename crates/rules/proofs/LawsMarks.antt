@@ -12,7 +12,7 @@ use Rattle.diagram.specs.Names.{same}
 use Rattle.base.proofs.Decided.{same-decides}
 use Rattle.base.proofs.Truth.{and-l, and-r, is-false}
 use Rattle.lexer.specs.Words.{word-at}
-use Rattle.lexer.proofs.Alike.{zero-none, some-on}
+use Rattle.lexer.proofs.WordAt.{zero-none, some-on}
 use Rattle.rules.specs.TokenNodes.{name-in}
 use Rattle.rules.specs.Kept.{titled, unheard}
 use Rattle.rules.specs.Columns.{node, earlier, name-at}

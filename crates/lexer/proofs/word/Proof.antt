@@ -1,6 +1,6 @@
 -- `lexer::word` meets its contract: up to the end of the word, or nothing.
 use native.Mathlib.Omega.{arith}
-use Rattle.lexer.proofs.Alike.{past-none, word-inside, word-part}
+use Rattle.lexer.proofs.WordAt.{past-none, word-inside, word-part}
 use borrow.Author.Needs.{needs}
 use mathlib.Core.Path.{sym}
 use Rattle.lexer.proofs.word.Statement.{statement}

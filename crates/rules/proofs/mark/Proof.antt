@@ -6,7 +6,7 @@ use native.Mathlib.Omega.{arith}
 use lib.ListN.{length}
 use borrow.Author.Needs.{needs}
 use Rattle.lexer.specs.Words.{word-at}
-use Rattle.lexer.proofs.Alike.{some-on}
+use Rattle.lexer.proofs.WordAt.{some-on}
 use Rattle.rules.specs.Marks.{mark-on}
 use Rattle.rules.proofs.LawsMarks.{mark-end, mark-more}
 use Rattle.rules.proofs.mark.Statement.{statement}
