@@ -1,13 +1,15 @@
 -- The test that a number lies between two others, and what it says of a byte's class.
-use mathlib.Core.Path.{_≡_, refl}
+use mathlib.Core.Path.{_≡_, refl, ap, _∙_}
 use mathlib.Core.Bool.{Bool, true, false, not, _||_, cond}
 use mathlib.Core.List.{List}
 use Prim.Native.Nat.{ℕ, zero, suc, _≤_, _<_}
 use native.Mathlib.Omega.{arith}
 use lib.Dec.{eqb, leb}
+use lib.ListN.{getD}
 use borrow.Author.Tests.{le-leb, leb-true}
 use Rattle.base.proofs.Truth.{and-l, and-r, and-i, is-false}
 use Rattle.lexer.specs.Classes.{between, spacing, class-of, within, foreign}
+use Rattle.lexer.specs.code.Table.{Classified}
 use Rattle.lexer.specs.Words.{front}
 use Rattle.lexer.specs.Scanned.{first-foreign}
 use Rattle.lexer.proofs.Front.{front-same}
@@ -26,6 +28,10 @@ between-low a b x h = is-false (between a b x) (λ e. let l = between-from a b x
 
 pub between-high : (a b x : ℕ) → b < x → between a b x ≡ false
 between-high a b x h = is-false (between a b x) (λ e. let l = between-to a b x e in omega arith)
+
+-- The entry of the table that is read by a byte.
+pub class-read : {t : List ℕ} {r b : ℕ} → Classified t → (r ≡ b) × (r < 256) → getD t r 0 ≡ class-of b
+class-read k e = k .class _ (e .1) ∙ ap class-of (e .0)
 
 -- A byte's class is 0 to 8.
 either-small : (t : Bool) (x y : ℕ) → x ≤ 8 → y ≤ 8 → cond t x y ≤ 8

@@ -1,5 +1,4 @@
-mod Table
-mod Known
+pub mod Below
 pub mod Front
 pub mod Between
 mod Ways

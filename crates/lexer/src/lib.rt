@@ -6,6 +6,7 @@ ghost use Rattle.diagram.specs.Names.{same as alike};
 ghost use Rattle.lexer.specs.Classes.{class-of, within, worded};
 ghost use Rattle.lexer.specs.Words.{front, blanks, word-at, place-in, keyword as keyword-of, numeral as numeral-of, code as code-of};
 ghost use Rattle.lexer.specs.code.Cuts.{cuts, rising};
+ghost use Rattle.lexer.specs.code.Table.{Classified};
 ghost use Rattle.lexer.specs.Spans.{spans-of, width, codes as codes-of, places as places-of};
 ghost use Rattle.lexer.specs.Scanned.{first-foreign, first-long, scan-of, written};
 ghost use Rattle.base.specs.Fill.{fill};
@@ -276,20 +277,28 @@ pub enum Scan {
     Refused(u8, usize),
 }
 
+// The table, made once for a whole run of bytes.
+fn classes() -> [u8; 256]
+    ensures { λ r. ⌜ Classified r ⌝ }
+{
+    CLASS
+}
+
 fn class(b: u8) -> u8
     ensures { λ r. ⌜ r ≡ class-of b ⌝ }
 {
-    CLASS[b as usize]
+    let table = classes();
+    table[base::wide(b)]
 }
 
 // Past the bytes from `at` on whose class is one of those from `low` to `high`.
 fn past(text: &[u8], at: usize, low: u8, high: u8) -> usize
     ensures { λ r. ⌜ r ≡ at + front (within low high) (drop at (now (text .entry))) ⌝ }
 {
-    let classes = CLASS;
+    let table = classes();
     let mut i = at;
     while i < text.len() {
-        let c = classes[base::wide(text[i])];
+        let c = table[base::wide(text[i])];
         if c < low {
             return i;
         }

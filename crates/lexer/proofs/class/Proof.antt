@@ -1,12 +1,11 @@
--- `lexer::class` meets its contract by the rule of its table.
+-- `lexer::class` meets its contract by the rule of the table.
+use Rattle.lexer.proofs.Between.{class-read}
 use borrow.Author.Needs.{needs}
-use Rattle.lexer.proofs.Known.{table, table-known}
 use Rattle.lexer.proofs.class.Statement.{statement}
 use Rattle.lexer.proofs.class.Tie as tie
 
 returns : tie.Need-returns
-unfolding table
-returns c = table-known (c .args .b) (search needs)
+returns c = class-read (c .before .classes .ensures) (c .wide .ensures)
 
 pub class-spec : {M : Type 1} → statement M
-class-spec = tie.close (tie.spec (λ c. search needs) returns)
+class-spec = tie.close (tie.spec (λ c κs. search needs) (λ c κs. search needs) (λ c. search needs) returns)
