@@ -16,6 +16,8 @@ use Rattle.base.proofs.Truth.{clash, cases, and-l, and-r, and-i, not-e}
 use Rattle.base.proofs.Decided.{same-decides}
 use Rattle.lexer.specs.Classes.{between, spacing, class-of, worded, blank}
 use Rattle.lexer.specs.Words.{keywords, numerals, place-in, keyword, short, every, lettered, named, numeral, word-code, code}
+use Rattle.lexer.proofs.Below.{all-below, at-below}
+use Rattle.lexer.proofs.Between.{in-range, between-in, class-small}
 use Rattle.grammar.specs.Tokens.{opening, closing, comma, colon, key, bit, digits}
 use Rattle.grammar.specs.Derives.{token}
 
@@ -23,24 +25,6 @@ use Rattle.grammar.specs.Derives.{token}
 pub chosen : {A : Type 0} (b : Bool) (x y : A) (P : A → Type 0) → (b ≡ true → P x) → (b ≡ false → P y) → P (cond b x y)
 chosen true x y P f g = f refl
 chosen false x y P f g = g refl
-
--- A test that passes at each number below a bound passes at any of them: rules of tables are computed by it.
-abbrev pub each-below : (ℕ → Bool) → ℕ → Bool
-each-below t zero = true
-each-below t (suc n) = t n && each-below t n
-
-pub at-below : (t : ℕ → Bool) (n : ℕ) → each-below t n ≡ true → (k : ℕ) → k < n → t k ≡ true
-at-below t zero e k h = absurd (not-suc-le-zero h)
-at-below t (suc n) e k h =
-    ⊎-elim (λ q. subst (λ (m : ℕ). t m ≡ true) (sym (eqb-true k n q)) (and-l (t n) (each-below t n) e))
-    (λ q. at-below t n (and-r (t n) (each-below t n) e) k (omega (arith, eqb-false k n q)))
-    (cases (eqb k n))
-
-pub in-range : (a b x : ℕ) → between a b x ≡ true → (a ≤ x) × (x ≤ b)
-in-range a b x h = (leb-true a x (and-l (leb a x) (leb x b) h), leb-true x b (and-r (leb a x) (leb x b) h))
-
-pub to-range : (a b x : ℕ) → a ≤ x → x ≤ b → between a b x ≡ true
-to-range a b x h k = and-i (le-leb a x h) (le-leb x b k)
 
 -- A chain of choices between numbers: where it ends at k, a test whose number is k has passed.
 abbrev chain : List (Bool × ℕ) → ℕ → ℕ
@@ -63,16 +47,6 @@ chain-hit (p ∷ l) d k e = go (p .0) (p .1) (chain-hit l d k) e
     go true x ih q = rw (eq-eqb x k q)
     go false x ih q = same-both (eqb x k) (ih q)
 
-abbrev bounded : List (Bool × ℕ) → ℕ → Bool
-bounded [] m = true
-bounded (p ∷ l) m = leb (p .1) m && bounded l m
-
-chain-bound : (l : List (Bool × ℕ)) (d m : ℕ) → d ≤ m → bounded l m ≡ true → chain l d ≤ m
-chain-bound [] d m h e = h
-chain-bound (p ∷ l) d m h e =
-    chosen (p .0) (p .1) (chain l d) (λ (x : ℕ). x ≤ m) (λ q. leb-true (p .1) m (and-l (leb (p .1) m) (bounded l m) e))
-    (λ q. chain-bound l d m h (and-r (leb (p .1) m) (bounded l m) e))
-
 abbrev classes : ℕ → List (Bool × ℕ)
 classes b =
     (eqb b (byte "("), 1)
@@ -88,9 +62,6 @@ classes b =
 class-chain : (b : ℕ) → class-of b ≡ chain (classes b) 0
 unfolding class-of
 class-chain b = refl
-
-class-bound : (b : ℕ) → class-of b ≤ 8
-class-bound b = subst (λ (n : ℕ). n ≤ 8) (sym (class-chain b)) (chain-bound (classes b) 0 8 (omega arith) refl)
 
 only-one : (b : Bool) → (b || false) ≡ true → b ≡ true
 only-one true e = refl
@@ -161,7 +132,7 @@ low-class : (c : ℕ) → c ≤ 8 → between 5 7 c ≡ false → between 8 8 c 
 low-class c h w b = ⊎-elim (λ p. ⊎-elim (λ q. absurd (clash (and-i p q) w)) (high p) (cases (leb c 7))) (λ p. omega (arith, leb-false 5 c p)) (cases (leb 5 c))
   where
     high : leb 5 c ≡ true → leb c 7 ≡ false → c ≤ 4
-    high p q = absurd (clash (to-range 8 8 c (omega (arith, leb-false c 7 q)) h) b)
+    high p q = absurd (clash (between-in 8 8 c (omega (arith, leb-false c 7 q)) h) b)
 
 -- A word of one byte or more has a word's number, and any other token the class of its only byte.
 pub sort : (t : Name) → token t ≡ true → Sort t
@@ -170,7 +141,7 @@ sort [] h = absurd (false≢true h)
 sort (b ∷ []) h = ⊎-elim (λ p. word-sort (b ∷ []) (rw p) (and-i p refl)) other (cases (worded b))
   where
     other : worded b ≡ false → Sort (b ∷ [])
-    other p = let e : code (b ∷ []) ≡ class-of b = rw p in signed b refl e (rw e (low-class (class-of b) (class-bound b) p (not-e (blank b) h)))
+    other p = let e : code (b ∷ []) ≡ class-of b = rw p in signed b refl e (rw e (low-class (class-of b) (class-small b) p (not-e (blank b) h)))
 sort (b ∷ c ∷ w) h = word-sort (b ∷ c ∷ w) (rw (and-l (worded b) (every worded (c ∷ w)) h)) h
 
 -- Which token it is.
@@ -256,7 +227,7 @@ unfolding code class-of
 coded-colon = coded colon 4 refl
 
 -- Tokens numbered from a on, one after the other, by a computed test of each.
-table : (f : ℕ → Name) (a n : ℕ) → each-below (λ k. token (f k) && eqb (code (f k)) (a + k)) n ≡ true → (k : ℕ) → k < n → Coded (f k) (a + k)
+table : (f : ℕ → Name) (a n : ℕ) → all-below (λ k. token (f k) && eqb (code (f k)) (a + k)) n ≡ true → (k : ℕ) → k < n → Coded (f k) (a + k)
 table f a n e k h = coded (f k) (a + k) (at-below (λ k. token (f k) && eqb (code (f k)) (a + k)) n e k h)
 
 pub coded-key : (i : ℕ) → i ≤ 8 → Coded (key i) (7 + i)
@@ -284,7 +255,7 @@ pub coded-bit : (b : Bool) → Coded (bit b) (16 + bit-value b)
 coded-bit b = rw (bit-digits b) (coded-digits (bit-value b) (omega (arith, bit-small b)))
 
 pub bit-between : (b : Bool) → between 16 17 (code (bit b)) ≡ true
-bit-between b = rw (coded-bit b .number) (to-range 16 17 (16 + bit-value b) (omega arith) (omega (arith, bit-small b)))
+bit-between b = rw (coded-bit b .number) (between-in 16 17 (16 + bit-value b) (omega arith) (omega (arith, bit-small b)))
 
 pub is-bit : (t : Name) → token t ≡ true → between 16 17 (code t) ≡ true → (b : Bool) × (t ≡ bit b)
 is-bit t h r = ⊎-elim (λ q. (true, go true (omega (arith, eqb-true (code t) 17 q)))) (λ q. (false, go false (omega (arith, l, u, eqb-false (code t) 17 q)))) (cases (eqb (code t) 17))

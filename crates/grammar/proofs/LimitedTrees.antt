@@ -21,7 +21,8 @@ use Rattle.grammar.specs.Named.{all-named, flow-named, children-named, c
 use Rattle.grammar.specs.Limits.{keyed, count-of, nodes-in, over-limit}
 use Rattle.grammar.specs.Derives.{Grammatical}
 use Rattle.grammar.proofs.LimitedFrom.{keys, opens, closes, flat, keyed-at-least, numeral-unkeyed, big-at, big-nil, over-limit-in, nodes-cons, Safe, safe-cons, Balanced}
-use Rattle.grammar.proofs.Codes.{to-range, Coded, coded-opening, coded-closing, coded-comma, coded-colon, coded-key, coded-digits, bit-value, coded-bit, coded-name}
+use Rattle.grammar.proofs.Codes.{Coded, coded-opening, coded-closing, coded-comma, coded-colon, coded-key, coded-digits, bit-value, coded-bit, coded-name}
+use Rattle.lexer.proofs.Between.{between-in}
 
 -- A token that is neither a keyword nor a parenthesis.
 abbrev Quiet : Name → Type 0
@@ -44,7 +45,7 @@ quiet-digits n l = quiet (coded-digits n l) (numeral-unkeyed (16 + n) (omega ari
 
 -- The keywords.
 key-keyed : (i : ℕ) → i ≤ 8 → keyed (code (key i)) ≡ true
-key-keyed i h = rw (coded-key i h .number) (to-range 7 15 (7 + i) (omega arith) (omega arith))
+key-keyed i h = rw (coded-key i h .number) (between-in 7 15 (7 + i) (omega arith) (omega arith))
 
 group-keyed : (y : Way) → keyed (code (group-key y)) ≡ true
 group-keyed all = key-keyed 2 (omega arith)

@@ -13,7 +13,8 @@ use Rattle.lexer.specs.Words.{named}
 use Rattle.grammar.specs.Tokens.{opening, closing, colon, bit, digits, group-key, replicator-key, ref-tokens, flow-tokens, children-tokens, child-tokens, member-tokens}
 use Rattle.grammar.specs.Named.{all-named, flow-named, children-named, child-named, member-named, members-named}
 use Rattle.grammar.specs.Machine.{Want, sign, number, params, node, more, others, member, child, ref, parts}
-use Rattle.grammar.proofs.Codes.{in-range, to-range, Coded, coded-opening, coded-closing, coded-colon, coded-digits, coded-bit, coded-name, coded-key, bit-between}
+use Rattle.grammar.proofs.Codes.{Coded, coded-opening, coded-closing, coded-colon, coded-digits, coded-bit, coded-name, coded-key, bit-between}
+use Rattle.lexer.proofs.Between.{in-range, between-in}
 use Rattle.grammar.proofs.Stack.{Kind, flows, leaves, groups, replicators, loops, way-small, place, key-of, shape, One, Node, More, is-sign, SpellsAll, the-one, at-opening, at-closing, at-colon, at-name, at-bit, at-size, as-node, as-member}
 
 -- The parts of a node, by its kind.
@@ -75,7 +76,7 @@ bits b rest = record { first = bit b; taken = coded-bit b .taken; passed = bit-b
 pub sizes : (n : ℕ) → (leb 1 n && leb n 16) ≡ true → (rest : List Name) → One (between 17 32) (digits n ∷ rest) rest
 sizes n h =
     let r = in-range 1 16 n h in
-    the-one (between 17 32) (coded-digits n (r .1)) (to-range 17 32 (16 + n) (omega arith) (omega arith))
+    the-one (between 17 32) (coded-digits n (r .1)) (between-in 17 32 (16 + n) (omega arith) (omega arith))
 
 pub a-member : (m : Member) → member-named m ≡ true → member-sized m ≡ true → (rest : List Name) → Node member (member-tokens m rest) rest
 a-member m h k rest = as-node (record { tree = m; names = h; sizes = k; told = refl })

@@ -13,7 +13,7 @@ use Rattle.lexer.specs.Words.{front, blanks, short, every}
 use Rattle.lexer.specs.Spans.{Span, width, cut, spans, spans-of, tokens}
 use Rattle.grammar.specs.Derives.{token}
 use Rattle.grammar.specs.Printed.{printed}
-use Rattle.grammar.proofs.Codes.{in-range}
+use Rattle.lexer.proofs.Between.{in-range}
 use Rattle.grammar.proofs.Lexed.{stops, pieces, cut-is-token, front-stop, worded-no-blank}
 use Rattle.grammar.proofs.Rendered.{usual, usual-class, proper, all-proper}
 

@@ -15,7 +15,9 @@ use Rattle.lexer.specs.Spans.{tokens}
 use Rattle.grammar.specs.Tokens.{opening, closing, comma, colon, key, group-key, replicator-key, bit, digits, pars-tokens, ref-tokens, flow-tokens, children-tokens, child-tokens, member-tokens, members-tokens}
 use Rattle.grammar.specs.Named.{all-named, flow-named, children-named, child-named, member-named, members-named}
 use Rattle.grammar.specs.Derives.{token, all-tokens, Grammatical}
-use Rattle.grammar.proofs.Codes.{at-below, in-range, coded-key, coded-digits, coded-name}
+use Rattle.grammar.proofs.Codes.{coded-key, coded-digits, coded-name}
+use Rattle.lexer.proofs.Below.{at-below}
+use Rattle.lexer.proofs.Between.{in-range}
 use Rattle.grammar.proofs.Lexed.{wordy, clear, apart, lexed}
 
 -- A token that no text is refused for: it has at most 24 bytes, and none of them is foreign.

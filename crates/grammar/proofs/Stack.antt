@@ -15,7 +15,8 @@ use Rattle.grammar.specs.Tokens.{opening, closing, comma, colon, key, bi
 use Rattle.grammar.specs.Named.{all-named, children-named, child-named, member-named, members-named}
 use Rattle.grammar.specs.Machine.{Want, sign, number, params, param, node, more, others, member}
 use Rattle.grammar.specs.Derives.{token}
-use Rattle.grammar.proofs.Codes.{in-range, to-range, is-opening, is-closing, is-colon, is-name, is-digits, is-bit, Coded}
+use Rattle.grammar.proofs.Codes.{is-opening, is-closing, is-colon, is-name, is-digits, is-bit, Coded}
+use Rattle.lexer.proofs.Between.{in-range, between-in}
 
 -- The nodes by their keywords.
 pub data Kind : Type 0 where
@@ -146,7 +147,7 @@ module _ {ts rest : List Name} where
   at-size o =
       let r = in-range 17 32 (code (o .first)) (o .passed) in (
         code (o .first) - 16,
-        to-range 1 16 (code (o .first) - 16) (omega arith) (omega arith),
+        between-in 1 16 (code (o .first) - 16) (omega arith) (omega arith),
         o .told ∙ ap (λ (u : Name). u ∷ rest) (is-digits (o .first) (o .taken) (omega arith)),
       )
 

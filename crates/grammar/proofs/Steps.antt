@@ -16,7 +16,9 @@ use Rattle.grammar.specs.Tokens.{closing, comma, bit, pars-tokens, ref-t
 use Rattle.grammar.specs.Named.{all-named, children-named, child-named, member-named, members-named}
 use Rattle.grammar.specs.Machine.{Want, sign, number, params, param, node, more, others, Move, off, big, push, member, child, ref, parts, full, begin, expand}
 use Rattle.grammar.specs.Derives.{token}
-use Rattle.grammar.proofs.Codes.{chosen, at-below, in-range, to-range, is-key, is-name, is-comma, is-closing, is-bit, coded-closing, coded-comma, coded-name, bit-between}
+use Rattle.grammar.proofs.Codes.{chosen, is-key, is-name, is-comma, is-closing, is-bit, coded-closing, coded-comma, coded-name, bit-between}
+use Rattle.lexer.proofs.Below.{at-below}
+use Rattle.lexer.proofs.Between.{in-range, between-in}
 use Rattle.grammar.proofs.Stack.{Kind, flows, leaves, groups, replicators, loops, place, key-of, shape, One, Params, Node, More, Others, is-sign, Spells, SpellsAll, joined, parted, at-closing, as-member}
 use Rattle.grammar.proofs.Nodes.{Opened, parts-of, parts-kind, coded-kind, opened, built, after-child, child-after, a-child, a-member, closes}
 
@@ -54,7 +56,7 @@ module _ (t : Name) (ts rest : List Name) (top : ℕ) where
   -- A node is a keyword up to `top`, and its parts.
   pub node-out : (d : ℕ) → Node top (t ∷ ts) rest → (between 7 top (code t) ≡ true) × SpellsAll (parts (code t) d) ts rest
   node-out d n = (
-    to-range 7 top (code t) (omega (arith, c)) (omega (arith, c, n .allowed)),
+    between-in 7 top (code t) (omega (arith, c)) (omega (arith, c, n .allowed)),
     subst (λ (ws : List Want). SpellsAll ws ts rest) (sym (parts-code k t d (head-eq-of-cons-eq e)))
         (subst (λ (l : List Name). SpellsAll (parts-of k d) l rest) (sym (tail-eq-of-cons-eq e)) (o .2)),
   )

@@ -17,17 +17,14 @@ use Rattle.lexer.proofs.Front.{front-same}
 pub between-in : (a b x : ℕ) → a ≤ x → x ≤ b → between a b x ≡ true
 between-in a b x h l = and-i (le-leb a x h) (le-leb x b l)
 
-pub between-from : (a b x : ℕ) → between a b x ≡ true → a ≤ x
-between-from a b x e = leb-true a x (and-l (leb a x) (leb x b) e)
-
-pub between-to : (a b x : ℕ) → between a b x ≡ true → x ≤ b
-between-to a b x e = leb-true x b (and-r (leb a x) (leb x b) e)
+pub in-range : (a b x : ℕ) → between a b x ≡ true → (a ≤ x) × (x ≤ b)
+in-range a b x e = (leb-true a x (and-l (leb a x) (leb x b) e), leb-true x b (and-r (leb a x) (leb x b) e))
 
 pub between-low : (a b x : ℕ) → x < a → between a b x ≡ false
-between-low a b x h = is-false (between a b x) (λ e. let l = between-from a b x e in omega arith)
+between-low a b x h = is-false (between a b x) (λ e. let l = in-range a b x e in omega arith)
 
 pub between-high : (a b x : ℕ) → b < x → between a b x ≡ false
-between-high a b x h = is-false (between a b x) (λ e. let l = between-to a b x e in omega arith)
+between-high a b x h = is-false (between a b x) (λ e. let l = in-range a b x e in omega arith)
 
 -- The entry of the table that is read by a byte.
 pub class-read : {t : List ℕ} {r b : ℕ} → Classified t → (r ≡ b) × (r < 256) → getD t r 0 ≡ class-of b

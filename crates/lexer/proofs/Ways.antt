@@ -16,7 +16,7 @@ use Rattle.lexer.specs.Classes.{between, class-of, letter, worded}
 use Rattle.lexer.specs.Words.{front, place-in, keyword, lettered, numeral, word-code, code}
 use Rattle.lexer.specs.code.Cuts.{cuts, rising}
 use Rattle.lexer.specs.Spans.{width}
-use Rattle.lexer.proofs.Between.{between-in, between-from, between-to}
+use Rattle.lexer.proofs.Between.{between-in, in-range}
 
 -- What is left to look at: the words from the k-th on, the first of which starts at s and has the number c.
 pub record Left (word words ends : List ℕ) (first none c s k : ℕ) : Type 0 where
@@ -66,7 +66,7 @@ lettered-first [] = refl
 lettered-first (b ∷ bs) = refl
 
 not-five : (c : ℕ) → (c ≡ 5 → ⊥) → between 5 5 c ≡ false
-not-five c f = is-false (between 5 5 c) (λ e. let h = between-from 5 5 c e in let l = between-to 5 5 c e in f (omega arith))
+not-five c f = is-false (between 5 5 c) (λ e. let r = in-range 5 5 c e in f (omega arith))
 
 -- A token whose first byte has the class c.
 module _ (w : Name) {b c : ℕ} (B : b ≡ getD w 0 0) (C : c ≡ class-of b) where
