@@ -16,7 +16,7 @@ use Rattle.diagram.specs.declared.Kind.the-variants.{Flow as FlowKind, Leaf, Lo
 use Rattle.base.proofs.Truth.{cases, is-false}
 use Rattle.lexer.specs.Words.{word-at, code}
 use Rattle.lexer.specs.Spans.{tokens, codes, places}
-use Rattle.grammar.proofs.Codes.{in-range}
+use Rattle.lexer.proofs.Between.{in-range}
 use Rattle.grammar.specs.Tokens.{child-tokens, member-tokens}
 use Rattle.grammar.specs.Limits.{keyed, count-of, nodes-in}
 use Rattle.grammar.specs.Derives.{Derives}
