@@ -1,6 +1,2 @@
-pub mod Words
-pub mod Pieces
-pub mod Passes
-pub mod Lays
-pub mod Plan
-pub mod Made
+pub mod Table
+pub mod code

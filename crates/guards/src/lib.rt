@@ -1,47 +1,41 @@
 ghost use mathlib.Core.Path.{_≡_};
-ghost use mathlib.Core.List.{[], _∷_};
-ghost use Prim.Native.Nat.{_+_, _*_, _≤_, _<_};
-ghost use lib.ListN.{length, getD, set};
-ghost use Rattle.guards.specs.Words.{put-rows};
-ghost use Rattle.base.specs.Packed.{put-word};
-ghost use Rattle.guards.specs.Pieces.{event-piece, again-piece, rounds-piece, both-piece, one-piece, settling, settled-row, or-piece};
-ghost use Rattle.guards.specs.Passes.{mark-at, put-mark, piece-of, moved as moved-of, ups as ups-of, Down, down-words, down-record, may-top, may-rows, downs as downs-of};
-ghost use Rattle.guards.specs.Lays.{laid-size, laid-out};
-ghost use Rattle.guards.specs.Made.{Makes};
+ghost use mathlib.Core.List.{List, [], _∷_};
+ghost use Prim.Native.Nat.{ℕ, _+_, _-_, _*_, _≤_, _<_};
+ghost use lib.ListN.{length};
+ghost use Rattle.layout.specs.Fields.{bit-row, not-row, both-row, either-row, event-record};
+ghost use Rattle.plan.specs.Pieces.{leaf-piece, rounds-piece, pair-piece, settling, settled-row, after-words, settled-piece, some-piece};
+ghost use Rattle.guards.specs.Table.{TableWritten};
+ghost use Rattle.guards.specs.code.Rows.{put-rows, listed, Lists, Appends, Adds};
+ghost use Rattle.guards.specs.code.Passes.{coupled as coupled-of, piece-of, event-count as event-count-of, moved as moved-of, second-count as second-count-of};
+ghost use Rattle.guards.specs.code.Passes.{second-words as second-words-of, gate-row, record-of, put-record as put-record-of, no-rows, first-start, first-pass as first-pass-of, FirstEnds};
+ghost use Rattle.guards.specs.code.Passes.{second-start, second-pass as second-pass-of, SecondEnds, Passes};
+use plan::Needs;
+use plan::PartRows;
 
-// What the rows of a part are: that it is begun, that it is not, that it is complete, that it is complete or not begun (0 where no row says so yet); and the
-// part's first event.
-pub struct Mark {
-    pub begun: u16,
-    pub idle: u16,
+// Up to six rows, one after the other.
+pub struct Words {
+    pub words: [usize; 6],
+    pub count: u16,
+}
+
+// What a part adds to its own parts: rows, the rows that speak of it, and what the second pass needs.
+pub struct Added {
+    pub words: Words,
+    pub part: PartRows,
+    pub needs: Needs,
+}
+
+// Where the first pass ends: the next row, the next event, the row that the whole is complete, and what the second pass needs of each number.
+pub struct FirstResult {
+    pub rows: u16,
+    pub event: u16,
     pub done: u16,
-    pub settled: u16,
-    pub first: u16,
+    pub needs: [Needs; 1024],
 }
 
-// What a part adds: the next free row after it, its mark, and what the second pass needs.
-pub struct Made {
-    pub rows: usize,
-    pub mark: Mark,
-    pub x: u16,
-    pub y: u16,
-}
+// The kinds of rows stand in the top bits of a row, left above right.
+const KIND: usize = 1073741824;
 
-// Where a pass ends: the next row, the next event, the latest of what it stacked.
-pub struct Stand {
-    pub rows: usize,
-    pub event: usize,
-    pub top: usize,
-}
-
-// The kinds of rows, in the top bits of a row.
-const NOT: usize = 1073741824;
-
-const BOTH: usize = 2147483648;
-
-const EITHER: usize = 3221225472;
-
-// Where left stands in a row.
 const SIDE: usize = 32768;
 
 // Where the guard row and the first cleared bit stand in an event record.
@@ -49,482 +43,419 @@ const GUARD: usize = 262144;
 
 const RUN: usize = 512;
 
-// The numbers of a process in postfix order that have a meaning of their own here; the others join two parts in order, or both.
-const LEAF: u8 = 0;
-
-const AGAIN: u8 = 1;
-
-const ROUNDS: u8 = 2;
-
-const SEQ: u8 = 3;
-
-const OR: u8 = 5;
-
-const XOR: u8 = 6;
-
-fn narrow(x: usize) -> u16
-    requires { ⌜ x < 65536 ⌝ }
-    ensures { λ r. ⌜ r ≡ x ⌝ }
+fn bit_row(e: u16) -> usize
+    ensures { λ r. ⌜ r ≡ bit-row e ⌝ }
 {
-    x as u16
+    base::wide_short(e) * SIDE
 }
 
-fn wide(x: u16) -> usize
-    ensures { λ r. ⌜ (r ≡ x) × (r < 65536) ⌝ }
+fn not_row(a: u16) -> usize
+    ensures { λ r. ⌜ r ≡ not-row a ⌝ }
 {
-    x as usize
-}
-
-// A number of a column; 0 past its end.
-fn number(column: &[u16], i: usize) -> u16
-    ensures { λ r. ⌜ r ≡ getD (now (column .entry)) i 0 ⌝ }
-{
-    if column.len() <= i {
-        return 0;
-    }
-    column[i]
-}
-
-// A store that does nothing past the end.
-fn put(column: &mut [u16], i: usize, x: u16)
-    ensures { λ _. ⌜ now (column .exit) ≡ set (now (column .entry)) i x ⌝ }
-{
-    if column.len() <= i {
-        return;
-    }
-    column[i] = x;
-}
-
-// A word, most significant byte first.
-fn put_word(out: &mut [u8], i: usize, w: usize)
-    requires { ⌜ i < 65536 ⌝ }
-    ensures { λ _. ⌜ now (out .exit) ≡ put-word (now (out .entry)) i w ⌝ }
-{
-    base::put_byte(out, i, (w / 16777216 % 256) as u8);
-    base::put_byte(out, i + 1, (w / 65536 % 256) as u8);
-    base::put_byte(out, i + 2, (w / 256 % 256) as u8);
-    base::put_byte(out, i + 3, (w % 256) as u8);
-}
-
-// Row k, where row 0 stands at `base`.
-fn row(out: &mut [u8], base: usize, k: usize, w: usize)
-    requires { ⌜ (base ≤ 2052) × (k < 12288) ⌝ }
-    ensures { λ _. ⌜ now (out .exit) ≡ put-rows base k (w ∷ []) (now (out .entry)) ⌝ }
-{
-    put_word(out, base + 4 * k, w);
-}
-
-// That a row says no.
-fn not_row(a: usize) -> usize
-    requires { ⌜ a < 65536 ⌝ }
-    ensures { λ r. ⌜ r ≡ 1073741824 + a * 32768 ⌝ }
-{
-    NOT + a * SIDE
+    KIND + base::wide_short(a) * SIDE
 }
 
 fn both_row(a: u16, b: u16) -> usize
-    ensures { λ r. ⌜ r ≡ 2147483648 + a * 32768 + b ⌝ }
+    ensures { λ r. ⌜ r ≡ both-row a b ⌝ }
 {
-    BOTH + wide(a) * SIDE + wide(b)
+    2 * KIND + base::wide_short(a) * SIDE + base::wide_short(b)
 }
 
 fn either_row(a: u16, b: u16) -> usize
-    ensures { λ r. ⌜ r ≡ 3221225472 + a * 32768 + b ⌝ }
+    ensures { λ r. ⌜ r ≡ either-row a b ⌝ }
 {
-    EITHER + wide(a) * SIDE + wide(b)
+    3 * KIND + base::wide_short(a) * SIDE + base::wide_short(b)
 }
 
-// An event's bit, and that it is not set.
-fn bit_rows(out: &mut [u8], base: usize, k: usize, e: usize)
-    requires { ⌜ (base ≤ 2052) × (k < 12000) × (e < 2048) ⌝ }
-    ensures { λ _. ⌜ now (out .exit) ≡ put-rows base k (event-piece k e .words) (now (out .entry)) ⌝ }
+fn event_record(guard: u16, first: u16, count: u16) -> usize
+    ensures { λ r. ⌜ r ≡ event-record guard first count ⌝ }
 {
-    row(out, base, k, e * SIDE);
-    row(out, base, k + 1, not_row(k));
+    base::wide_short(guard) * GUARD + base::wide_short(first) * RUN + base::wide_short(count)
 }
 
-// A leaf copy.
-fn event(out: &mut [u8], base: usize, k: usize, e: usize) -> Made
-    requires { ⌜ (base ≤ 2052) × (k < 12000) × (e < 2048) ⌝ }
-    ensures { λ r. ⌜ Makes (event-piece k e) base k (now (out .entry)) r (now (out .exit)) ⌝ }
+// A leaf, event e, or a loop over it, which is complete by row `done`; its guard needs row `later`.
+fn leaf(k: u16, e: u16, done: u16, later: u16) -> Added
+    requires { ⌜ k < 12000 ⌝ }
+    ensures { λ r. ⌜ Adds (leaf-piece k e done later) r ⌝ }
 {
-    bit_rows(out, base, k, e);
-    let b = narrow(k);
-    let n = narrow(k + 1);
-    Made {
-        rows: k + 2,
-        mark: Mark {
-            begun: b,
-            idle: n,
-            done: b,
-            settled: 2,
-            first: narrow(e),
-        },
-        x: n,
-        y: 0,
+    let words = Words {
+        words: [bit_row(e), not_row(k), 0, 0, 0, 0],
+        count: 2,
+    };
+    let part = PartRows {
+        begun: k,
+        idle: k + 1,
+        done,
+        settled: 2,
+        first: e,
+    };
+    let needs = Needs { later, earlier: 0 };
+    Added { words, part, needs }
+}
+
+// A loop over a flow, of which the rows of m speak; e is its reset.
+fn rounds(k: u16, e: u16, m: PartRows) -> Added
+    requires { ⌜ k < 12000 ⌝ }
+    ensures { λ r. ⌜ Adds (rounds-piece k e m) r ⌝ }
+{
+    let words = Words {
+        words: [bit_row(e), either_row(m.begun, k), not_row(k + 1), 0, 0, 0],
+        count: 3,
+    };
+    let part = PartRows {
+        begun: k + 1,
+        idle: k + 2,
+        done: m.idle,
+        settled: m.idle,
+        first: m.first,
+    };
+    let needs = Needs {
+        later: m.done,
+        earlier: m.first,
+    };
+    Added { words, part, needs }
+}
+
+// Two parts, p before q, which are complete by a row of its own, `done`; the later one needs row `later`.
+fn join_pair(k: u16, p: PartRows, q: PartRows, done: usize, later: u16) -> Added
+    requires { ⌜ k < 12000 ⌝ }
+    ensures { λ r. ⌜ Adds (pair-piece k p q done later) r ⌝ }
+{
+    let words = Words {
+        words: [either_row(p.begun, q.begun), not_row(k), done, 0, 0, 0],
+        count: 3,
+    };
+    let part = PartRows {
+        begun: k,
+        idle: k + 1,
+        done: k + 2,
+        settled: 0,
+        first: p.first,
+    };
+    let needs = Needs {
+        later,
+        earlier: q.idle,
+    };
+    Added { words, part, needs }
+}
+
+// One row more.
+fn add(list: Words, w: usize) -> Words
+    requires { ⌜ list .count < 6 ⌝ }
+    ensures { λ r. ⌜ Appends list r (w ∷ []) ⌝ }
+{
+    let n = base::wide_short(list.count);
+    let mut words = list.words;
+    words[n] = w;
+    Words {
+        words,
+        count: list.count + 1,
     }
 }
 
-// A loop over a leaf.
-fn again(out: &mut [u8], base: usize, k: usize, e: usize) -> Made
-    requires { ⌜ (base ≤ 2052) × (k < 12000) × (e < 2048) ⌝ }
-    ensures { λ r. ⌜ Makes (again-piece k e) base k (now (out .entry)) r (now (out .exit)) ⌝ }
-{
-    bit_rows(out, base, k, e);
-    Made {
-        rows: k + 2,
-        mark: Mark {
-            begun: narrow(k),
-            idle: narrow(k + 1),
-            done: 2,
-            settled: 2,
-            first: narrow(e),
-        },
-        x: 0,
-        y: 0,
-    }
-}
-
-// A loop over a flow, whose mark is m.
-fn rounds(out: &mut [u8], base: usize, k: usize, e: usize, m: Mark) -> Made
-    requires { ⌜ (base ≤ 2052) × (k < 12000) × (e < 2048) ⌝ }
-    ensures { λ r. ⌜ Makes (rounds-piece k e m) base k (now (out .entry)) r (now (out .exit)) ⌝ }
-{
-    row(out, base, k, e * SIDE);
-    row(out, base, k + 1, either_row(m.begun, narrow(k)));
-    row(out, base, k + 2, not_row(k + 1));
-    Made {
-        rows: k + 3,
-        mark: Mark {
-            begun: narrow(k + 1),
-            idle: narrow(k + 2),
-            done: m.idle,
-            settled: m.idle,
-            first: m.first,
-        },
-        x: m.done,
-        y: m.first,
-    }
-}
-
-// That either part is begun, and that neither is.
-fn begun_rows(out: &mut [u8], base: usize, k: usize, p: Mark, q: Mark)
-    requires { ⌜ (base ≤ 2052) × (k < 12000) ⌝ }
-    ensures { λ _. ⌜ now (out .exit) ≡ put-rows base k ((3221225472 + p .begun * 32768 + q .begun) ∷ (1073741824 + k * 32768) ∷ []) (now (out .entry)) ⌝ }
-{
-    row(out, base, k, either_row(p.begun, q.begun));
-    row(out, base, k + 1, not_row(k));
-}
-
-// Two parts in order, or both.
-fn both(out: &mut [u8], base: usize, k: usize, p: Mark, q: Mark) -> Made
-    requires { ⌜ (base ≤ 2052) × (k < 12000) ⌝ }
-    ensures { λ r. ⌜ Makes (both-piece k p q) base k (now (out .entry)) r (now (out .exit)) ⌝ }
-{
-    begun_rows(out, base, k, p, q);
-    row(out, base, k + 2, both_row(p.done, q.done));
-    Made {
-        rows: k + 3,
-        mark: Mark {
-            begun: narrow(k),
-            idle: narrow(k + 1),
-            done: narrow(k + 2),
-            settled: 0,
-            first: p.first,
-        },
-        x: p.done,
-        y: q.idle,
-    }
-}
-
-// One part of two.
-fn one(out: &mut [u8], base: usize, k: usize, p: Mark, q: Mark) -> Made
-    requires { ⌜ (base ≤ 2052) × (k < 12000) ⌝ }
-    ensures { λ r. ⌜ Makes (one-piece k p q) base k (now (out .entry)) r (now (out .exit)) ⌝ }
-{
-    begun_rows(out, base, k, p, q);
-    row(out, base, k + 2, either_row(p.done, q.done));
-    Made {
-        rows: k + 3,
-        mark: Mark {
-            begun: narrow(k),
-            idle: narrow(k + 1),
-            done: narrow(k + 2),
-            settled: 0,
-            first: p.first,
-        },
-        x: p.idle,
-        y: q.idle,
-    }
-}
-
-// The row that a part is complete or not begun: a new one where there is none yet.
-fn settle(out: &mut [u8], base: usize, k: usize, m: Mark) -> u16
-    requires { ⌜ (base ≤ 2052) × (k < 12000) ⌝ }
-    ensures { λ r. ⌜ r ≡ settled-row k m ⌝ }
-    ensures { λ _. ⌜ now (out .exit) ≡ put-rows base k (settling m) (now (out .entry)) ⌝ }
+// The row that a part is complete or not begun, where there is none yet.
+fn settle(list: Words, m: PartRows) -> Words
+    requires { ⌜ list .count < 6 ⌝ }
+    ensures { λ r. ⌜ Appends list r (settling m) ⌝ }
 {
     if m.settled == 0 {
-        row(out, base, k, either_row(m.done, m.idle));
-        return narrow(k);
+        return add(list, either_row(m.done, m.idle));
     }
-    m.settled
+    list
 }
 
-// The next free row after a part was settled.
-fn after(k: usize, m: Mark) -> usize
-    requires { ⌜ k < 12000 ⌝ }
-    ensures { λ r. ⌜ (r ≡ k + length (settling m)) × (r ≤ k + 1) ⌝ }
+// Its number, where the next free row is k.
+fn settled(k: u16, m: PartRows) -> u16
+    ensures { λ r. ⌜ r ≡ settled-row k m ⌝ }
 {
-    if m.settled == 0 { k + 1 } else { k }
+    if m.settled == 0 { k } else { m.settled }
+}
+
+// Either part or both, after the rows that settle the parts: rows a and b say that they are, and j is the next free row.
+fn join_settled(front: Words, j: u16, p: PartRows, q: PartRows, a: u16, b: u16) -> Added
+    requires { ⌜ (front .count ≤ 2) × (j < 12010) ⌝ }
+    ensures { λ r. ⌜ ((ws : List ℕ) → Lists front ws → Adds (after-words ws (settled-piece j p q a b)) r) ⌝ }
+{
+    let first = add(front, either_row(p.begun, q.begun));
+    let second = add(first, not_row(j));
+    let third = add(second, both_row(a, b));
+    let words = add(third, both_row(j, j + 2));
+    let part = PartRows {
+        begun: j,
+        idle: j + 1,
+        done: j + 3,
+        settled: j + 2,
+        first: p.first,
+    };
+    let needs = Needs {
+        later: 0,
+        earlier: 0,
+    };
+    Added { words, part, needs }
 }
 
 // Either part or both.
-fn some(out: &mut [u8], base: usize, k: usize, p: Mark, q: Mark) -> Made
-    requires { ⌜ (base ≤ 2052) × (k < 11900) ⌝ }
-    ensures { λ r. ⌜ Makes (or-piece k p q) base k (now (out .entry)) r (now (out .exit)) ⌝ }
+fn join_some(k: u16, p: PartRows, q: PartRows) -> Added
+    requires { ⌜ k < 12000 ⌝ }
+    ensures { λ r. ⌜ Adds (some-piece k p q) r ⌝ }
 {
-    let a = settle(out, base, k, p);
-    let i = after(k, p);
-    let b = settle(out, base, i, q);
-    let j = after(i, q);
-    begun_rows(out, base, j, p, q);
-    row(out, base, j + 2, both_row(a, b));
-    row(out, base, j + 3, both_row(narrow(j), narrow(j + 2)));
-    Made {
-        rows: j + 4,
-        mark: Mark {
-            begun: narrow(j),
-            idle: narrow(j + 1),
-            done: narrow(j + 3),
-            settled: narrow(j + 2),
-            first: p.first,
-        },
-        x: 0,
-        y: 0,
+    let none = Words {
+        words: [0usize; 6],
+        count: 0,
+    };
+    let first = settle(none, p);
+    let front = settle(first, q);
+    join_settled(
+        front,
+        k + front.count,
+        p,
+        q,
+        settled(k, p),
+        settled(k + first.count, q),
+    )
+}
+
+// What the part of a number in postfix order adds, by the latest two parts, q and before it p.
+fn piece(op: u8, k: u16, e: u16, q: PartRows, p: PartRows) -> Added
+    requires { ⌜ k < 12000 ⌝ }
+    ensures { λ r. ⌜ Adds (piece-of op k e q p) r ⌝ }
+{
+    if op == postfix::LEAF {
+        return leaf(k, e, k, k + 1);
+    }
+    if op == postfix::AGAIN {
+        return leaf(k, e, 2, 0);
+    }
+    if op == postfix::ROUNDS {
+        return rounds(k, e, q);
+    }
+    if op == postfix::OR {
+        return join_some(k, p, q);
+    }
+    if op == postfix::XOR {
+        return join_pair(k, p, q, either_row(p.done, q.done), p.idle);
+    }
+    join_pair(k, p, q, both_row(p.done, q.done), p.done)
+}
+
+// Rows from row k on, where row 0 stands at `base`.
+fn write_rows(out: &mut [u8], base: usize, k: u16, list: Words)
+    requires { ⌜ (base ≤ 2052) × (list .count ≤ 6) ⌝ }
+    ensures { λ _. ⌜ now (out .exit) ≡ put-rows base k (listed list) (now (out .entry)) ⌝ }
+{
+    let words = list.words;
+    let count = base::wide_short(list.count);
+    let first = base + 4 * base::wide_short(k);
+    let mut i = 0;
+    while i < count {
+        base::put_word(out, first + 4 * i, words[i]);
+        i += 1;
     }
 }
 
-// The part of a number in postfix order, by the latest two marks, q and then p.
-fn part(out: &mut [u8], base: usize, op: u8, k: usize, e: usize, q: Mark, p: Mark) -> Made
-    requires { ⌜ (base ≤ 2052) × (k < 11900) × (e < 2048) ⌝ }
-    ensures { λ r. ⌜ Makes (piece-of op k e q p) base k (now (out .entry)) r (now (out .exit)) ⌝ }
+// Where the top of a stack of 1,026 places goes by a number that joins no part, one or two: so many places on, in a ring.
+fn moved(op: u8, top: usize, none: usize, two: usize) -> usize
+    requires { ⌜ (top < 1026) × (none < 1026) × (two < 1026) ⌝ }
+    ensures { λ r. ⌜ (r ≡ moved-of op top none two) × (r < 1026) ⌝ }
 {
-    if op == LEAF {
-        return event(out, base, k, e);
+    if op < postfix::ROUNDS {
+        return (top + none) % 1026;
     }
-    if op == AGAIN {
-        return again(out, base, k, e);
-    }
-    if op == ROUNDS {
-        return rounds(out, base, k, e, q);
-    }
-    if op == OR {
-        return some(out, base, k, p, q);
-    }
-    if op == XOR {
-        return one(out, base, k, p, q);
-    }
-    both(out, base, k, p, q)
-}
-
-fn mark_at(marks: &[u16], i: usize) -> Mark
-    requires { ⌜ i < 65536 ⌝ }
-    ensures { λ r. ⌜ r ≡ mark-at (now (marks .entry)) i ⌝ }
-{
-    Mark {
-        begun: number(marks, i),
-        idle: number(marks, i + 1),
-        done: number(marks, i + 2),
-        settled: number(marks, i + 3),
-        first: number(marks, i + 4),
-    }
-}
-
-fn put_mark(marks: &mut [u16], i: usize, m: Mark)
-    requires { ⌜ i < 65536 ⌝ }
-    ensures { λ _. ⌜ now (marks .exit) ≡ put-mark (now (marks .entry)) i m ⌝ }
-{
-    put(marks, i, m.begun);
-    put(marks, i + 1, m.idle);
-    put(marks, i + 2, m.done);
-    put(marks, i + 3, m.settled);
-    put(marks, i + 4, m.first);
-}
-
-// Where the latest mark stands after a number.
-fn moved(op: u8, top: usize) -> usize
-    requires { ⌜ top < 65536 ⌝ }
-    ensures { λ r. ⌜ (r ≡ moved-of op top) × (r ≤ top + 5) ⌝ }
-{
-    if op == ROUNDS {
+    if op == postfix::ROUNDS {
         return top;
     }
-    if ROUNDS < op {
-        return top + 5;
+    (top + two) % 1026
+}
+
+// How many events a number has: a leaf and a reset is one.
+fn event_count(op: u8) -> u16
+    ensures { λ r. ⌜ (r ≡ event-count-of op) × (r ≤ 1) ⌝ }
+{
+    if op < postfix::SEQ { 1 } else { 0 }
+}
+
+fn no_rows() -> PartRows
+    ensures { λ r. ⌜ r ≡ no-rows ⌝ }
+{
+    PartRows {
+        begun: 0,
+        idle: 0,
+        done: 0,
+        settled: 0,
+        first: 0,
     }
-    if top < 5 {
-        return 0;
-    }
-    top - 5
 }
 
 // The first pass: the rows of each part.
-fn ups(
-    ops: &[u8],
-    base: usize,
-    marks: &mut [u16],
-    xs: &mut [u16],
-    ys: &mut [u16],
-    out: &mut [u8],
-) -> Stand
+fn first_pass(ops: &[u8], base: usize, out: &mut [u8]) -> FirstResult
     requires { ⌜ (base ≤ 2052) × (length (now ops) ≤ 1024) ⌝ }
-    ensures { λ r. ⌜ record { rows = r .rows; event = r .event; top = r .top; marks = now (marks .exit); xs = now (xs .exit); ys = now (ys .exit); out = now (out .exit) } ≡ ups-of base (now (ops .entry)) (length (now (ops .entry))) (record { rows = 3; event = 0; top = 5120; marks = now (marks .entry); xs = now (xs .entry); ys = now (ys .entry); out = now (out .entry) }) ⌝ }
-    ensures { λ r. ⌜ (r .rows ≤ 3 + 6 * 1024) × (r .event ≤ 1024) × (r .top ≤ 5120 + 5 * 1024) ⌝ }
+    ensures { λ r. ⌜ FirstEnds (first-pass-of base (now (ops .entry)) (first-start (now (out .entry)))) r (now (out .exit)) ⌝ }
 {
-    let mut rows = 3;
-    let mut e = 0;
-    let mut top = 5120;
+    let blank = no_rows();
+    let unneeded = Needs {
+        later: 0,
+        earlier: 0,
+    };
+    let mut parts = [blank; 1026];
+    let mut needs = [unneeded; 1024];
+    let mut rows: u16 = 3;
+    let mut e: u16 = 0;
+    let mut top: usize = 1024;
     let mut i = 0;
     while i < ops.len() {
         let op = ops[i];
-        let q = mark_at(marks, top);
-        let p = mark_at(marks, top + 5);
-        let made = part(out, base, op, rows, e, q, p);
-        top = moved(op, top);
-        put_mark(marks, top, made.mark);
-        put(xs, i, made.x);
-        put(ys, i, made.y);
-        rows = made.rows;
-        if op < SEQ {
-            e += 1;
-        }
+        let under = (top + 1) % 1026;
+        let q = parts[top];
+        let p = parts[under];
+        let added = piece(op, rows, e, q, p);
+        top = moved(op, top, 1025, 1);
+        let part = added.part;
+        parts[top] = part;
+        let n = added.needs;
+        needs[i] = n;
+        let words = added.words;
+        write_rows(out, base, rows, words);
+        rows += words.count;
+        e += event_count(op);
         i += 1;
     }
-    Stand {
+    let whole = parts[top];
+    FirstResult {
         rows,
         event: e,
-        top,
+        done: whole.done,
+        needs,
     }
 }
 
-// The rows of a number in the second pass, whose part may go on by row m; answers the next free row.
-fn down_rows(out: &mut [u8], base: usize, op: u8, k: usize, m: u16, x: u16, y: u16) -> usize
-    requires { ⌜ (base ≤ 2052) × (k < 12000) ⌝ }
-    ensures { λ r. ⌜ (r ≡ k + length (down-words op m x y)) × (r ≤ k + 2) ⌝ }
-    ensures { λ _. ⌜ now (out .exit) ≡ put-rows base k (down-words op m x y) (now (out .entry)) ⌝ }
+// Whether the parts of a number go on by rows of its own: in a flow, and where one part of two runs.
+fn coupled(op: u8) -> bool
+    ensures { λ r. ⌜ r ≡ coupled-of op ⌝ }
 {
-    if (op == SEQ) | (op == XOR) {
-        row(out, base, k, both_row(m, x));
-        row(out, base, k + 1, both_row(m, y));
-        return k + 2;
-    }
-    if (op == LEAF) | (op == ROUNDS) {
-        row(out, base, k, both_row(m, x));
-        return k + 1;
-    }
-    k
+    (op == postfix::SEQ) | (op == postfix::XOR)
 }
 
-// The record of event e.
-fn event_record(op: u8, k: usize, m: u16, y: u16, e: usize) -> usize
-    requires { ⌜ (k < 65536) × (e < 2048) ⌝ }
-    ensures { λ r. ⌜ r ≡ down-record op k m y e ⌝ }
+// How many rows a number has in the second pass.
+fn second_count(op: u8) -> u16
+    ensures { λ r. ⌜ (r ≡ second-count-of op) × (r ≤ 2) ⌝ }
 {
-    if op == LEAF {
-        return k * GUARD;
+    if coupled(op) {
+        return 2;
     }
-    if op == AGAIN {
-        return wide(m) * GUARD;
+    if (op == postfix::LEAF) | (op == postfix::ROUNDS) {
+        1
+    } else {
+        0
     }
-    let first = wide(y);
-    let count = if e < first { 0 } else { e - first };
-    k * GUARD + first * RUN + count
 }
 
-// The rows by which the parts of a number may go on; answers where the latest of them stands.
-fn split(mays: &mut [u16], op: u8, k: usize, m: u16, top: usize) -> usize
-    requires { ⌜ (k < 12000) × (top < 65536) ⌝ }
-    ensures { λ r. ⌜ (r ≡ may-top op top) × (r ≤ top + 1) ⌝ }
-    ensures { λ _. ⌜ now (mays .exit) ≡ may-rows op k m top (now (mays .entry)) ⌝ }
+// Those rows, where the number may go on by row m: the guard of a leaf or a reset, or the rows by which the later and the earlier part may go on.
+fn second_words(op: u8, m: u16, n: Needs) -> Words
+    ensures { λ r. ⌜ Lists r (second-words-of op m n) × (r .count ≤ 2) ⌝ }
 {
-    if op < ROUNDS {
-        return top + 1;
+    Words {
+        words: [both_row(m, n.later), both_row(m, n.earlier), 0, 0, 0, 0],
+        count: second_count(op),
     }
-    if op == ROUNDS {
-        return top;
+}
+
+// The row by which a part of a number may go on: a new one, k, or that of the whole, m.
+fn gate(op: u8, k: u16, m: u16) -> u16
+    ensures { λ r. ⌜ r ≡ gate-row op k m ⌝ }
+{
+    if coupled(op) { k } else { m }
+}
+
+// What is left of a after b, if anything.
+fn minus(a: u16, b: u16) -> u16
+    ensures { λ r. ⌜ r ≡ a - b ⌝ }
+{
+    if a < b { 0 } else { a - b }
+}
+
+// The record of event e. A loop over a leaf goes on by m itself; a reset clears the events from `first` on.
+fn record_of(op: u8, k: u16, m: u16, first: u16, e: u16) -> usize
+    ensures { λ r. ⌜ r ≡ record-of op k m first e ⌝ }
+{
+    if op == postfix::LEAF {
+        return event_record(k, 0, 0);
     }
-    let next = if top == 0 { 0 } else { top - 1 };
-    if (op == SEQ) | (op == XOR) {
-        put(mays, top, narrow(k + 1));
-        put(mays, next, narrow(k));
-        return next;
+    if op == postfix::AGAIN {
+        return event_record(m, 0, 0);
     }
-    put(mays, next, m);
-    next
+    event_record(k, first, minus(e, first))
+}
+
+// A leaf or a reset has a record; a joint has none.
+fn put_record(out: &mut [u8], op: u8, e: u16, w: usize)
+    ensures { λ _. ⌜ now (out .exit) ≡ put-record-of op e w (now (out .entry)) ⌝ }
+{
+    if op < postfix::SEQ {
+        base::put_word(out, 4 + 4 * base::wide_short(e), w);
+    }
 }
 
 // The second pass: what lets each part go on, and the event records; answers the next free row.
-fn downs(
-    ops: &[u8],
-    base: usize,
-    xs: &[u16],
-    ys: &[u16],
-    mays: &mut [u16],
-    start: Stand,
-    out: &mut [u8],
-) -> usize
-    requires { ⌜ (base ≤ 2052) × (length (now ops) ≤ 1024) × (start .rows ≤ 3 + 6 * 1024) × (start .event ≤ 1024) × (start .top ≤ 1023) ⌝ }
-    ensures { λ r. ⌜ ((d : Down) → d ≡ downs-of base (now (ops .entry)) (now (xs .entry)) (now (ys .entry)) (length (now (ops .entry))) (length (now (ops .entry))) (record { rows = start .rows; event = start .event; top = start .top; mays = now (mays .entry); out = now (out .entry) }) → (r ≡ d .rows) × (now (out .exit) ≡ d .out)) ⌝ }
-    ensures { λ r. ⌜ r ≤ 3 + 8 * 1024 ⌝ }
+fn second_pass(ops: &[u8], base: usize, first: FirstResult, out: &mut [u8]) -> u16
+    requires { ⌜ (base ≤ 2052) × (length (now ops) ≤ 1024) × (first .rows ≤ 3 + 6 * 1024) ⌝ }
+    ensures { λ r. ⌜ SecondEnds (second-pass-of base (first .needs) (now (ops .entry)) (second-start (first .rows) (first .event) (length (now (ops .entry))) (now (out .entry)))) r (now (out .exit)) ⌝ }
 {
-    let mut rows = start.rows;
-    let mut e = start.event;
-    let mut top = start.top;
+    let needs = first.needs;
+    let mut gates = [0u16; 1026];
+    gates[1024] = 2;
+    let mut rows = first.rows;
+    let mut e = first.event;
+    let mut top: usize = 1024;
     let mut left = ops.len();
     while 0 < left {
         left -= 1;
         let op = ops[left];
-        let m = number(mays, top);
-        let y = number(ys, left);
-        let next = down_rows(out, base, op, rows, m, number(xs, left), y);
-        if op < SEQ {
-            e = if e == 0 { 0 } else { e - 1 };
-            put_word(out, 4 + 4 * e, event_record(op, rows, m, y, e));
-        }
-        top = split(mays, op, rows, m, top);
-        rows = next;
+        let m = gates[top];
+        let n = needs[left];
+        e = minus(e, event_count(op));
+        put_record(out, op, e, record_of(op, rows, m, n.earlier, e));
+        let words = second_words(op, m, n);
+        write_rows(out, base, rows, words);
+        gates[top] = gate(op, rows + 1, m);
+        let over = (top + 1025) % 1026;
+        gates[over] = gate(op, rows, m);
+        top = moved(op, top, 1, 1025);
+        rows += words.count;
     }
     rows
 }
 
+// Three rows before all others, the two passes, the row that says finished, E and R; answers how many bytes that is.
+fn both_passes(ops: &[u8], events: usize, out: &mut [u8]) -> usize
+    requires { ⌜ (length (now ops) ≤ 1024) × (events ≤ 512) ⌝ }
+    ensures { λ r. ⌜ Passes (now (ops .entry)) events (now (out .entry)) r (now (out .exit)) ⌝ }
+{
+    let base = 4 + 4 * events;
+    let constants = Words {
+        words: [bit_row(0), not_row(0), either_row(0, 1), 0, 0, 0],
+        count: 3,
+    };
+    write_rows(out, base, 0, constants);
+    let first = first_pass(ops, base, out);
+    let finished = both_row(first.done, first.done);
+    let rows = second_pass(ops, base, first, out);
+    let last = Words {
+        words: [finished, 0, 0, 0, 0, 0],
+        count: 1,
+    };
+    write_rows(out, base, rows, last);
+    let count = base::wide_short(rows) + 1;
+    base::put_word(out, 0, events * 65536 + count);
+    base + 4 * count
+}
+
 // The table of a process in postfix order that has so many events, over the front of `out`; answers how many bytes it has. Where there is no room nothing is
 // written, and the answer is 0.
-pub fn lay(ops: &[u8], events: usize, out: &mut [u8]) -> usize
-    ensures { λ r. ⌜ r ≡ laid-size (now (ops .entry)) events (now (out .entry)) ⌝ }
-    ensures { λ r. ⌜ now (out .exit) ≡ laid-out (now (ops .entry)) events (now (out .entry)) ⌝ }
+pub fn write_table(ops: &[u8], events: usize, out: &mut [u8]) -> usize
+    ensures { λ r. ⌜ TableWritten (now (ops .entry)) events (now (out .entry)) r (now (out .exit)) ⌝ }
 {
     if (1024 < ops.len()) | ((512 < events) | (out.len() < 51204)) {
         return 0;
     }
-    let base = 4 + 4 * events;
-    row(out, base, 0, 0);
-    row(out, base, 1, not_row(0));
-    row(out, base, 2, either_row(0, 1));
-    let mut marks = [0u16; 5120];
-    let mut xs = [0u16; 1024];
-    let mut ys = [0u16; 1024];
-    let up = ups(ops, base, &mut marks, &mut xs, &mut ys, out);
-    let done = number(&marks, up.top + 2);
-    let mut mays = [0u16; 1024];
-    mays[1023] = 2;
-    let start = Stand {
-        rows: up.rows,
-        event: up.event,
-        top: 1023,
-    };
-    let rows = downs(ops, base, &xs, &ys, &mut mays, start, out);
-    row(out, base, rows, both_row(done, done));
-    put_word(out, 0, events * 65536 + rows + 1);
-    base + 4 * (rows + 1)
+    both_passes(ops, events, out)
 }

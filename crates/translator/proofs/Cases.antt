@@ -4,7 +4,6 @@ use mathlib.Core.List.{List}
 use Prim.Native.Nat.{ℕ, _≤_}
 use lib.ListN.{length, take}
 use Rattle.diagram.specs.Tree.{Flow}
-use Rattle.diagram.specs.Count.{flow-events}
 use Rattle.diagram.specs.declared.Diagram.{Diagram}
 use Rattle.reader.specs.Answers.{read-of}
 use Rattle.reader.specs.Accepted.{Accepted}
@@ -15,12 +14,12 @@ use Rattle.reader.proofs.Exact.{accepted-exactly, refused-exactly}
 use Rattle.reader.proofs.Shown.{accepted-shown}
 use Rattle.process.specs.Expand.{expand}
 use Rattle.postfix.specs.Postfix.{postfix}
-use Rattle.guards.specs.Lays.{laid-size, laid-out}
+use Rattle.guards.specs.Table.{TableWritten}
 use Rattle.translator.specs.Reports.{report}
 use Rattle.translator.specs.Translates.{Translation, refused, done, passed-on, Read, Writes}
 use Rattle.translator.specs.declared.Translated.{Translated}
 use Rattle.translator.specs.declared.Translated.the-variants.{Bytes}
-use Rattle.translator.proofs.Tables.{codes, count-is, count-fits, numbers-are, laid-written}
+use Rattle.translator.proofs.Tables.{codes, count-is, count-fits, numbers-are, plan-written}
 
 module _ (text : List ℕ) (o : ReadResult) (read : o ≡ read-of text) where
   module _ (told : o .answer ≡ Done) where
@@ -44,15 +43,12 @@ module _ (text : List ℕ) (o : ReadResult) (read : o ≡ read-of text) where
   refused-answer lent left r number place long told e q =
       refused number place long (refused-exactly text number place .0 (sym (ap (λ (x : ReadResult). x .answer) read) ∙ told)) (ap report (e ∙ ap passed-on told)) q
 
--- The table that the passes write over the lent bytes is the diagram's.
+-- The table that is written over the lent bytes is the diagram's.
 module _ (g : Diagram) (lent : List ℕ) (long : 51204 ≤ length lent) where
-  pub table-written : (n size : ℕ) (ops left : List ℕ) → n ≡ codes g .walk .count → ops ≡ codes g .codes
-      → size ≡ laid-size (take n ops) (g .events) lent → left ≡ laid-out (take n ops) (g .events) lent → Writes g lent size left
-  table-written n size ops left a b e f text d acc s =
-      let q : take n ops ≡ postfix (expand d) = rw (a, b) (numbers-are text d acc g s) in
-      let m : size ≡ laid-size (postfix (expand d)) (flow-events d) lent = e ∙ rw (q, s .events) in
-      let bytes : left ≡ laid-out (postfix (expand d)) (flow-events d) lent = f ∙ rw (q, s .events) in
-      rw (m, bytes) (laid-written text d acc lent long)
+  pub table-written : (n size : ℕ) (ops left : List ℕ) → n ≡ codes g .walk .count → ops ≡ codes g .codes → TableWritten (take n ops) (g .events) lent size left
+      → Writes g lent size left
+  table-written n size ops left a b w text d acc s =
+      plan-written text d acc lent long (take n ops) (g .events) size left w (rw (a, b) (numbers-are text d acc g s)) (s .events)
 
 -- The numbers in postfix order stand in the column.
 pub numbers-fit : (g : Diagram) → Read g → (n : ℕ) (ops : List ℕ) → n ≡ codes g .walk .count → ops ≡ codes g .codes → n ≤ length ops

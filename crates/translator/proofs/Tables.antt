@@ -4,7 +4,9 @@ use mathlib.Core.List.{List}
 use Prim.Native.Nat.{ℕ, _≤_}
 use native.Mathlib.Omega.{arith}
 use lib.ListN.{length, take, replicate}
+use borrow.Author.Tests.{le-leb}
 use Rattle.base.specs.Fill.{fill}
+use Rattle.base.proofs.Truth.{and-i}
 use Rattle.base.proofs.Filled.{fill-length, fill-front}
 use Rattle.diagram.specs.Tree.{Flow}
 use Rattle.diagram.specs.Count.{flow-nodes, flow-events}
@@ -19,12 +21,11 @@ use Rattle.book.proofs.Played.{agreeing-plays}
 use Rattle.expansion.specs.Walks.{Place, place, expanded}
 use Rattle.postfix.proofs.Short.{postfix-short}
 use Rattle.expansion.proofs.Postfixed.{expansion-exact}
-use Rattle.guards.specs.Lays.{laid-size, laid-out}
-use Rattle.guards.specs.Plan.{rows-of, planned}
-use Rattle.guards.proofs.Few.{rows-few}
-use Rattle.guards.proofs.Packed.{planned-length}
-use Rattle.guards.proofs.Passed.{laid-plan}
-use Rattle.guards.proofs.Guarded.{plan-agrees, plan-rows}
+use Rattle.plan.specs.Plan.{rows-of, planned}
+use Rattle.plan.proofs.Few.{rows-few}
+use Rattle.plan.proofs.Lengths.{planned-length}
+use Rattle.plan.proofs.Guarded.{plan-agrees, plan-rows}
+use Rattle.guards.specs.Table.{TableWritten}
 use Rattle.translator.specs.Translates.{Table-of, table-of, Written}
 
 -- What the walk over the nodes leaves in a column of 1,024 numbers.
@@ -79,10 +80,14 @@ module _ (text : List ℕ) (d : Flow) (a : Accepted text d) where
         its-runs = agreeing-plays d (a .keeps) (a .events) (planned (expand d)) agrees;
       }
 
-  -- They are what is laid out, whatever was lent.
-  pub laid-written : (lent : List ℕ) → 51204 ≤ length lent
-      → Written d lent (laid-size (postfix (expand d)) (flow-events d) lent) (laid-out (postfix (expand d)) (flow-events d) lent)
+  -- They are what is written, whatever was lent.
+  pub plan-written : (lent : List ℕ) → 51204 ≤ length lent → (ops : List ℕ) (events size : ℕ) (left : List ℕ) → TableWritten ops events lent size left
+      → ops ≡ postfix (expand d) → events ≡ flow-events d → Written d lent size left
   unfolding table-of
-  laid-written lent long =
-      let plan = laid-plan (expand d) (flow-events d) lent its-numbers its-size (a .events) long in
-      record { its-count = plan .1; its-left = plan .0; fits = omega (arith, its-length, long); its-table = its-table }
+  plan-written lent long ops events size left w o e =
+      let short = length-of ops o in
+      let plan = w .its-plan d (a .keeps .sizes) o e (and-i (le-leb (length ops) 1024 short) (and-i (le-leb events 512 (omega (arith, e, a .events))) (le-leb 51204 (length lent) long))) in
+      record { its-count = plan .0; its-left = plan .1; fits = omega (arith, its-length, long); its-table = its-table }
+    where
+      length-of : (ops : List ℕ) → ops ≡ postfix (expand d) → length ops ≤ 1024
+      length-of ops o = rw o its-short

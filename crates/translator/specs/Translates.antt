@@ -21,7 +21,7 @@ use Rattle.process.specs.Bits.{clears}
 use Rattle.layout.specs.Fields.{events, rows, event-word, first-of, count-of}
 use Rattle.layout.specs.Sound.{sound}
 use Rattle.book.specs.Plays.{Plays-by-book}
-use Rattle.guards.specs.Plan.{planned}
+use Rattle.plan.specs.Plan.{planned}
 use Rattle.translator.specs.Reports.{report}
 use Rattle.translator.specs.declared.Translated.{Translated}
 use Rattle.translator.specs.declared.Translated.the-variants.{Bytes, Refused}

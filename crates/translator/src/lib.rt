@@ -29,7 +29,7 @@ fn write(d: Diagram, out: &mut [u8]) -> usize
     let mut codes = [0u8; 1024];
     let events = d.events;
     let n = expansion::expand(d, &mut codes);
-    guards::lay(&codes[..n], events, out)
+    guards::write_table(&codes[..n], events, out)
 }
 
 // The table of a text, or the refusal: 1 for a buffer of under 51,204 bytes, and then reading's. A refused text leaves the buffer as it was; bytes past those

@@ -1,0 +1,13 @@
+pub mod Says
+pub mod Lengths
+pub mod Decoded
+pub mod Within
+pub mod Gates
+pub mod PlanTrue
+pub mod GuardsTrue
+pub mod RowsLower
+pub mod RecordsKept
+pub mod Few
+pub mod ReadBack
+pub mod Tabled
+pub mod Guarded
