@@ -4,24 +4,24 @@ use mathlib.Core.Bool.{true, false, cond, _&&_}
 use mathlib.Core.List.{List, [], _∷_}
 use mathlib.Core.Logic.{_≢_, _⊎_, inl, inr, ⊎-elim}
 use Prim.Native.Nat.{ℕ, zero, suc, _+_, _-_, _*_, _/_, _%_, _^_, _≤_, _<_}
-use native.Mathlib.Nat.{zero-add, suc-add, one-mul, mod-lt, mul-mod-left, div-eq-of-lt, zero-lt-suc}
+use native.Mathlib.Nat.{zero-add, suc-add, one-mul, mod-lt, mul-mod-left, div-self, div-eq-of-lt, zero-lt-suc}
 use native.Mathlib.Numerals.{add-one}
 use native.Mathlib.Omega.{arith}
 use lib.ListN.{length, getD, set, length-set}
 use lib.Seq.{getD-set-same, getD-set-other, set-out}
 use lib.Dec.{eqb, ltb, leb, lit<}
-use lib.Pow.{pow-add, pow-lt, shl-shr, shl-exact}
+use lib.Pow.{pow-pos, pow-add, pow-lt, shl-shr, shl-exact}
 use lib.Bits.{bitOr, bitXor, or-lt, xor-lt, or-shr, or-mod, xor-shr, xor-mod, or-zero-r, xor-zero-r}
 use borrow.Author.Tests.{eqb-true, eqb-false, eq-eqb, ltb-true, ltb-false, leb-true, le-leb, le-ltb, lt-ltb}
 use Rattle.base.proofs.Truth.{by-cases}
-use Rattle.record.specs.Bits.{Words, bit-at, change, set-bit, clear-bit, clear-bits}
+use Rattle.record.specs.Bits.{Words, bit-at, change, set-bit, without, clear-bit, clear-bits}
 
 pub one-shl : (k : ℕ) → k < 64 → (1 * 2 ^ k) % 2 ^ 64 ≡ 2 ^ k
 one-shl k h = shl-exact {a = 1} 1 k 64 (lit< tt) (omega arith) ∙ one-mul (2 ^ k)
 
 -- ---- the bits of one word
 pow-same : (k : ℕ) → 2 ^ k / 2 ^ k % 2 ≡ 1
-pow-same k = ap (λ (x : ℕ). x % 2) (ap (λ (x : ℕ). x / 2 ^ k) (sym (one-mul (2 ^ k))) ∙ shl-shr 1 k)
+pow-same k = ap (λ (x : ℕ). x % 2) (div-self (pow-pos k))
 
 pow-split : (d j : ℕ) → 2 ^ (d + 1 + j) ≡ 2 ^ d * 2 * 2 ^ j
 pow-split d j = pow-add 2 (d + 1) j ∙ ap (λ (x : ℕ). x * 2 ^ j) (pow-add 2 d 1)
@@ -72,10 +72,14 @@ pub change-out : (f : ℕ → ℕ → ℕ) (ws : List ℕ) (e : ℕ) → 512 ≤
 unfolding change
 change-out f ws e h = rw (le-ltb e 512 h)
 
-pub change-in : (f : ℕ → ℕ → ℕ) (ws : List ℕ) (e : ℕ) → e < 512
+change-in : (f : ℕ → ℕ → ℕ) (ws : List ℕ) (e : ℕ) → e < 512
     → change f ws e ≡ set ws (e / 64) (f (getD ws (e / 64) 0) (2 ^ (63 - e % 64)))
 unfolding change
 change-in f ws e h = rw (lt-ltb e 512 h)
+
+-- The change that the code makes, with the mask that it was given.
+pub change-by : (f : ℕ → ℕ → ℕ) (ws : List ℕ) (e m : ℕ) → e < 512 → m ≡ 2 ^ (63 - e % 64) → set ws (e / 64) (f (getD ws (e / 64) 0) m) ≡ change f ws e
+change-by f ws e m h q = rw q (sym (change-in f ws e h))
 
 pub length-change : (f : ℕ → ℕ → ℕ) (ws : List ℕ) (e : ℕ) → length (change f ws e) ≡ length ws
 unfolding change
@@ -106,7 +110,7 @@ pub clear-words : (ws : List ℕ) (first n : ℕ) → Words ws → Words (clear-
 unfolding clear-bits
 clear-words ws first zero words = words
 clear-words ws first (suc n) words =
-    change-words (λ w m. bitXor (bitOr w m) m) (λ x m p q. xor-lt 64 _ m (or-lt 64 x m p q) q) (clear-bits ws first n) (first + n)
+    change-words without (λ x m p q. xor-lt 64 _ m (or-lt 64 x m p q) q) (clear-bits ws first n) (first + n)
     (clear-words ws first n words)
 
 -- A change at one bit leaves the others, if it does so in a word.
@@ -138,15 +142,15 @@ bit-set-other ws e i n = at-other bitOr set-other ws e i n
 
 pub bit-clear-same : (ws : List ℕ) (e : ℕ) → length ws ≡ 8 → e < 512 → bit-at (clear-bit ws e) e ≡ false
 bit-clear-same ws e l h =
-    at-same (λ w m. bitXor (bitOr w m) m) ws e l h ∙ ap (λ (y : ℕ). eqb y 1) (clear-same (getD ws (e / 64) 0) (63 - e % 64))
+    at-same without ws e l h ∙ ap (λ (y : ℕ). eqb y 1) (clear-same (getD ws (e / 64) 0) (63 - e % 64))
 
 pub bit-clear-other : (ws : List ℕ) (e i : ℕ) → i ≢ e → bit-at (clear-bit ws e) i ≡ bit-at ws i
-bit-clear-other ws e i n = at-other (λ w m. bitXor (bitOr w m) m) clear-other ws e i n
+bit-clear-other ws e i n = at-other without clear-other ws e i n
 
 pub length-clear-bits : (ws : List ℕ) (first n : ℕ) → length (clear-bits ws first n) ≡ length ws
 unfolding clear-bits
 length-clear-bits ws first zero = refl
-length-clear-bits ws first (suc n) = length-change (λ w m. bitXor (bitOr w m) m) (clear-bits ws first n) (first + n) ∙ length-clear-bits ws first n
+length-clear-bits ws first (suc n) = length-change without (clear-bits ws first n) (first + n) ∙ length-clear-bits ws first n
 
 -- Clearing bits from 512 on changes nothing.
 clear-bits-out : (ws : List ℕ) (first n k : ℕ) → 512 ≤ first + n → clear-bits ws first (k + n) ≡ clear-bits ws first n
@@ -154,7 +158,7 @@ unfolding clear-bits
 clear-bits-out ws first n zero h = rw (zero-add n)
 clear-bits-out ws first n (suc k) h =
     rw (suc-add k n)
-    (change-out (λ w m. bitXor (bitOr w m) m) (clear-bits ws first (k + n)) (first + (k + n)) (omega arith) ∙ clear-bits-out ws first n k h)
+    (change-out without (clear-bits ws first (k + n)) (first + (k + n)) (omega arith) ∙ clear-bits-out ws first n k h)
 
 -- What the loop that clears holds: at its start, after one more bit, and where it stops at 512.
 pub clear-bits-none : (ws : List ℕ) (first : ℕ) → ws ≡ clear-bits ws first 0

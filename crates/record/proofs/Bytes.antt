@@ -9,9 +9,16 @@ use lib.Seq.{getD-at, take-all}
 use lib.Dec.{eqb}
 use borrow.Author.Tests.{eqb-true, eqb-false}
 use Rattle.base.specs.Fill.{fill}
+use Rattle.base.specs.Packed.{field}
 use Rattle.base.proofs.Truth.{by-cases}
 use Rattle.base.proofs.Filled.{fill-more}
-use Rattle.record.specs.Bytes.{byte-of, bytes-to, bytes-of}
+use Rattle.record.specs.Bytes.{words-of, byte-of, bytes-to, bytes-of}
+
+-- Eight words that were read.
+pub loaded : (s : List ℕ) (a b c d e f g h : ℕ) → a ≡ field 8 s 0 → b ≡ field 8 s 8 → c ≡ field 8 s 16 → d ≡ field 8 s 24 → e ≡ field 8 s 32 → f ≡ field 8 s 40
+    → g ≡ field 8 s 48 → h ≡ field 8 s 56 → a ∷ b ∷ c ∷ d ∷ e ∷ f ∷ g ∷ h ∷ [] ≡ words-of s
+unfolding words-of
+loaded s a b c d e f g h A B C D E F G H = rw (A, B, C, D, E, F, G, H)
 
 pub bytes-length : (ws : List ℕ) (n : ℕ) → length (bytes-to ws n) ≡ n
 unfolding bytes-to

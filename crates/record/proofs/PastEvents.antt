@@ -4,11 +4,11 @@ use mathlib.Core.Bool.{Bool, true, false, not, _&&_, _||_}
 use mathlib.Core.List.{List}
 use mathlib.Core.Logic.{⊎-elim}
 use Prim.Native.Nat.{ℕ, zero, suc, _+_, _-_, _*_, _/_, _%_, _^_, _≤_, _<_}
-use native.Mathlib.Nat.{div-eq-of-lt, le-of-lt, lt-of-lt-of-le, lt-trans, mod-eq-of-lt, mod-lt, zero-div, zero-lt-suc, zero-mod}
+use native.Mathlib.Nat.{div-eq-of-lt, lt-of-lt-of-le, mod-eq-of-lt, mod-lt, pow-le-pow-right, zero-div, zero-lt-suc, zero-mod}
 use native.Mathlib.Omega.{arith}
 use lib.ListN.{getD}
-use lib.Dec.{eqb, ltb}
-use lib.Pow.{pow-pos, pow-lt, mod-pow-add}
+use lib.Dec.{eqb, ltb, lit<}
+use lib.Pow.{pow-pos, mod-pow-add}
 use borrow.Author.Tests.{eqb-true, eqb-false, eq-eqb, ltb-true, ltb-false, lt-ltb}
 use Rattle.base.proofs.Truth.{by-cases, and-l, and-r, and-i, or-e, or-l, or-r, not-i, not-e, agree}
 use Rattle.base.proofs.Each.{each-below, below-each}
@@ -63,9 +63,7 @@ word-bit ws i j h k =
     rw (lt-ltb (64 * i + (63 - j)) 512 (omega arith), q, r)
 
 high-none : (w j : ℕ) → w < 2 ^ 64 → 64 ≤ j → w / 2 ^ j % 2 ≡ 0
-high-none w j h k =
-    let l : w < 2 ^ j = by-cases (eqb j 64) (λ q. rw (eqb-true j 64 q) h) (λ q. let p : 64 < j = omega (arith, eqb-false j 64 q) in lt-trans h (pow-lt p)) in
-    ap (λ (x : ℕ). x % 2) (div-eq-of-lt l)
+high-none w j h k = ap (λ (x : ℕ). x % 2) (div-eq-of-lt (lt-of-lt-of-le h (pow-le-pow-right (lit< tt) k)))
 
 bit-zero : (x : ℕ) → eqb (x % 2) 1 ≡ false → x % 2 ≡ 0
 bit-zero x e = let l = mod-lt x (zero-lt-suc 1) in omega (arith, eqb-false (x % 2) 1 e)
@@ -120,11 +118,7 @@ past-end ws first i none h q = rw (q, h)
 -- The remainder by which the code finds a word's bits at or past `first`.
 pub past-all : (w start first : ℕ) → w < 2 ^ 64 → first ≤ start → w ≡ w % 2 ^ (start + 64 - first)
 past-all w start first h l =
-    let q : start + 64 - first ≡ (start - first) + 64 = omega arith in
-    sym (mod-eq-of-lt (lt-of-lt-of-le h (rw q (pow-le (start - first)))))
-  where
-    pow-le : (d : ℕ) → 2 ^ 64 ≤ 2 ^ (d + 64)
-    pow-le d = by-cases (eqb d 0) (λ q. rw (eqb-true d 0 q) (omega arith)) (λ q. let p : 64 < d + 64 = omega (arith, eqb-false d 0 q) in le-of-lt (pow-lt p))
+    let q : 64 ≤ start + 64 - first = omega arith in sym (mod-eq-of-lt (lt-of-lt-of-le h (pow-le-pow-right (lit< tt) q)))
 
 pub past-none : (w start first : ℕ) → start + 64 ≤ first → 0 ≡ w % 2 ^ (start + 64 - first)
 past-none w start first l = let q : start + 64 - first ≡ 0 = omega arith in rw q (omega arith)

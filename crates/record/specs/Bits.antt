@@ -22,8 +22,12 @@ change f ws e = cond (ltb e 512) (set ws (e / 64) (f (getD ws (e / 64) 0) (2 ^ (
 abbrev pub set-bit : List ℕ → ℕ → List ℕ
 set-bit ws e = change bitOr ws e
 
+-- A word without the bit m.
+abbrev pub without : ℕ → ℕ → ℕ
+without w m = bitXor (bitOr w m) m
+
 abbrev pub clear-bit : List ℕ → ℕ → List ℕ
-clear-bit ws e = change (λ w m. bitXor (bitOr w m) m) ws e
+clear-bit ws e = change without ws e
 
 -- The words with `count` bits cleared, from the bit `first` on.
 unfoldable pub clear-bits : List ℕ → ℕ → ℕ → List ℕ

@@ -29,6 +29,13 @@ pub fn bit(bits: &[u64; 8], e: usize) -> bool
     (w >> down) % 2 == 1
 }
 
+// The number whose only bit is that of event e within its word.
+fn mask(e: usize) -> u64
+    ensures { λ r. ⌜ r ≡ 2 ^ (63 - e % 64) ⌝ }
+{
+    1u64 << (63 - e % 64)
+}
+
 // The words with one bit set; no bit from 512 on changes anything.
 pub fn set(bits: [u64; 8], e: usize) -> [u64; 8]
     ensures { λ r. ⌜ r ≡ set-bit bits e ⌝ }
@@ -38,8 +45,7 @@ pub fn set(bits: [u64; 8], e: usize) -> [u64; 8]
         return b;
     }
     let i = e / 64;
-    let k = 63 - e % 64;
-    let m = 1u64 << k;
+    let m = mask(e);
     b[i] = b[i] | m;
     b
 }
@@ -52,8 +58,7 @@ fn clear_bit(bits: [u64; 8], e: usize) -> [u64; 8]
         return b;
     }
     let i = e / 64;
-    let k = 63 - e % 64;
-    let m = 1u64 << k;
+    let m = mask(e);
     b[i] = (b[i] | m) ^ m;
     b
 }
