@@ -46,14 +46,29 @@ child = 15
 abbrev pub ref : List Want
 ref = sign 1 ∷ number 0 1 ∷ sign 2 ∷ []
 
--- What follows the keyword of a node, whose parts have d depths left: the choice between flow, leaf and constructor.
+-- What follows the keyword of a node, whose parts have d depths left.
+abbrev pub flow-parts : ℕ → List Want
+flow-parts d = sign 1 ∷ sign 6 ∷ params ∷ sign 1 ∷ node child d ∷ ref ++ (more d ∷ [])
+
+abbrev pub leaf-parts : List Want
+leaf-parts = sign 1 ∷ sign 6 ∷ sign 2 ∷ []
+
+abbrev pub group-parts : ℕ → List Want
+group-parts d = sign 1 ∷ node member d ∷ node member d ∷ others d ∷ []
+
+abbrev pub replicator-parts : ℕ → List Want
+replicator-parts d = sign 1 ∷ sign 6 ∷ sign 4 ∷ number 1 16 ∷ sign 2 ∷ sign 1 ∷ node member d ∷ sign 2 ∷ []
+
+abbrev pub loop-parts : ℕ → List Want
+loop-parts d = sign 1 ∷ node member d ∷ sign 2 ∷ []
+
+-- The choice between flow, leaf and constructor, by the keyword.
 unfoldable pub parts : ℕ → ℕ → List Want
 parts c d =
-    cond (eqb c 7) (sign 1 ∷ sign 6 ∷ params ∷ sign 1 ∷ node child d ∷ ref ++ (more d ∷ []))
-    (cond (eqb c 8) (sign 1 ∷ sign 6 ∷ sign 2 ∷ [])
-    (cond (ltb c 12) (sign 1 ∷ node member d ∷ node member d ∷ others d ∷ [])
-    (cond (ltb c 15) (sign 1 ∷ sign 6 ∷ sign 4 ∷ number 1 16 ∷ sign 2 ∷ sign 1 ∷ node member d ∷ sign 2 ∷ [])
-    (sign 1 ∷ node member d ∷ sign 2 ∷ []))))
+    cond (eqb c 7) (flow-parts d)
+    (cond (eqb c 8) leaf-parts
+    (cond (ltb c 12) (group-parts d)
+    (cond (ltb c 15) (replicator-parts d) (loop-parts d))))
 
 -- Number 6: "node 257, or a node at depth 13": n nodes stand before it, and d depths are left.
 abbrev pub full : ℕ → ℕ → Bool

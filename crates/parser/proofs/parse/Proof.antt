@@ -9,20 +9,21 @@ use lib.Seq.{drop-cons}
 use Rattle.grammar.specs.Machine.{node, root, run, outcome}
 use Rattle.parser.specs.declared.Step.{Step}
 use Rattle.parser.specs.declared.Step.the-variants.{Go, Stop}
-use Rattle.parser.specs.Parsed.{left-at, Reads, parsed}
+use Rattle.parser.specs.Parsed.{parsed}
+use Rattle.parser.specs.code.Reading.{from, Reads}
 use Rattle.parser.proofs.parse.Statement.{statement}
 use Rattle.parser.proofs.parse.Tie as tie
 
 -- The text as it was read, r, as a flow: refused, or with tokens after it, or whole.
-module _ {cs : List ℕ} {r s : Step} (q : Reads cs (node root 12 ∷ []) 0 0 r) (e : r ≡ s) where
-  answer : parsed (length cs) (left-at cs [] s) ≡ parsed (length cs) (outcome cs)
+module _ {cs : List ℕ} {r s : Step} (q : Reads cs (node root 12 ∷ []) (Go 0 0) r) (e : r ≡ s) where
+  answer : parsed (length cs) (from cs [] s) ≡ parsed (length cs) (outcome cs)
   unfolding outcome
-  answer = sym (ap (parsed (length cs)) (q .machine [] ∙ ap (left-at cs []) e))
+  answer = sym (ap (parsed (length cs)) (q .machine [] ∙ ap (from cs []) e))
 
-refused : {cs : List ℕ} {r : Step} {c i : ℕ} → Reads cs (node root 12 ∷ []) 0 0 r → r ≡ Stop c i → r ≡ parsed (length cs) (outcome cs)
+refused : {cs : List ℕ} {r : Step} {c i : ℕ} → Reads cs (node root 12 ∷ []) (Go 0 0) r → r ≡ Stop c i → r ≡ parsed (length cs) (outcome cs)
 refused q e = e ∙ answer q e
 
-module _ {cs : List ℕ} {r : Step} {end m : ℕ} (q : Reads cs (node root 12 ∷ []) 0 0 r) (e : r ≡ Go end m) where
+module _ {cs : List ℕ} {r : Step} {end m : ℕ} (q : Reads cs (node root 12 ∷ []) (Go 0 0) r) (e : r ≡ Go end m) where
   trailing : end < length cs → Stop 5 end ≡ parsed (length cs) (outcome cs)
   unfolding run
   trailing h = rw (← answer q e, drop-cons cs end 0 h)
