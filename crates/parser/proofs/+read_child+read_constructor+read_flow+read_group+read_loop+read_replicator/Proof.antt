@@ -8,7 +8,7 @@ use native.Mathlib.Omega.{arith}
 use borrow.Author.Needs.{needs}
 use borrow.Fn.Kinds.{PK, In}
 use borrow.Fn.PlainCycle.{Measures, is, falls as below, and}
-use Rattle.grammar.specs.Machine.{node, more, others, child, member, ref, flow-parts, group-parts}
+use Rattle.grammar.specs.Machine.{node, more, others, child, member, ref}
 use Rattle.parser.proofs.Laws.{Leads, starts, goes, ends, refused, off-grammar, over-limit, closes, then, within, opens, another-child, another-member, more-ends, others-end, node-below, node-above, node-deep, node-many, flow-part, leaf-part, group-part, replicator-part, loop-part, reads-same, known, left, falls}
 use Rattle.parser.proofs.read_child.Reads as read-child
 use Rattle.parser.proofs.read_child.Kinds as read-child-kinds
@@ -75,8 +75,7 @@ pub +read-child+read-constructor+read-flow+read-group+read-loop+read-replicator-
     (byte.Asked, byte.Learnt, under read-flow-kinds.ps flow-measure read-flow.Pre t, read-flow.Post, read-leaf.Asked, read-leaf.Learnt, under read-constructor-kinds.ps constructor-measure read-constructor.Pre t, read-constructor.Post)
     (at-most read-child-kinds.ps child-measure read-child.Pre t)
     read-child.Post
-    (λ c. search needs)
-    (λ c. search needs)
+    (λ c. search needs) (λ c. search needs)
     (λ c. refused (c .enum-told .given .1))
     (λ c κs. search needs)
     (λ c. let t = c .before in off-grammar (t .byte .ensures) (t .before .before .s .given .1) (node-below _ _ _ _ (c .if1 .taken)))
@@ -91,8 +90,7 @@ pub +read-child+read-constructor+read-flow+read-group+read-loop+read-replicator-
     let t = c .before .before .before .before in
     let start = t .before .before .before .before .before in
     omega (arith, within (start .args .codes .now) _ (t .byte .ensures) (λ z. omega (arith, z, c .before .before .before .if1 .left)), start .good))
-    (λ c. search needs)
-    (λ c. search needs)
+    (λ c. search needs) (λ c. search needs)
     (λ c κs. (omega (arith, c .before .before .before .before .before .before .before .before .before .before .pre .0, c .before .before .if3 .left), tt))
     (λ c.
     let e = c .before .before in
@@ -129,15 +127,9 @@ pub +read-child+read-constructor+read-flow+read-group+read-loop+read-replicator-
     read-flow.Post
     flow-loop
     flow-left
-    (λ c κs. search needs)
-    (λ c κs. search needs)
-    (λ c κs. search needs)
-    (λ c κs. search needs)
-    (λ c. starts)
+    (λ c κs. search needs) (λ c κs. search needs) (λ c κs. search needs) (λ c κs. search needs) (λ c. starts)
     (λ c κs. (omega (arith, c .before .before .before .before .before .before .pre .0), tt))
-    (λ c κs. search needs)
-    (λ c. search needs)
-    (λ c. search needs)
+    (λ c κs. search needs) (λ c. search needs) (λ c. search needs)
     (λ c.
     let r = c .before .before in
     let l = r .before .before in
@@ -181,8 +173,7 @@ pub +read-child+read-constructor+read-flow+read-group+read-loop+read-replicator-
     (λ c κs. (omega (arith, c .before .before .pre .0), tt))
     (λ c. starts)
     (λ c κs. (omega (arith, c .before .before .before .before .pre .0), tt))
-    (λ c. search needs)
-    (λ c. search needs)
+    (λ c. search needs) (λ c. search needs)
     (λ c.
     let r = c .before .before in
     let l = r .before in
@@ -219,11 +210,7 @@ pub +read-child+read-constructor+read-flow+read-group+read-loop+read-replicator-
     (want.Asked, want.Learnt, read-number.Asked, read-number.Learnt, child-under t, read-child.Post)
     (at-most read-replicator-kinds.ps flow-measure read-replicator.Pre t)
     read-replicator.Post
-    (λ c κs. search needs)
-    (λ c κs. search needs)
-    (λ c κs. search needs)
-    (λ c κs. search needs)
-    (λ c κs. search needs)
+    (λ c κs. search needs) (λ c κs. search needs) (λ c κs. search needs) (λ c κs. search needs) (λ c κs. search needs)
     (λ c κs. search needs)
     (λ c κs. (omega (arith, c .before .before .before .before .before .before .before .pre .0), tt))
     (λ c κs. search needs)
