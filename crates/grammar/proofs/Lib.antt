@@ -1,3 +1,5 @@
+pub mod Token
+pub mod Limits
 pub mod Codes
 pub mod Stack
 pub mod Nodes

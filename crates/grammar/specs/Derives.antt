@@ -1,11 +1,9 @@
 -- What a text derives, and which beginnings some grammatical text has.
 use mathlib.Core.Path.{_≡_}
-use mathlib.Core.Bool.{Bool, true, false, not, _&&_}
-use mathlib.Core.List.{List, [], _∷_, _++_}
+use mathlib.Core.Bool.{true}
+use mathlib.Core.List.{List, [], _++_}
 use Rattle.diagram.specs.Tree.{Name, Flow}
 use Rattle.diagram.specs.Sizes.{flow-sized}
-use Rattle.lexer.specs.Classes.{worded, blank}
-use Rattle.lexer.specs.Words.{every}
 use Rattle.grammar.specs.Named.{flow-named}
 use Rattle.grammar.specs.Tokens.{flow-tokens}
 
@@ -22,13 +20,3 @@ pub record Derives (ts : List Name) (d : Flow) : Type 0 where
 -- Some grammatical text starts with these tokens.
 abbrev pub Viable : List Name → Type 0
 Viable ts = (d : Flow) × (rest : List Name) × Derives (ts ++ rest) d
-
--- What a token can be: a word, or one byte that is no blank.
-abbrev pub token : Name → Bool
-token [] = false
-token (b ∷ []) = not (blank b)
-token (b ∷ c ∷ w) = every worded (b ∷ c ∷ w)
-
-abbrev pub all-tokens : List Name → Bool
-all-tokens [] = true
-all-tokens (t ∷ ts) = token t && all-tokens ts

@@ -1,7 +1,6 @@
 pub mod Tokens
 pub mod Named
 pub mod Machine
-pub mod Limits
 pub mod Derives
 pub mod Printed
 pub mod Worked

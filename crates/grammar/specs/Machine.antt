@@ -33,6 +33,10 @@ pub data Outcome : Type 0 where
   whole : ℕ → Outcome
   stop : ℕ → ℕ → Outcome
 
+-- A keyword, of which each begins a node: "Leaves, flows and constructors are nodes."
+abbrev pub keyed : ℕ → Bool
+keyed c = between 7 15 c
+
 -- "child: leaf, constructor or flow. Member: leaf or flow": the keywords up to the number given.
 abbrev pub root : ℕ
 root = 7

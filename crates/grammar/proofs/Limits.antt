@@ -1,15 +1,11 @@
--- Document 01, number 6: "node 257, or a node at depth 13", by the tokens before its keyword. On trees it is `rules.specs.Sites.too-big`; the
--- two are the same, by `rules.proofs.LimitsPlaced.limits-placed`.
+-- Document 01, number 6: "node 257, or a node at depth 13", by the tokens before its keyword, which stands between the machine and the trees. On
+-- trees it is `rules.specs.Sites.too-big`; the two are the same, by `rules.proofs.LimitsPlaced.limits-placed`.
 use mathlib.Core.Bool.{Bool, _&&_, _||_, cond}
 use mathlib.Core.List.{List, [], _∷_}
 use Prim.Native.Nat.{ℕ, suc, _-_}
 use lib.Dec.{eqb, leb}
 use lib.ListN.{getD, take}
-use Rattle.lexer.specs.Classes.{between}
-
--- A keyword, of which each begins a node: "Leaves, flows and constructors are nodes."
-abbrev pub keyed : ℕ → Bool
-keyed c = between 7 15 c
+use Rattle.grammar.specs.Machine.{keyed}
 
 -- How many of these tokens pass a test.
 unfoldable pub count-of : (ℕ → Bool) → List ℕ → ℕ
