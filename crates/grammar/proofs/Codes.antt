@@ -19,7 +19,7 @@ use Rattle.lexer.specs.Words.{keywords, numerals, place-in, keyword, short, eve
 use Rattle.lexer.proofs.Below.{all-below, at-below}
 use Rattle.lexer.proofs.Between.{in-range, between-in, class-small}
 use Rattle.grammar.specs.Tokens.{opening, closing, comma, colon, key, bit, digits}
-use Rattle.grammar.specs.Derives.{token}
+use Rattle.grammar.proofs.Token.{token}
 
 -- Which way a choice went.
 pub chosen : {A : Type 0} (b : Bool) (x y : A) (P : A → Type 0) → (b ≡ true → P x) → (b ≡ false → P y) → P (cond b x y)

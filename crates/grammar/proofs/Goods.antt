@@ -13,7 +13,7 @@ use Rattle.lexer.specs.Words.{keywords, keyword, named, code}
 use Rattle.grammar.specs.Tokens.{opening, closing, comma, colon, bit, digits, child-tokens}
 use Rattle.grammar.specs.Named.{child-named}
 use Rattle.grammar.specs.Machine.{Want, sign, number, params, param, node, more, others, Move, off, big, push, root, member, child, ref, parts, full, begin, expand}
-use Rattle.grammar.specs.Derives.{token}
+use Rattle.grammar.proofs.Token.{token}
 use Rattle.grammar.proofs.Codes.{chosen}
 use Rattle.grammar.proofs.Stack.{Node, is-sign, Spells, SpellsAll}
 use Rattle.grammar.proofs.Nodes.{opens, closes, colons, names, bits, sizes}

@@ -16,7 +16,8 @@ use Rattle.lexer.specs.Words.{code}
 use Rattle.grammar.specs.Tokens.{child-tokens, member-tokens}
 use Rattle.grammar.specs.Named.{child-named, member-named}
 use Rattle.grammar.specs.Machine.{Want, node, Outcome, whole, stop, root, outcome, depths}
-use Rattle.grammar.specs.Derives.{Derives, Viable, all-tokens}
+use Rattle.grammar.specs.Derives.{Derives, Viable}
+use Rattle.grammar.proofs.Token.{all-tokens}
 use Rattle.grammar.proofs.Stack.{Node, SpellsAll, place, shape}
 use Rattle.grammar.proofs.Goods.{good-root}
 use Rattle.grammar.proofs.Runs.{Off, Big, Told, told}

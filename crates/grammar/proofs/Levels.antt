@@ -9,8 +9,7 @@ use lib.Dec.{eqb, ltb, leb}
 use borrow.Author.Tests.{eqb-true, eq-eqb, leb-true, leb-false, le-leb, lt-leb}
 use Rattle.base.proofs.Truth.{clash, is-false, and-l, and-r, and-i, or-l, or-r, or-e, or-map}
 use Rattle.lexer.specs.Classes.{between}
-use Rattle.grammar.specs.Machine.{Want, sign, number, params, param, node, more, others, Move, off, big, push, child, member, ref, parts, full, begin, expand}
-use Rattle.grammar.specs.Limits.{keyed}
+use Rattle.grammar.specs.Machine.{Want, sign, number, params, param, node, more, others, Move, off, big, push, child, member, ref, parts, full, begin, expand, keyed}
 use Rattle.grammar.proofs.LimitedFrom.{keys, opens, closes, flat, keyed-at-least, numeral-unkeyed, big-at}
 use Rattle.grammar.proofs.Codes.{chosen}
 

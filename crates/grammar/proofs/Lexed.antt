@@ -15,7 +15,7 @@ use Rattle.lexer.specs.Classes.{class-of, worded, blank}
 use Rattle.lexer.specs.Words.{front, blanks, every}
 use Rattle.lexer.proofs.Front.{front-every}
 use Rattle.lexer.specs.Spans.{Span, width, cut, spans, spans-of, tokens}
-use Rattle.grammar.specs.Derives.{token, all-tokens}
+use Rattle.grammar.proofs.Token.{token, all-tokens}
 
 -- The token starts with a byte of a word.
 abbrev pub wordy : Name → Bool

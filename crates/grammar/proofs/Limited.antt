@@ -7,7 +7,7 @@ use Prim.Native.Nat.{ℕ, zero, suc, _+_, _≤_, _<_}
 use native.Mathlib.Omega.{arith}
 use lib.ListN.{length}
 use Rattle.grammar.specs.Machine.{Want, node, root, Move, off, big, push, Outcome, whole, stop, expand, proceed, run, outcome, depths}
-use Rattle.grammar.specs.Limits.{nodes-in, count-of, over-limit}
+use Rattle.grammar.proofs.Limits.{nodes-in, count-of, over-limit}
 use Rattle.grammar.proofs.LimitedFrom.{keys, opens, closes, big-at, big-in, big-here, big-later, big-nil, over-limit-in, nodes-cons, Safe, safe-cons}
 use Rattle.grammar.proofs.Levels.{Turns, Level, turns-append, Moves, expand-moves}
 

@@ -13,7 +13,8 @@ use borrow.Author.Tests.{ne-eqb, leb-true}
 use Rattle.diagram.specs.Tree.{Name}
 use Rattle.base.proofs.Truth.{is-false, and-l, and-r}
 use Rattle.lexer.specs.Words.{code}
-use Rattle.grammar.specs.Limits.{keyed, count-of, nodes-in, over-limit}
+use Rattle.grammar.proofs.Limits.{count-of, nodes-in, over-limit}
+use Rattle.grammar.specs.Machine.{keyed}
 
 -- What a token adds to the nodes, to the opened and to the closed parentheses.
 abbrev pub keys : ℕ → ℕ

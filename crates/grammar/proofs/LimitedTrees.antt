@@ -18,7 +18,8 @@ use Rattle.base.proofs.Truth.{clash, is-false, and-l, and-r, or-l, or-r}
 use Rattle.lexer.specs.Words.{named, code}
 use Rattle.grammar.specs.Tokens.{opening, closing, comma, colon, key, group-key, replicator-key, bit, digits, pars-tokens, ref-tokens, flow-tokens, children-tokens, child-tokens, member-tokens, members-tokens}
 use Rattle.grammar.specs.Named.{all-named, flow-named, children-named, child-named, member-named, members-named}
-use Rattle.grammar.specs.Limits.{keyed, count-of, nodes-in, over-limit}
+use Rattle.grammar.proofs.Limits.{count-of, nodes-in, over-limit}
+use Rattle.grammar.specs.Machine.{keyed}
 use Rattle.grammar.specs.Derives.{Grammatical}
 use Rattle.grammar.proofs.LimitedFrom.{keys, opens, closes, flat, keyed-at-least, numeral-unkeyed, big-at, big-nil, over-limit-in, nodes-cons, Safe, safe-cons, Balanced}
 use Rattle.grammar.proofs.Codes.{Coded, coded-opening, coded-closing, coded-comma, coded-colon, coded-key, coded-digits, bit-value, coded-bit, coded-name}

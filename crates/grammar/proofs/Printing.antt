@@ -11,7 +11,7 @@ use Rattle.base.proofs.Truth.{and-l, and-r, and-i, cases, not-e}
 use Rattle.lexer.specs.Classes.{class-of, worded, blank}
 use Rattle.lexer.specs.Words.{front, blanks, short, every}
 use Rattle.lexer.specs.Spans.{Span, width, cut, spans, spans-of, tokens}
-use Rattle.grammar.specs.Derives.{token}
+use Rattle.grammar.proofs.Token.{token}
 use Rattle.grammar.specs.Printed.{printed}
 use Rattle.lexer.proofs.Between.{in-range}
 use Rattle.grammar.proofs.Lexed.{stops, pieces, cut-is-token, front-stop, worded-no-blank}

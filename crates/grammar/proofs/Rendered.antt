@@ -14,7 +14,8 @@ use Rattle.lexer.specs.Words.{keywords, keyword, short, every, lettered, named}
 use Rattle.lexer.specs.Spans.{tokens}
 use Rattle.grammar.specs.Tokens.{opening, closing, comma, colon, key, group-key, replicator-key, bit, digits, pars-tokens, ref-tokens, flow-tokens, children-tokens, child-tokens, member-tokens, members-tokens}
 use Rattle.grammar.specs.Named.{all-named, flow-named, children-named, child-named, member-named, members-named}
-use Rattle.grammar.specs.Derives.{token, all-tokens, Grammatical}
+use Rattle.grammar.specs.Derives.{Grammatical}
+use Rattle.grammar.proofs.Token.{token, all-tokens}
 use Rattle.grammar.proofs.Codes.{coded-key, coded-digits, coded-name}
 use Rattle.lexer.proofs.Below.{at-below}
 use Rattle.lexer.proofs.Between.{in-range}

@@ -10,7 +10,7 @@ use Rattle.diagram.specs.Tree.{Name}
 use Rattle.base.proofs.Truth.{and-l, and-r}
 use Rattle.lexer.specs.Words.{code}
 use Rattle.grammar.specs.Machine.{Want, Move, off, big, push, Outcome, whole, stop, expand, proceed, run}
-use Rattle.grammar.specs.Derives.{token, all-tokens}
+use Rattle.grammar.proofs.Token.{token, all-tokens}
 use Rattle.grammar.proofs.Stack.{SpellsAll, joined, parted}
 use Rattle.grammar.proofs.Steps.{Taken, step-out, step-into, never-empty}
 use Rattle.grammar.proofs.Goods.{Good, AllGood, GoodMove, all-filled, good-append, good-expand, big-spells}

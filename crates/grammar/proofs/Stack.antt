@@ -14,7 +14,7 @@ use Rattle.lexer.specs.Words.{named, code}
 use Rattle.grammar.specs.Tokens.{opening, closing, comma, colon, key, bit, digits, pars-tokens, children-tokens, child-tokens, member-tokens, members-tokens}
 use Rattle.grammar.specs.Named.{all-named, children-named, child-named, member-named, members-named}
 use Rattle.grammar.specs.Machine.{Want, sign, number, params, param, node, more, others, member}
-use Rattle.grammar.specs.Derives.{token}
+use Rattle.grammar.proofs.Token.{token}
 use Rattle.grammar.proofs.Codes.{is-opening, is-closing, is-colon, is-name, is-digits, is-bit, Coded}
 use Rattle.lexer.proofs.Between.{in-range, between-in}
 

@@ -15,7 +15,7 @@ use Rattle.lexer.specs.Words.{named, code}
 use Rattle.grammar.specs.Tokens.{closing, comma, bit, pars-tokens, ref-tokens, children-tokens, members-tokens}
 use Rattle.grammar.specs.Named.{all-named, children-named, child-named, member-named, members-named}
 use Rattle.grammar.specs.Machine.{Want, sign, number, params, param, node, more, others, Move, off, big, push, member, child, ref, parts, full, begin, expand}
-use Rattle.grammar.specs.Derives.{token}
+use Rattle.grammar.proofs.Token.{token}
 use Rattle.grammar.proofs.Codes.{chosen, is-key, is-name, is-comma, is-closing, is-bit, coded-closing, coded-comma, coded-name, bit-between}
 use Rattle.lexer.proofs.Below.{at-below}
 use Rattle.lexer.proofs.Between.{in-range, between-in}

@@ -14,7 +14,7 @@ use Rattle.diagram.specs.Names.{same}
 use Rattle.base.proofs.Decided.{same-decides}
 use Rattle.lexer.specs.Words.{word-at}
 use Rattle.lexer.specs.Spans.{codes, places}
-use Rattle.grammar.specs.Limits.{keyed}
+use Rattle.grammar.specs.Machine.{keyed}
 use Rattle.rules.specs.TokenNodes.{TokenNode, flowing, leafy, copying, token-node, token-nodes, name-in, opened}
 use Rattle.rules.specs.Kept.{unheard, names-kept, fault}
 use Rattle.rules.specs.declared.Found.{Found}

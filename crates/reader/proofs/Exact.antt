@@ -21,8 +21,9 @@ use Rattle.lexer.specs.Spans.{spans-of}
 use Rattle.lexer.specs.declared.Scan.{Scan}
 use Rattle.lexer.specs.declared.Scan.the-variants.{Tokens, Refused as Unscanned}
 use Rattle.grammar.specs.Machine.{stop, outcome}
-use Rattle.grammar.specs.Limits.{over-limit}
-use Rattle.grammar.specs.Derives.{Derives, all-tokens}
+use Rattle.grammar.proofs.Limits.{over-limit}
+use Rattle.grammar.specs.Derives.{Derives}
+use Rattle.grammar.proofs.Token.{all-tokens}
 use Rattle.grammar.proofs.Lexed.{text-tokens}
 use Rattle.grammar.proofs.Grammar.{Answered, read, strayed, outgrown, answered, off-viable, off-token, off-end, off-only, big-viable, shorter, derived-once}
 use Rattle.grammar.proofs.LimitedFrom.{over-limit-begun}

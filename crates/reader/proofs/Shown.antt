@@ -18,7 +18,8 @@ use Rattle.lexer.specs.Words.{word-at, code}
 use Rattle.lexer.specs.Spans.{tokens, codes, places}
 use Rattle.lexer.proofs.Between.{in-range}
 use Rattle.grammar.specs.Tokens.{child-tokens, member-tokens}
-use Rattle.grammar.specs.Limits.{keyed, count-of, nodes-in}
+use Rattle.grammar.proofs.Limits.{count-of, nodes-in}
+use Rattle.grammar.specs.Machine.{keyed}
 use Rattle.grammar.specs.Derives.{Derives}
 use Rattle.grammar.proofs.LimitedTrees.{nodes-counted}
 use Rattle.rules.specs.TokenNodes.{TokenNode, flowing, leafy, copying, solid-of, strong-of, token-node, token-nodes, name-in, opened}

@@ -16,7 +16,7 @@ use Rattle.lexer.specs.Words.{short, every, code}
 use Rattle.lexer.specs.Spans.{tokens, codes, places}
 use Rattle.lexer.proofs.Spans.{token-word, code-worded}
 use Rattle.grammar.specs.Machine.{whole, outcome}
-use Rattle.grammar.specs.Limits.{over-limit}
+use Rattle.grammar.proofs.Limits.{over-limit}
 use Rattle.grammar.specs.Derives.{Derives}
 use Rattle.grammar.proofs.Lexed.{text-tokens}
 use Rattle.grammar.proofs.Rendered.{usual, proper, all-proper, diagram-sound}

@@ -16,7 +16,8 @@ use Rattle.base.proofs.Truth.{cases}
 use Rattle.lexer.specs.Words.{code}
 use Rattle.grammar.specs.Tokens.{flow-tokens}
 use Rattle.grammar.specs.Derives.{Grammatical}
-use Rattle.grammar.specs.Limits.{keyed, over-limit}
+use Rattle.grammar.proofs.Limits.{over-limit}
+use Rattle.grammar.specs.Machine.{keyed}
 use Rattle.grammar.proofs.LimitedFrom.{keys, opens, closes, flat, keyed-at-least, Balanced, big-in, big-here, big-later, big-nil, over-limit-in}
 use Rattle.grammar.proofs.LimitedTrees.{tree-level}
 use Rattle.rules.specs.TokenNodes.{TokenNode, token-node, token-nodes, opened}

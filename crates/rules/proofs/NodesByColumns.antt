@@ -8,7 +8,8 @@ use lib.ListN.{length, drop}
 use lib.Seq.{drop-drop}
 use Rattle.diagram.specs.Tree.{Name}
 use Rattle.base.proofs.Truth.{cases}
-use Rattle.grammar.specs.Limits.{keyed, count-of}
+use Rattle.grammar.proofs.Limits.{count-of}
+use Rattle.grammar.specs.Machine.{keyed}
 use Rattle.rules.specs.TokenNodes.{TokenNode, token-node, token-nodes, opened, keys, depths, by-columns}
 
 -- The tokens from k on, one further.
