@@ -29,8 +29,7 @@ use Rattle.grammar.proofs.Grammar.{Answered, read, strayed, outgrown, answered,
 use Rattle.grammar.proofs.LimitedFrom.{over-limit-begun}
 use Rattle.grammar.proofs.Limited.{big-over-limit, off-none-big, whole-none-big}
 use Rattle.rules.specs.PlacedNodes.{flow-placed-nodes, too-big}
-use Rattle.rules.specs.declared.Found.{Found}
-use Rattle.rules.specs.declared.Found.the-variants.{At, Nothing}
+use Rattle.rules.specs.Found.{Found, At, Nothing}
 use Rattle.rules.specs.declared.Verdict.{Verdict}
 use Rattle.rules.specs.declared.Verdict.the-variants.{Kept, Refused as Unkept}
 use Rattle.rules.proofs.Trees.{flow-token-nodes}

@@ -10,7 +10,8 @@ use lib.Seq.{take-all, take-suc, set-at, length-take-le, append-snoc}
 use Rattle.diagram.specs.Tree.{Name}
 use Rattle.diagram.specs.Stored.{blank-node}
 use Rattle.diagram.specs.declared.Node.{Node}
-use Rattle.rules.specs.TokenNodes.{token-node, by-columns}
+use Rattle.rules.specs.TokenNodes.{token-node}
+use Rattle.nodes.specs.code.Columns.{by-columns}
 use Rattle.reader.specs.Nodes.{node-of, stored}
 
 -- The nodes of two columns.

@@ -18,14 +18,15 @@ use Rattle.grammar.proofs.Few.{whole-few}
 use Rattle.parser.specs.declared.Step.{Step}
 use Rattle.parser.specs.declared.Step.the-variants.{Go, Stop}
 use Rattle.parser.specs.Parsed.{parsed as step-of}
-use Rattle.rules.specs.TokenNodes.{TokenNode, token-nodes, keys, depths, by-columns, name-in}
+use Rattle.rules.specs.TokenNodes.{TokenNode, token-nodes, name-in}
+use Rattle.nodes.specs.code.Columns.{keys, depths, by-columns}
 use Rattle.rules.specs.Judged.{verdict}
 use Rattle.rules.specs.declared.Verdict.{Verdict}
 use Rattle.rules.specs.declared.Verdict.the-variants.{Kept, Refused as Unkept}
 use Rattle.diagram.specs.declared.Diagram.{Diagram}
 use Rattle.reader.specs.Nodes.{stored}
 use Rattle.reader.specs.declared.Answer.the-variants.{Done}
-use Rattle.rules.proofs.NodesByColumns.{columns-token-nodes, keys-count, depths-count}
+use Rattle.nodes.proofs.ByColumns.{columns-token-nodes, keys-count, depths-count}
 use Rattle.reader.specs.Answers.{no-diagram, scan-answer, parse-answer, verdict-answer, judged, parsed, scanned, read-of}
 use Rattle.reader.specs.declared.ReadResult.{ReadResult}
 use Rattle.reader.proofs.Scans.{scan-clean, clean-scan}

@@ -13,7 +13,7 @@ use Rattle.base.proofs.Truth.{cases}
 use Rattle.rules.specs.Counted.{capped}
 use Rattle.rules.specs.Judged.{refuse, counted, verdict}
 use Rattle.rules.specs.PlacedNodes.{PlacedNode, flow-placed-nodes, first-twice, first-broken}
-use Rattle.rules.specs.declared.Found.{Found}
+use Rattle.rules.specs.Found.{Found}
 use Rattle.rules.specs.declared.Verdict.{Verdict}
 use Rattle.rules.specs.declared.Verdict.the-variants.{Kept, Refused}
 use Rattle.rules.proofs.Trees.{flow-token-nodes}

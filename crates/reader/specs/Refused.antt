@@ -15,7 +15,7 @@ use Rattle.lexer.specs.Classes.{foreign}
 use Rattle.lexer.specs.Spans.{tokens, places}
 use Rattle.grammar.specs.Derives.{Derives, Viable}
 use Rattle.rules.specs.PlacedNodes.{flow-placed-nodes, too-big, first-twice, first-broken}
-use Rattle.rules.specs.declared.Found.the-variants.{At}
+use Rattle.rules.specs.Found.{At}
 use Rattle.reader.specs.Answers.{place-of}
 
 -- 2: "text over 16,384 bytes", at 16,384.

@@ -1,8 +1,9 @@
 ghost use mathlib.Core.Path.{_≡_};
-ghost use Prim.Native.Nat.{ℕ, _+_, _-_, _≤_};
+ghost use Prim.Native.Nat.{ℕ, _≤_};
 ghost use lib.ListN.{length, getD, drop};
 ghost use Rattle.diagram.specs.Tree.{Name};
-ghost use Rattle.rules.specs.TokenNodes.{token-node, token-nodes, by-columns, name-in};
+ghost use Rattle.rules.specs.TokenNodes.{token-node, token-nodes, name-in};
+ghost use Rattle.nodes.specs.code.Columns.{by-columns};
 ghost use Rattle.grammar.specs.Machine.{outcome};
 ghost use Rattle.rules.specs.Judged.{verdict};
 ghost use Rattle.reader.specs.Nodes.{kind-of, size-of, strong-flow, name-place, node-of, stored};
@@ -58,7 +59,7 @@ fn place(text: &[u8], starts: &[u16], k: usize) -> usize
     ensures { λ r. ⌜ r ≡ place-of (now (text .entry)) (now (starts .entry)) k ⌝ }
 {
     if k < starts.len() {
-        return rules::place(starts, k, 0);
+        return nodes::place(starts, k, 0);
     }
     text.len()
 }
@@ -104,23 +105,12 @@ fn kind(c: u8, size: u8) -> Kind
     Kind::Loop
 }
 
-// The number that the size of a replicator stands for.
-fn numeral(codes: &[u8], key: usize) -> u8
-    ensures { λ r. ⌜ r ≡ getD (now (codes .entry)) (key + 4) 0 - 16 ⌝ }
-{
-    let n = rules::token(codes, key, 4);
-    if n < 16 {
-        return 0;
-    }
-    n - 16
-}
-
 // A replicator's size; 0 for any other node.
 fn size(codes: &[u8], key: usize) -> u8
     ensures { λ r. ⌜ r ≡ size-of (drop key (now (codes .entry))) ⌝ }
 {
-    if rules::within(12, 14, rules::token(codes, key, 0)) {
-        return numeral(codes, key);
+    if nodes::within(12, 14, nodes::token(codes, key, 0)) {
+        return nodes::size(codes, key);
     }
     0
 }
@@ -129,8 +119,8 @@ fn size(codes: &[u8], key: usize) -> u8
 fn strong(codes: &[u8], key: usize) -> bool
     ensures { λ r. ⌜ r ≡ strong-flow (drop key (now (codes .entry))) ⌝ }
 {
-    if rules::token(codes, key, 0) == 7 {
-        return rules::strong(codes, key);
+    if nodes::token(codes, key, 0) == 7 {
+        return nodes::strong(codes, key);
     }
     false
 }
@@ -139,12 +129,12 @@ fn strong(codes: &[u8], key: usize) -> bool
 fn name(codes: &[u8], starts: &[u16], key: usize) -> usize
     ensures { λ r. ⌜ r ≡ name-place (getD (drop key (now (codes .entry))) 0 0) (now (starts .entry)) key ⌝ }
 {
-    let c = rules::token(codes, key, 0);
-    if rules::either(c, 7, 8) {
-        return rules::place(starts, key, 2);
+    let c = nodes::token(codes, key, 0);
+    if nodes::either(c, 7, 8) {
+        return nodes::place(starts, key, 2);
     }
-    if rules::within(12, 14, c) {
-        return rules::place(starts, key, 2);
+    if nodes::within(12, 14, c) {
+        return nodes::place(starts, key, 2);
     }
     0
 }
@@ -153,12 +143,12 @@ fn name(codes: &[u8], starts: &[u16], key: usize) -> usize
 fn node(codes: &[u8], starts: &[u16], key: usize, depth: usize) -> Node
     ensures { λ r. ⌜ ((nm : ℕ → Name) → r ≡ node-of (now (starts .entry)) (token-node nm depth key (drop key (now (codes .entry))))) ⌝ }
 {
-    let c = rules::token(codes, key, 0);
+    let c = nodes::token(codes, key, 0);
     let s = size(codes, key);
     let kind = kind(c, s);
-    let solid = rules::solid(codes, key);
+    let solid = nodes::solid(codes, key);
     let strong = strong(codes, key);
-    let at = rules::place(starts, key, 0);
+    let at = nodes::place(starts, key, 0);
     let name = name(codes, starts, key);
     Node {
         kind,
@@ -200,7 +190,7 @@ fn judge(text: &[u8], codes: &[u8], starts: &[u16], keys: &[usize], depths: &[us
     requires { ⌜ (length (now keys) ≤ 256) × (length (now depths) ≡ length (now keys)) ⌝ }
     ensures { λ r. ⌜ r ≡ judged-of (now (starts .entry)) (by-columns (name-in (now (text .entry)) (now (starts .entry))) (now (codes .entry)) (now (keys .entry)) (now (depths .entry))) (verdict (now (starts .entry)) (by-columns (name-in (now (text .entry)) (now (starts .entry))) (now (codes .entry)) (now (keys .entry)) (now (depths .entry)))) ⌝ }
 {
-    let v = rules::judge(text, codes, starts, keys, depths);
+    let v = judge::verdict(text, codes, starts, keys, depths);
     let Verdict::Kept(copies, events) = v else {
         return no_diagram(verdict_answer(v));
     };
@@ -221,7 +211,7 @@ fn read_tokens(text: &[u8], codes: &[u8], starts: &[u16]) -> ReadResult
     };
     let mut keys = [0usize; 256];
     let mut depths = [0usize; 256];
-    let n = rules::nodes(codes, &mut keys, &mut depths);
+    let n = nodes::columns(codes, &mut keys, &mut depths);
     judge(text, codes, starts, &keys[..n], &depths[..n])
 }
 

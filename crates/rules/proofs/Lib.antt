@@ -1,5 +1,4 @@
 pub mod Trees
-mod LawsTokens
 pub mod Around
 pub mod AroundWalk
 pub mod ParametersPlaced
@@ -15,13 +14,7 @@ pub mod SolidsPlaced
 pub mod SolidsKept
 pub mod StrongsPlaced
 pub mod StrongsKept
-mod LawsNodes
 pub mod NodeTokens
 pub mod NodeReach
 pub mod NodesRead
-pub mod NodesByColumns
-mod LawsRules
-mod LawsCounted
-mod LawsJudged
-mod LawsMarks
 pub mod Worked

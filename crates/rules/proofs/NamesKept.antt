@@ -11,8 +11,7 @@ use Rattle.base.proofs.Decided.{same-decides}
 use Rattle.rules.specs.TokenNodes.{TokenNode}
 use Rattle.rules.specs.Kept.{titled, names-kept, fault}
 use Rattle.rules.specs.PlacedNodes.{all-new, first-twice, flow-placed-nodes}
-use Rattle.rules.specs.declared.Found.{Found}
-use Rattle.rules.specs.declared.Found.the-variants.{At, Nothing}
+use Rattle.rules.specs.Found.{Found, At, Nothing}
 use Rattle.rules.proofs.Trees.{group-code, simple, flow-token-nodes, children-token-nodes, child-token-nodes, member-token-nodes, members-token-nodes}
 use Rattle.rules.proofs.NamesAlong.{flow-token-node, group-untitled, replicator-token-node, replicator-untitled}
 use Rattle.rules.proofs.NamesPlaced.{heard, passes, names-placed}

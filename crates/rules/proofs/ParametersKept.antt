@@ -7,8 +7,7 @@ use Prim.Native.Nat.{ℕ, suc}
 use Rattle.diagram.specs.Tree.{Name, Flow, flow, Children, none, next, Child, plain, loop, group, replicator, Member, leaf, inner, Members, end, also}
 use Rattle.diagram.specs.Parameters.{flow-parameters, children-parameters, child-parameters, member-parameters, members-parameters}
 use Rattle.rules.specs.PlacedNodes.{PlacedNode, flow-placed-nodes, children-placed-nodes, child-placed-nodes, member-placed-nodes, members-placed-nodes, first-broken}
-use Rattle.rules.specs.declared.Found.{Found}
-use Rattle.rules.specs.declared.Found.the-variants.{At, Nothing}
+use Rattle.rules.specs.Found.{Found, At, Nothing}
 
 -- Every node passes.
 abbrev pub every : (PlacedNode → Bool) → List PlacedNode → Bool

@@ -14,7 +14,7 @@ use Rattle.base.proofs.Decided.{all-same-decides}
 use Rattle.rules.specs.TokenNodes.{TokenNode, flowing, copying}
 use Rattle.rules.specs.Kept.{around, parameters-kept, fault}
 use Rattle.rules.specs.PlacedNodes.{PlacedNode, placed-node, flow-placed-nodes, children-placed-nodes, child-placed-nodes, member-placed-nodes, members-placed-nodes, first-broken}
-use Rattle.rules.specs.declared.Found.{Found}
+use Rattle.rules.specs.Found.{Found}
 use Rattle.rules.proofs.Trees.{simple, group-code, replicator-code, flow-token-nodes, children-token-nodes, child-token-nodes, member-token-nodes, members-token-nodes}
 use Rattle.rules.proofs.Around.{pars-nest, group-copies, group-flows, replicator-copies, replicator-flows}
 use Rattle.rules.proofs.AroundWalk.{Walk, Walked, Own, walked-none, walked-then, walked-alone, walked-under, walked-copies}

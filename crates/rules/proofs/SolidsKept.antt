@@ -6,7 +6,7 @@ use mathlib.Core.List.{[]}
 use Rattle.diagram.specs.Tree.{Flow}
 use Rattle.diagram.specs.Flows.{each-flow, solid}
 use Rattle.rules.specs.PlacedNodes.{first-broken, flow-placed-nodes}
-use Rattle.rules.specs.declared.Found.the-variants.{Nothing}
+use Rattle.rules.specs.Found.{Nothing}
 use Rattle.rules.proofs.SolidsStrongs.{kept-iff}
 use Rattle.rules.proofs.SolidsPlaced.{solid-rule}
 

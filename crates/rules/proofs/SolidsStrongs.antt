@@ -11,7 +11,7 @@ use Rattle.base.proofs.Truth.{clash, is-false, or-l}
 use Rattle.rules.specs.TokenNodes.{TokenNode, flowing, leafy}
 use Rattle.rules.specs.Kept.{titled, fault}
 use Rattle.rules.specs.PlacedNodes.{PlacedNode, placed-node, first-broken, flow-placed-nodes, children-placed-nodes, child-placed-nodes, member-placed-nodes, members-placed-nodes}
-use Rattle.rules.specs.declared.Found.the-variants.{Nothing}
+use Rattle.rules.specs.Found.{Nothing}
 use Rattle.rules.proofs.Trees.{simple, flow-token-nodes}
 use Rattle.rules.proofs.NamesAlong.{flow-token-node, token-nodes-inside, flow-placed-node, flow-key, shallow, Kinds, along}
 use Rattle.rules.proofs.ParametersPlaced.{step}

@@ -7,8 +7,7 @@ use lib.ListN.{getD}
 use Rattle.rules.specs.TokenNodes.{TokenNode}
 use Rattle.rules.specs.Kept.{names-kept, parameters-kept, solids-kept, strongs-kept, fault}
 use Rattle.rules.specs.Counted.{any-node, eventful, total, capped}
-use Rattle.rules.specs.declared.Found.{Found}
-use Rattle.rules.specs.declared.Found.the-variants.{At, Nothing}
+use Rattle.rules.specs.Found.{Found, At, Nothing}
 use Rattle.rules.specs.declared.Verdict.{Verdict}
 use Rattle.rules.specs.declared.Verdict.the-variants.{Kept, Refused}
 

@@ -8,8 +8,7 @@ use lib.ListN.{length}
 use Rattle.diagram.specs.Tree.{Name}
 use Rattle.diagram.specs.Names.{equal, same, new}
 use Rattle.rules.specs.TokenNodes.{TokenNode, flowing, leafy, copying}
-use Rattle.rules.specs.declared.Found.{Found}
-use Rattle.rules.specs.declared.Found.the-variants.{At, Nothing}
+use Rattle.rules.specs.Found.{Found, At, Nothing}
 
 -- Number 7: "leaf and flow names all differ."
 abbrev pub titled : TokenNode → Bool

@@ -10,8 +10,7 @@ use Rattle.diagram.specs.Names.{equal, same, new}
 use Rattle.diagram.specs.Parameters.{surrounded}
 use Rattle.diagram.specs.Flows.{solid}
 use Rattle.grammar.specs.Tokens.{child-tokens, member-tokens}
-use Rattle.rules.specs.declared.Found.{Found}
-use Rattle.rules.specs.declared.Found.the-variants.{At, Nothing}
+use Rattle.rules.specs.Found.{Found, At, Nothing}
 
 -- The token of the keyword; the depth; the name, of a leaf or flow; whether the node keeps the parameter rules, and a flow the solid child
 -- rule; and whether a flow's sw is 1.

@@ -85,20 +85,6 @@ unfoldable pub token-nodes : (ℕ → Name) → ℕ → ℕ → List ℕ → Lis
 token-nodes nm p k [] = []
 token-nodes nm p k (c ∷ cs) = cond (keyed c) (token-node nm (suc p) k (c ∷ cs) ∷ token-nodes nm p (suc k) cs) (token-nodes nm (opened p c) (suc k) cs)
 
--- The same by two columns of numbers, as the code holds them: the keywords' tokens and the depths.
-unfoldable pub keys : ℕ → List ℕ → List ℕ
-keys k [] = []
-keys k (c ∷ cs) = cond (keyed c) (k ∷ keys (suc k) cs) (keys (suc k) cs)
-
-unfoldable pub depths : ℕ → List ℕ → List ℕ
-depths p [] = []
-depths p (c ∷ cs) = cond (keyed c) (suc p ∷ depths p cs) (depths (opened p c) cs)
-
-unfoldable pub by-columns : (ℕ → Name) → List ℕ → List ℕ → List ℕ → List TokenNode
-by-columns nm cs [] ds = []
-by-columns nm cs (k ∷ ks) [] = []
-by-columns nm cs (k ∷ ks) (d ∷ ds) = token-node nm d k (drop k cs) ∷ by-columns nm cs ks ds
-
 -- The name that a token is, by its place in the text.
 abbrev pub name-in : List ℕ → List ℕ → ℕ → Name
 name-in text places k = word-at text (getD places k 0)

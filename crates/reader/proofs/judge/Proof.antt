@@ -1,5 +1,6 @@
 use mathlib.Core.Path.{_∙_, ap}
-use Rattle.rules.specs.TokenNodes.{by-columns, name-in}
+use Rattle.rules.specs.TokenNodes.{name-in}
+use Rattle.nodes.specs.code.Columns.{by-columns}
 use Rattle.rules.specs.Judged.{verdict}
 use Rattle.reader.specs.Answers.{no-diagram}
 use Rattle.reader.proofs.Stages.{verdict-no-diagram, kept-done}
@@ -11,7 +12,7 @@ use Rattle.reader.proofs.judge.Lts as lts
 use Rattle.reader.proofs.store.Reads as store-reads
 use Rattle.reader.proofs.no_diagram.Reads as no-diagram-reads
 use Rattle.reader.proofs.verdict_answer.Reads as verdict-answer-reads
-use Rattle.rules.proofs.judge.Reads as judge-reads
+use Rattle.judge.proofs.verdict.Reads as verdict-reads
 
 returns : tie.Need-returns
 returns c =
@@ -19,14 +20,14 @@ returns c =
     let hs = by-columns (name-in (a .text .now) (a .starts .now)) (a .codes .now) (a .keys .now) (a .depths .now) in
     c .no-diagram .ensures
     ∙ (ap no-diagram (c .before .verdict-answer .ensures)
-    ∙ verdict-no-diagram (a .starts .now) hs (verdict (a .starts .now) hs) _ _ _ (c .before .before .before .before .judge .ensures) (c .before .before .enum-told .given .1))
+    ∙ verdict-no-diagram (a .starts .now) hs (verdict (a .starts .now) hs) _ _ _ (c .before .before .before .before .verdict .ensures) (c .before .before .enum-told .given .1))
 
 returns-2 : tie.Need-returns-2
 returns-2 c =
     let a = c .before .before .before .before .before .before .before .before .before .before .args in
     let nm = name-in (a .text .now) (a .starts .now) in
     let hs = by-columns nm (a .codes .now) (a .keys .now) (a .depths .now) in
-    kept-done (a .starts .now) hs (verdict (a .starts .now) hs) _ _ _ _ (c .before .before .before .before .judge .ensures) (c .before .before .v .given .1) (c .store .ensures nm)
+    kept-done (a .starts .now) hs (verdict (a .starts .now) hs) _ _ _ _ (c .before .before .before .before .verdict .ensures) (c .before .before .v .given .1) (c .store .ensures nm)
 
 pub judge-spec : {M : Type 1} → statement M
 judge-spec =

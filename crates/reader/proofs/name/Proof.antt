@@ -4,10 +4,10 @@ use Rattle.reader.proofs.name.Statement.{statement}
 use Rattle.reader.proofs.name.Tie as tie
 use Rattle.reader.proofs.name.Reads as reads
 use Rattle.reader.proofs.name.Lts as lts
-use Rattle.rules.proofs.either.Reads as either-reads
-use Rattle.rules.proofs.place.Reads as place-reads
-use Rattle.rules.proofs.token.Reads as token-reads
-use Rattle.rules.proofs.within.Reads as within-reads
+use Rattle.nodes.proofs.either.Reads as either-reads
+use Rattle.nodes.proofs.place.Reads as place-reads
+use Rattle.nodes.proofs.token.Reads as token-reads
+use Rattle.nodes.proofs.within.Reads as within-reads
 
 returns : tie.Need-returns
 returns c =

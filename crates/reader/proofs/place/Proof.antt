@@ -6,7 +6,7 @@ use Rattle.reader.proofs.place.Statement.{statement}
 use Rattle.reader.proofs.place.Tie as tie
 use Rattle.reader.proofs.place.Reads as reads
 use Rattle.reader.proofs.place.Lts as lts
-use Rattle.rules.proofs.place.Reads as place-reads
+use Rattle.nodes.proofs.place.Reads as place-reads
 
 returns : tie.Need-returns
 returns c =

@@ -15,22 +15,22 @@ use Rattle.parser.proofs.parse.Reads as parse-reads
 use Rattle.reader.proofs.judge.Reads as judge-reads
 use Rattle.reader.proofs.parse_answer.Reads as parse-answer-reads
 use Rattle.reader.proofs.no_diagram.Reads as no-diagram-reads
-use Rattle.rules.proofs.nodes.Reads as nodes-reads
+use Rattle.nodes.proofs.columns.Reads as columns-reads
 
 -- What is known once the columns are there.
-abbrev Found : tie.After-nodes → Type 0
+abbrev Found : tie.After-columns → Type 0
 Found c =
-    Columns (c .before .before .before .before .before .before .before .before .before .args .codes .now) (c .nodes .last .1 .0) (c .nodes .last .1 .1 .0)
-    (c .nodes .result) (c .before .before .before .enum-told .given .0 .1 .0)
+    Columns (c .before .before .before .before .before .before .before .before .before .args .codes .now) (c .columns .last .1 .0) (c .columns .last .1 .1 .0)
+    (c .columns .result) (c .before .before .before .enum-told .given .0 .1 .0)
 
-found : (c : tie.After-nodes) → Found c
+found : (c : tie.After-columns) → Found c
 found c =
     let told = c .before .before .before .enum-told .given in
     let parse = c .before .before .before .before .before .parse in
-    columns (c .before .before .before .before .before .before .before .before .before .args .codes .now) (c .nodes .last .1 .0) (c .nodes .last .1 .1 .0)
-    (replicate 256 0) (replicate 256 0) (c .nodes .result)
+    columns (c .before .before .before .before .before .before .before .before .before .args .codes .now) (c .columns .last .1 .0) (c .columns .last .1 .1 .0)
+    (replicate 256 0) (replicate 256 0) (c .columns .result)
     (length (c .before .before .before .before .before .before .before .before .before .args .codes .now)) (parse .result) (told .0 .0) (told .0 .1 .0)
-    (parse .ensures) (told .1) (length-replicate {A = ℕ} 256 0) (length-replicate {A = ℕ} 256 0) (c .nodes .ensures .0) (c .nodes .ensures .1 .0) (c .nodes .ensures .1 .1)
+    (parse .ensures) (told .1) (length-replicate {A = ℕ} 256 0) (length-replicate {A = ℕ} 256 0) (c .columns .ensures .0) (c .columns .ensures .1 .0) (c .columns .ensures .1 .1)
 
 returns : tie.Need-returns
 returns c =

@@ -4,15 +4,14 @@ use Rattle.reader.proofs.size.Statement.{statement}
 use Rattle.reader.proofs.size.Tie as tie
 use Rattle.reader.proofs.size.Reads as reads
 use Rattle.reader.proofs.size.Lts as lts
-use Rattle.reader.proofs.numeral.Reads as numeral-reads
-use Rattle.rules.proofs.token.Reads as token-reads
-use Rattle.rules.proofs.within.Reads as within-reads
+use Rattle.nodes.proofs.token.Reads as token-reads
+use Rattle.nodes.proofs.within.Reads as within-reads
 
 returns : tie.Need-returns
 returns c =
     let a = c .before .before .before .before .before .args in
     size-some (a .codes .now) (a .key) _ _ _ (c .before .before .before .token .ensures) (c .before .before .within .ensures) (c .before .if1 .taken)
-    (c .numeral .ensures)
+    (c .size .ensures)
 
 returns-2 : tie.Need-returns-2
 returns-2 c =

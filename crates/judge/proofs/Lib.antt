@@ -1,0 +1,6 @@
+mod Names
+mod Marked
+mod Solids
+mod Asked
+mod Searched
+mod Ruled

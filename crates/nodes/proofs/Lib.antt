@@ -1,0 +1,4 @@
+pub mod ByColumns
+mod Tokens
+mod Written
+pub mod Numbered

@@ -1,0 +1,118 @@
+-- The columns of keywords and depths while they are written. Assumes nothing.
+use mathlib.Core.Path.{_≡_, refl, sym, ap, _∙_}
+use mathlib.Core.Bool.{Bool, true, false, cond}
+use mathlib.Core.List.{List, [], _∷_, _++_, append-assoc, append-nil}
+use Prim.Native.Nat.{ℕ, suc, _+_, _-_, _≤_, _<_}
+use native.Mathlib.Numerals.{add-one}
+use native.Mathlib.Omega.{arith}
+use lib.Dec.{eqb}
+use lib.ListN.{length, drop, getD, set, drop-of-length-le, length-append, length-set}
+use lib.Seq.{drop-cons}
+use Rattle.lexer.specs.Classes.{between}
+use Rattle.base.specs.Fill.{fill}
+use Rattle.base.proofs.Filled.{fill-none, fill-next}
+use Rattle.rules.specs.TokenNodes.{opened}
+use Rattle.nodes.specs.code.Columns.{keys, depths}
+
+-- A lent column over whose front n of the values `all` are written, so that it is `held`; `left` are those that are not.
+pub record Column (lent held all left : List ℕ) (n : ℕ) : Type 0 where
+  pub seen : List ℕ
+  pub many : length seen ≡ n
+  pub order : seen ++ left ≡ all
+  pub is : held ≡ fill lent seen
+  pub size : length held ≡ length lent
+
+column-none : (lent all : List ℕ) → Column lent lent all all 0
+column-none lent all = record { seen = []; many = refl; order = refl; is = sym (fill-none lent); size = refl }
+
+column-next : {lent held all left : List ℕ} {n : ℕ} (v : ℕ) → Column lent held all (v ∷ left) n → Column lent (set held n v) all left (n + 1)
+column-next {lent} {held} {all} {left} {n} v w =
+    record {
+      seen = w .seen ++ (v ∷ []);
+      many = length-append (w .seen) (v ∷ []) ∙ ap (λ m. m + 1) (w .many);
+      order = append-assoc (w .seen) (v ∷ []) left ∙ w .order;
+      is = rw (← w .many, w .is) (fill-next lent (w .seen) v);
+      size = length-set held n v ∙ w .size;
+    }
+
+module _ {lent held all left : List ℕ} {n : ℕ} (none : left ≡ []) (w : Column lent held all left n) where
+  all-seen : w .seen ≡ all
+  all-seen = sym (append-nil (w .seen)) ∙ rw none at (w .order)
+
+  column-count : n ≡ length all
+  column-count = sym (w .many) ∙ ap length all-seen
+
+  column-is : held ≡ fill lent all
+  column-is = w .is ∙ ap (fill lent) all-seen
+
+-- The columns ks and ds are written up to the token k, inside p parentheses, by the n nodes before it.
+pub record Along (cs ks₀ ds₀ ks ds : List ℕ) (n p k : ℕ) : Type 0 where
+  pub few : n ≤ k
+  pub inside : p ≤ k
+  pub first : Column ks₀ ks (keys 0 cs) (keys k (drop k cs)) n
+  pub second : Column ds₀ ds (depths 0 cs) (depths p (drop k cs)) n
+
+pub along-start : (cs ks ds : List ℕ) → Along cs ks ds ks ds 0 0 0
+along-start cs ks ds =
+    record { few = omega arith; inside = omega arith; first = column-none ks (keys 0 cs); second = column-none ds (depths 0 cs) }
+
+opened-le : (p c : ℕ) (a b : Bool) → cond a (suc p) (cond b (p - 1) p) ≤ suc p
+opened-le p c true b = omega arith
+opened-le p c false true = omega arith
+opened-le p c false false = omega arith
+
+module _ (cs : List ℕ) (k : ℕ) (h : k < length cs) where
+  keys-more : between 7 15 (getD cs k 0) ≡ true → keys k (drop k cs) ≡ k ∷ keys (k + 1) (drop (k + 1) cs)
+  unfolding keys
+  keys-more e = rw (drop-cons cs k 0 h, e, add-one k)
+
+  keys-same : between 7 15 (getD cs k 0) ≡ false → keys k (drop k cs) ≡ keys (k + 1) (drop (k + 1) cs)
+  unfolding keys
+  keys-same e = rw (drop-cons cs k 0 h, e, add-one k)
+
+  depths-more : (p : ℕ) → between 7 15 (getD cs k 0) ≡ true → depths p (drop k cs) ≡ (p + 1) ∷ depths p (drop (k + 1) cs)
+  unfolding depths
+  depths-more p e = rw (drop-cons cs k 0 h, e, add-one k, add-one p)
+
+  depths-same : (p : ℕ) → between 7 15 (getD cs k 0) ≡ false → depths p (drop k cs) ≡ depths (opened p (getD cs k 0)) (drop (k + 1) cs)
+  unfolding depths
+  depths-same p e = rw (drop-cons cs k 0 h, e, add-one k)
+
+  pub along-node : {ks₀ ds₀ ks ds : List ℕ} {n p : ℕ} → between 7 15 (getD cs k 0) ≡ true → Along cs ks₀ ds₀ ks ds n p k
+      → Along cs ks₀ ds₀ (set ks n k) (set ds n (p + 1)) (n + 1) p (k + 1)
+  along-node {p = p} e a =
+      record {
+        few = omega (arith, a .few);
+        inside = omega (arith, a .inside);
+        first = column-next k (rw (keys-more e) at (a .first));
+        second = column-next (p + 1) (rw (depths-more p e) at (a .second));
+      }
+
+  pub along-other : {ks₀ ds₀ ks ds : List ℕ} {n p : ℕ} → between 7 15 (getD cs k 0) ≡ false → Along cs ks₀ ds₀ ks ds n p k
+      → Along cs ks₀ ds₀ ks ds n (opened p (getD cs k 0)) (k + 1)
+  along-other {p = p} e a =
+      record {
+        few = omega (arith, a .few);
+        inside = omega (arith, a .inside, opened-le p (getD cs k 0) (eqb (getD cs k 0) 1) (eqb (getD cs k 0) 2));
+        first = rw (keys-same e) at (a .first);
+        second = rw (depths-same p e) at (a .second);
+      }
+
+-- At the end of the tokens the columns are as they are to be.
+module _ (cs : List ℕ) (k : ℕ) (h : length cs ≤ k) {ks₀ ds₀ ks ds : List ℕ} {n p : ℕ} (a : Along cs ks₀ ds₀ ks ds n p k) where
+  no-keys : keys k (drop k cs) ≡ []
+  unfolding keys
+  no-keys = rw (drop-of-length-le cs h)
+
+  no-depths : depths p (drop k cs) ≡ []
+  unfolding depths
+  no-depths = rw (drop-of-length-le cs h)
+
+  pub along-count : n ≡ length (keys 0 cs)
+  along-count = column-count no-keys (a .first)
+
+  pub along-keys : ks ≡ fill ks₀ (keys 0 cs)
+  along-keys = column-is no-keys (a .first)
+
+  pub along-depths : ds ≡ fill ds₀ (depths 0 cs)
+  along-depths = column-is no-depths (a .second)

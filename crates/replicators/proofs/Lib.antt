@@ -1,0 +1,5 @@
+mod Seeking
+mod Passing
+mod Capped
+mod Asked
+mod Summed
