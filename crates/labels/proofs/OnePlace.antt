@@ -17,8 +17,7 @@ use Rattle.lexer.specs.Spans.{codes, places}
 use Rattle.grammar.specs.Machine.{keyed}
 use Rattle.rules.specs.TokenNodes.{TokenNode, flowing, leafy, copying, token-node, token-nodes, name-in, opened}
 use Rattle.rules.specs.Kept.{unheard, names-kept, fault}
-use Rattle.rules.specs.declared.Found.{Found}
-use Rattle.rules.specs.declared.Found.the-variants.{At, Nothing}
+use Rattle.rules.specs.Found.{Found, At, Nothing}
 use Rattle.rules.proofs.NamesPlaced.{names-placed}
 use Rattle.rules.proofs.NamesKept.{names-kept-iff}
 use Rattle.reader.specs.Accepted.{Accepted}
