@@ -4,7 +4,6 @@ pub mod Told
 pub mod Exact
 pub mod Shown
 pub mod Placed
-pub mod Once
 pub mod Laws
 pub mod Rows
 pub mod Stages

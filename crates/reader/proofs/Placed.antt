@@ -18,7 +18,8 @@ use Rattle.rules.proofs.KeysPlaced.{token-node-keys, placed-node-keys, keys-pla
 use Rattle.reader.specs.Nodes.{name-place, node-of, stored}
 use Rattle.reader.specs.Answers.{read-of}
 use Rattle.reader.specs.Accepted.{Accepted}
-use Rattle.reader.specs.ShownNodes.{ShownNode, Shows, shown-node, shown-nodes}
+use Rattle.reader.specs.ShownNodes.{Shows, shown-node, shown-nodes}
+use Rattle.diagram.specs.TreeNodes.{TreeNode}
 use Rattle.reader.specs.Places.{Placed, keyword-at, name-at, names-at}
 use Rattle.reader.specs.declared.ReadResult.{ReadResult}
 use Rattle.reader.proofs.Exact.{accepted-read}
@@ -66,7 +67,7 @@ accepted-placed text d a =
       names =
           ap names kept
           ∙ (names-along text hs (flow-placed-nodes d [] 1 0 []) (keys-placed d)
-          ∙ ap (λ (vs : List ShownNode). names-at text vs (flow-placed-nodes d [] 1 0 [])) (tree-shown d));
+          ∙ ap (λ (vs : List TreeNode). names-at text vs (flow-placed-nodes d [] 1 0 [])) (tree-shown d));
       blank = drop-at ns more (length hs) l;
     }
 
@@ -74,10 +75,10 @@ accepted-placed text d a =
 same-node : (text : List ℕ) (m n : Node) → shown-node text m ≡ shown-node text n → m .at ≡ n .at → m .name ≡ n .name → m ≡ n
 unfolding shown-node
 same-node text m n e p q =
-    let k : m .kind ≡ n .kind = ap (λ (v : ShownNode). v .kind) e in
-    let b : m .solid ≡ n .solid = ap (λ (v : ShownNode). v .solid) e in
-    let s : m .strong ≡ n .strong = ap (λ (v : ShownNode). v .strong) e in
-    let d : m .depth ≡ n .depth = ap (λ (v : ShownNode). v .depth) e in
+    let k : m .kind ≡ n .kind = ap (λ (v : TreeNode). v .kind) e in
+    let b : m .solid ≡ n .solid = ap (λ (v : TreeNode). v .solid) e in
+    let s : m .strong ≡ n .strong = ap (λ (v : TreeNode). v .strong) e in
+    let d : m .depth ≡ n .depth = ap (λ (v : TreeNode). v .depth) e in
     ap₂ (λ (k : Kind) (b : Bool). record { kind = k; solid = b; strong = m .strong; depth = m .depth; at = m .at; name = m .name }) k b
     ∙ (ap₂ (λ (s : Bool) (d : ℕ). record { kind = n .kind; solid = n .solid; strong = s; depth = d; at = m .at; name = m .name }) s d
     ∙ ap₂ (λ (a x : ℕ). record { kind = n .kind; solid = n .solid; strong = n .strong; depth = n .depth; at = a; name = x }) p q)

@@ -13,6 +13,7 @@ use Rattle.diagram.specs.Tree.{Name, Way, all, some, one, Flow, flow, Children,
 use Rattle.diagram.specs.Count.{flow-nodes, flow-copies, flow-events}
 use Rattle.diagram.specs.Stored.{blank-node}
 use Rattle.diagram.specs.declared.Kind.the-variants.{Flow as FlowKind, Leaf, Loop}
+use Rattle.diagram.proofs.OneTree.{one-tree}
 use Rattle.base.proofs.Truth.{cases, is-false}
 use Rattle.lexer.specs.Words.{word-at, code}
 use Rattle.lexer.specs.Spans.{tokens, codes, places}
@@ -27,7 +28,8 @@ use Rattle.rules.proofs.Trees.{simple, group-code, replicator-code, flow-token-
 use Rattle.reader.specs.Nodes.{kind-of, name-place, node-of, stored}
 use Rattle.reader.specs.Answers.{read-of}
 use Rattle.reader.specs.Accepted.{Accepted}
-use Rattle.reader.specs.ShownNodes.{ShownNode, Shows, shown, has-name, group-kind, replicator-kind, shown-node, shown-nodes, flow-shown-nodes, children-shown-nodes, child-shown-nodes, member-shown-nodes, members-shown-nodes}
+use Rattle.reader.specs.ShownNodes.{Shows, Shows-only, shown-node, shown-nodes}
+use Rattle.diagram.specs.TreeNodes.{TreeNode, tree-node, has-name, group-kind, replicator-kind, flow-tree-nodes, children-tree-nodes, child-tree-nodes, member-tree-nodes, members-tree-nodes}
 use Rattle.reader.specs.declared.ReadResult.{ReadResult}
 use Rattle.reader.proofs.Told.{derived-token-nodes}
 use Rattle.reader.proofs.Exact.{accepted-read}
@@ -60,8 +62,8 @@ kind-named c s =
     keyword-or s c 12 refl (λ g. keyword-or s c 13 refl (λ h. keyword-or s c 14 refl (λ i.
     rw (a, b, d, e, f, g, h, i, no-keyword s c (eqb-false c 12 g) (eqb-false c 13 h) (eqb-false c 14 i))))))))))
 
-unfoldable pub token-node-shown-node : TokenNode → ShownNode
-token-node-shown-node h = shown (kind-of (h .code) (h .size)) (h .solid) (h .strong) (h .depth) (h .name)
+unfoldable pub token-node-shown-node : TokenNode → TreeNode
+token-node-shown-node h = tree-node (kind-of (h .code) (h .size)) (h .solid) (h .strong) (h .depth) (h .name)
 
 -- A node is told by its place as its tokens have it.
 name-shown : (text ps : List ℕ) (c s k : ℕ) (b : Bool) → titled c ≡ b → has-name (kind-of c s) ≡ b
@@ -74,7 +76,7 @@ unfolding shown-node node-of name-place token-node token-node-shown-node
 token-node-shown text ps d k cs =
     let c = getD cs 0 0 in
     let s = cond (copying c) (getD cs 4 0 - 16) 0 in
-    ap (shown (kind-of c s) (solid-of cs) (cond (flowing c) (strong-of (drop 3 cs)) false) d) (name-shown text ps c s k (titled c) refl (kind-named c s))
+    ap (tree-node (kind-of c s) (solid-of cs) (cond (flowing c) (strong-of (drop 3 cs)) false) d) (name-shown text ps c s k (titled c) refl (kind-named c s))
 
 token-nodes-shown : (text ps : List ℕ) (p k : ℕ) (cs : List ℕ)
     → map (shown-node text) (map (node-of ps) (token-nodes (name-in text ps) p k cs)) ≡ map token-node-shown-node (token-nodes (name-in text ps) p k cs)
@@ -87,13 +89,13 @@ token-nodes-shown text ps p k (c ∷ cs) =
     (cases (keyed c))
 
 -- The nodes of a tree as they are shown.
-record Same (hs : List TokenNode) (vs : List ShownNode) : Type 0 where
+record Same (hs : List TokenNode) (vs : List TreeNode) : Type 0 where
   law : map token-node-shown-node hs ≡ vs
 
-before : {hs : List TokenNode} {vs : List ShownNode} (h : TokenNode) (v : ShownNode) → token-node-shown-node h ≡ v → Same hs vs → Same (h ∷ hs) (v ∷ vs)
+before : {hs : List TokenNode} {vs : List TreeNode} (h : TokenNode) (v : TreeNode) → token-node-shown-node h ≡ v → Same hs vs → Same (h ∷ hs) (v ∷ vs)
 before h v p q = record { law = rw (p, q .law) }
 
-group-shown : (y : Way) (b : Bool) (d k : ℕ) → token-node-shown-node (simple k d (group-code y) [] b) ≡ shown (group-kind y) b false d []
+group-shown : (y : Way) (b : Bool) (d k : ℕ) → token-node-shown-node (simple k d (group-code y) [] b) ≡ tree-node (group-kind y) b false d []
 unfolding token-node-shown-node kind-of
 group-shown all b d k = refl
 group-shown some b d k = refl
@@ -101,41 +103,41 @@ group-shown one b d k = refl
 
 replicator-shown : (y : Way) (b : Bool) (d k : ℕ) (par : Name) (size : ℕ)
     → token-node-shown-node (record { key = k; depth = d; code = replicator-code y; name = par; size = size; pars = []; strong = false; solid = b })
-    ≡ shown (replicator-kind y size) b false d par
+    ≡ tree-node (replicator-kind y size) b false d par
 unfolding token-node-shown-node kind-of
 replicator-shown all b d k par size = refl
 replicator-shown some b d k par size = refl
 replicator-shown one b d k par size = refl
 
 mutual
-  unfolding flow-token-nodes flow-shown-nodes token-node-shown-node kind-of
+  unfolding flow-token-nodes flow-tree-nodes token-node-shown-node kind-of
 
-  flow-shown : (f : Flow) (b : Bool) (d k : ℕ) {hs : List TokenNode} {vs : List ShownNode} → Same hs vs → Same (flow-token-nodes f b d k hs) (flow-shown-nodes f b d vs)
+  flow-shown : (f : Flow) (b : Bool) (d k : ℕ) {hs : List TokenNode} {vs : List TreeNode} → Same hs vs → Same (flow-token-nodes f b d k hs) (flow-tree-nodes f b d vs)
   flow-shown (flow n ps sw c r cs) b d k h =
-      before (record { key = k; depth = d; code = 7; name = n; size = 0; pars = reverse ps; strong = sw; solid = b }) (shown FlowKind b sw d n) refl
+      before (record { key = k; depth = d; code = 7; name = n; size = 0; pars = reverse ps; strong = sw; solid = b }) (tree-node FlowKind b sw d n) refl
       (child-shown c r (suc d) (k + (7 + 2 * length ps)) (children-shown cs (suc d) (k + (7 + 2 * length ps) + (length (child-tokens c []) + 3)) h))
 
-  children-shown : (cs : Children) (d k : ℕ) {hs : List TokenNode} {vs : List ShownNode} → Same hs vs → Same (children-token-nodes cs d k hs) (children-shown-nodes cs d vs)
+  children-shown : (cs : Children) (d k : ℕ) {hs : List TokenNode} {vs : List TreeNode} → Same hs vs → Same (children-token-nodes cs d k hs) (children-tree-nodes cs d vs)
   children-shown none d k h = h
   children-shown (next c r cs) d k h = child-shown c r d k (children-shown cs d (k + (length (child-tokens c []) + 3)) h)
 
-  child-shown : (c : Child) (b : Bool) (d k : ℕ) {hs : List TokenNode} {vs : List ShownNode} → Same hs vs → Same (child-token-nodes c b d k hs) (child-shown-nodes c b d vs)
+  child-shown : (c : Child) (b : Bool) (d k : ℕ) {hs : List TokenNode} {vs : List TreeNode} → Same hs vs → Same (child-token-nodes c b d k hs) (child-tree-nodes c b d vs)
   child-shown (plain m) b d k h = member-shown m b d k h
-  child-shown (loop m) b d k h = before (simple k d 15 [] b) (shown Loop b false d []) refl (member-shown m false (suc d) (k + 2) h)
+  child-shown (loop m) b d k h = before (simple k d 15 [] b) (tree-node Loop b false d []) refl (member-shown m false (suc d) (k + 2) h)
   child-shown (group y m e ms) b d k h =
-      before (simple k d (group-code y) [] b) (shown (group-kind y) b false d []) (group-shown y b d k)
+      before (simple k d (group-code y) [] b) (tree-node (group-kind y) b false d []) (group-shown y b d k)
       (member-shown m false (suc d) (k + 2)
       (member-shown e false (suc d) (k + 2 + length (member-tokens m []))
       (members-shown ms (suc d) (k + 2 + length (member-tokens m []) + length (member-tokens e [])) h)))
   child-shown (replicator y par size m) b d k h =
       before (record { key = k; depth = d; code = replicator-code y; name = par; size = size; pars = []; strong = false; solid = b })
-      (shown (replicator-kind y size) b false d par) (replicator-shown y b d k par size) (member-shown m false (suc d) (k + 7) h)
+      (tree-node (replicator-kind y size) b false d par) (replicator-shown y b d k par size) (member-shown m false (suc d) (k + 7) h)
 
-  member-shown : (m : Member) (b : Bool) (d k : ℕ) {hs : List TokenNode} {vs : List ShownNode} → Same hs vs → Same (member-token-nodes m b d k hs) (member-shown-nodes m b d vs)
-  member-shown (leaf n) b d k h = before (simple k d 8 n b) (shown Leaf b false d n) refl h
+  member-shown : (m : Member) (b : Bool) (d k : ℕ) {hs : List TokenNode} {vs : List TreeNode} → Same hs vs → Same (member-token-nodes m b d k hs) (member-tree-nodes m b d vs)
+  member-shown (leaf n) b d k h = before (simple k d 8 n b) (tree-node Leaf b false d n) refl h
   member-shown (inner f) b d k h = flow-shown f b d k h
 
-  members-shown : (ms : Members) (d k : ℕ) {hs : List TokenNode} {vs : List ShownNode} → Same hs vs → Same (members-token-nodes ms d k hs) (members-shown-nodes ms d vs)
+  members-shown : (ms : Members) (d k : ℕ) {hs : List TokenNode} {vs : List TreeNode} → Same hs vs → Same (members-token-nodes ms d k hs) (members-tree-nodes ms d vs)
   members-shown end d k h = h
   members-shown (also m ms) d k h = member-shown m false d k (members-shown ms d (k + length (member-tokens m [])) h)
 
@@ -148,7 +150,7 @@ stored-shown text hs x y =
 nothing : Same [] []
 nothing = record { law = refl }
 
-pub tree-shown : (d : Flow) → map token-node-shown-node (flow-token-nodes d false 1 0 []) ≡ flow-shown-nodes d false 1 []
+pub tree-shown : (d : Flow) → map token-node-shown-node (flow-token-nodes d false 1 0 []) ≡ flow-tree-nodes d false 1 []
 tree-shown d = flow-shown d false 1 0 nothing .law
 
 -- A node for each keyword.
@@ -181,3 +183,9 @@ accepted-shown text d a =
       copies = refl;
       events = refl;
     }
+
+-- "its diagram is the one derived": what reading answers for an accepted text shows the tree that derives it, and no other.
+pub accepted-shows-only : (text : List ℕ) (d : Flow) → Accepted text d → Shows-only text d (read-of text .diagram)
+accepted-shows-only text d a =
+    let h = accepted-shown text d a in
+    record { this = h; no-other = λ e p k. one-tree e d p (a .keeps .parameters) (sym (k .nodes) ∙ h .nodes) }

@@ -10,18 +10,18 @@ use Rattle.diagram.specs.declared.Node.{Node}
 use Rattle.diagram.specs.declared.Diagram.{Diagram}
 use Rattle.lexer.specs.Spans.{places}
 use Rattle.rules.specs.PlacedNodes.{PlacedNode, flow-placed-nodes}
-use Rattle.reader.specs.ShownNodes.{ShownNode, has-name, flow-shown-nodes}
+use Rattle.diagram.specs.TreeNodes.{TreeNode, has-name, flow-tree-nodes}
 
 -- The place of a node's keyword.
 unfoldable pub keyword-at : List ℕ → PlacedNode → ℕ
 keyword-at text s = getD (places text) (s .key) 0
 
 -- The place of a leaf's or flow's name or of a replicator's par, which stands two tokens after the keyword; 0 for any other node.
-unfoldable pub name-at : List ℕ → ShownNode → PlacedNode → ℕ
+unfoldable pub name-at : List ℕ → TreeNode → PlacedNode → ℕ
 name-at text v s = cond (has-name (v .kind)) (getD (places text) (s .key + 2) 0) 0
 
 -- Those of all nodes, each by its view and its site.
-unfoldable pub names-at : List ℕ → List ShownNode → List PlacedNode → List ℕ
+unfoldable pub names-at : List ℕ → List TreeNode → List PlacedNode → List ℕ
 names-at text [] ss = []
 names-at text (v ∷ vs) [] = []
 names-at text (v ∷ vs) (s ∷ ss) = name-at text v s ∷ names-at text vs ss
@@ -30,5 +30,5 @@ names-at text (v ∷ vs) (s ∷ ss) = name-at text v s ∷ names-at text vs ss
 -- nothing of a diagram open: `reader.proofs.Placed.one-diagram`.
 pub record Placed (text : List ℕ) (d : Flow) (g : Diagram) : Type 0 where
   pub keywords : map (λ (n : Node). n .at) (take (g .count) (g .nodes)) ≡ map (keyword-at text) (flow-placed-nodes d [] 1 0 [])
-  pub names : map (λ (n : Node). n .name) (take (g .count) (g .nodes)) ≡ names-at text (flow-shown-nodes d false 1 []) (flow-placed-nodes d [] 1 0 [])
+  pub names : map (λ (n : Node). n .name) (take (g .count) (g .nodes)) ≡ names-at text (flow-tree-nodes d false 1 []) (flow-placed-nodes d [] 1 0 [])
   pub blank : drop (g .count) (g .nodes) ≡ replicate (256 - g .count) blank-node
