@@ -16,7 +16,8 @@ use Rattle.diagram.specs.Count.{flow-nodes, children-nodes, child-nodes, member
 use Rattle.diagram.specs.Depth.{flow-depth, children-depth, child-depth, member-depth, members-depth}
 use Rattle.diagram.specs.Sizes.{flow-sized, children-sized, child-sized, member-sized, members-sized}
 use Rattle.diagram.specs.declared.Diagram.{Diagram}
-use Rattle.reader.specs.ShownNodes.{ShownNode, Shows, group-kind, replicator-kind, flow-shown-nodes, children-shown-nodes, child-shown-nodes, member-shown-nodes, members-shown-nodes}
+use Rattle.reader.specs.ShownNodes.{Shows}
+use Rattle.diagram.specs.TreeNodes.{TreeNode, group-kind, replicator-kind, flow-tree-nodes, children-tree-nodes, child-tree-nodes, member-tree-nodes, members-tree-nodes}
 use Rattle.process.specs.Process.{Joint, seq, Process, join}
 use Rattle.process.specs.Expand.{leaf-copy, reset-of, joint, expand, flow-process, children-process, child-process, loop-process, member-process, members-process}
 use Rattle.process.proofs.Events.{expand-laid}
@@ -44,51 +45,51 @@ replicator-here all size h = h
 replicator-here some size h = h
 replicator-here one size h = h
 
-module _ (lent : List ℕ) (vs : List ShownNode) where
+module _ (lent : List ℕ) (vs : List TreeNode) where
   -- The depth of a node, by what stands from it on.
-  depth-at : (i d : ℕ) (l : List ShownNode) → drop i vs ≡ l → first shown-depth l ≡ d → getD (shown-columns vs .depths) i 0 ≡ d
+  depth-at : (i d : ℕ) (l : List TreeNode) → drop i vs ≡ l → first shown-depth l ≡ d → getD (shown-columns vs .depths) i 0 ≡ d
   depth-at i d l h e = column-at shown-depth vs i ∙ (ap (first shown-depth) h ∙ e)
 
   -- There is no further part of node i where what follows is no deeper than it.
-  stops : {i kind d at : ℕ} (l : List ShownNode) → Here (shown-columns vs) i kind 0 d → drop at vs ≡ l → first shown-depth l ≤ d → (left n : ℕ) (p : Process)
+  stops : {i kind d at : ℕ} (l : List TreeNode) → Here (shown-columns vs) i kind 0 d → drop at vs ≡ l → first shown-depth l ≤ d → (left n : ℕ) (p : Process)
       → Joined lent (shown-columns vs) left i n at at p p
   stops {i} {kind} {d} {at} l h pos e left n p =
       let a = depth-at at (first shown-depth l) l pos refl in
       let b = h .depth-is in
       no-further lent (shown-columns vs) left i n p (rw (h .size-is) (omega arith))
 
-  flow-here : (f : Flow) (b : Bool) (d i : ℕ) (more : List ShownNode) → drop i vs ≡ flow-shown-nodes f b d more → Here (shown-columns vs) i 3 0 d
-  unfolding flow-shown-nodes
+  flow-here : (f : Flow) (b : Bool) (d i : ℕ) (more : List TreeNode) → drop i vs ≡ flow-tree-nodes f b d more → Here (shown-columns vs) i 3 0 d
+  unfolding flow-tree-nodes
   flow-here (flow n ps sw c r cs) b d i more pos = here vs i _ _ pos
 
   -- The walk over a tree writes its process, and stands after its nodes. What comes after the tree is no deeper than it.
   mutual
-    unfolding flow-process flow-shown-nodes flow-nodes flow-depth flow-sized
+    unfolding flow-process flow-tree-nodes flow-nodes flow-depth flow-sized
 
-    flow-walked : (f : Flow) (left : ℕ) (b : Bool) (d i : ℕ) (more : List ShownNode) → flow-depth f ≤ left → flow-sized f ≡ true
-        → flow-nodes f ≤ 256 → first shown-depth more ≤ d → drop i vs ≡ flow-shown-nodes f b d more → (vals : List ℕ) (e : ℕ)
+    flow-walked : (f : Flow) (left : ℕ) (b : Bool) (d i : ℕ) (more : List TreeNode) → flow-depth f ≤ left → flow-sized f ≡ true
+        → flow-nodes f ≤ 256 → first shown-depth more ≤ d → drop i vs ≡ flow-tree-nodes f b d more → (vals : List ℕ) (e : ℕ)
         → Walked lent (shown-columns vs) left i (i + flow-nodes f) (flow-process f vals e)
     flow-walked (flow n ps sw c r cs) zero b d i more deep sized few after pos vals e = let z : ⊥ = omega arith in absurd z
     flow-walked (flow n ps sw c r cs) (suc left) b d i more deep sized few after pos vals e =
         let h = here vs i _ _ pos in
         let inside = drop-both vs i 1 pos refl in
-        let past = drop-both vs (i + 1) (child-nodes c) inside (child-past c r (suc d) (children-shown-nodes cs (suc d) more)) in
+        let past = drop-both vs (i + 1) (child-nodes c) inside (child-past c r (suc d) (children-tree-nodes cs (suc d) more)) in
         parts-walked lent (shown-columns vs) left i seq h
-        (child-walked c left r (suc d) (i + 1) (children-shown-nodes cs (suc d) more) (omega arith) (and-l (child-sized c) (children-sized cs) sized)
+        (child-walked c left r (suc d) (i + 1) (children-tree-nodes cs (suc d) more) (omega arith) (and-l (child-sized c) (children-sized cs) sized)
         (omega arith) (children-first cs (suc d) more (omega arith)) inside vals e)
         (rw (h .size-is) (joined-to (omega arith)
         (children-walked cs left i 255 d (i + 1 + child-nodes c) more h (omega arith) (and-r (child-sized c) (children-sized cs) sized)
         (omega arith) (omega arith) after past vals (child-process c vals e) (e + child-events c))))
         (children-longer cs vals (child-process c vals e) (e + child-events c))
 
-    children-walked : (cs : Children) (left i n d at : ℕ) (more : List ShownNode) → Here (shown-columns vs) i 3 0 d → children-depth cs ≤ left
-        → children-sized cs ≡ true → children-nodes cs ≤ n → n ≤ 255 → first shown-depth more ≤ d → drop at vs ≡ children-shown-nodes cs (suc d) more
+    children-walked : (cs : Children) (left i n d at : ℕ) (more : List TreeNode) → Here (shown-columns vs) i 3 0 d → children-depth cs ≤ left
+        → children-sized cs ≡ true → children-nodes cs ≤ n → n ≤ 255 → first shown-depth more ≤ d → drop at vs ≡ children-tree-nodes cs (suc d) more
         → (vals : List ℕ) (p : Process) (e : ℕ) → Joined lent (shown-columns vs) left i n at (at + children-nodes cs) p (children-process cs vals p e)
     children-walked none left i n d at more h deep sized few most after pos vals p e = joined-to (omega arith) (stops more h pos after left n p)
     children-walked (next c r cs) left i zero d at more h deep sized few most after pos vals p e =
         let z : ⊥ = omega (arith, child-some c) in absurd z
     children-walked (next c r cs) left i (suc n) d at more h deep sized few most after pos vals p e =
-        let rest = children-shown-nodes cs (suc d) more in
+        let rest = children-tree-nodes cs (suc d) more in
         let one-more = child-some c in
         let deeper = depth-at at (suc d) _ pos (child-first c r (suc d) rest) in
         let q = join seq p (child-process c vals e) in
@@ -100,8 +101,8 @@ module _ (lent : List ℕ) (vs : List ShownNode) where
         (omega arith) (omega arith) after (drop-both vs at (child-nodes c) pos (child-past c r (suc d) rest)) vals q (e + child-events c)))
         (children-longer cs vals q (e + child-events c))
 
-    child-walked : (c : Child) (left : ℕ) (b : Bool) (d i : ℕ) (more : List ShownNode) → child-depth c ≤ left → child-sized c ≡ true
-        → child-nodes c ≤ 256 → first shown-depth more ≤ d → drop i vs ≡ child-shown-nodes c b d more → (vals : List ℕ) (e : ℕ)
+    child-walked : (c : Child) (left : ℕ) (b : Bool) (d i : ℕ) (more : List TreeNode) → child-depth c ≤ left → child-sized c ≡ true
+        → child-nodes c ≤ 256 → first shown-depth more ≤ d → drop i vs ≡ child-tree-nodes c b d more → (vals : List ℕ) (e : ℕ)
         → Walked lent (shown-columns vs) left i (i + child-nodes c) (child-process c vals e)
     child-walked (plain m) left b d i more deep sized few after pos vals e = member-walked m left b d i more deep sized few after pos vals e
     child-walked (loop m) zero b d i more deep sized few after pos vals e = let z : ⊥ = omega arith in absurd z
@@ -110,9 +111,9 @@ module _ (lent : List ℕ) (vs : List ShownNode) where
     child-walked (group y m k ms) zero b d i more deep sized few after pos vals e = let z : ⊥ = omega arith in absurd z
     child-walked (group y m k ms) (suc left) b d i more deep sized few after pos vals e =
         let h = group-here y (here vs i _ _ pos) in
-        let rest = members-shown-nodes ms (suc d) more in
+        let rest = members-tree-nodes ms (suc d) more in
         let inside = drop-both vs i 1 pos refl in
-        let second = drop-both vs (i + 1) (member-nodes m) inside (member-past m false (suc d) (member-shown-nodes k false (suc d) rest)) in
+        let second = drop-both vs (i + 1) (member-nodes m) inside (member-past m false (suc d) (member-tree-nodes k false (suc d) rest)) in
         let past = drop-both vs (i + 1 + member-nodes m) (member-nodes k) second (member-past k false (suc d) rest) in
         let deeper = depth-at (i + 1 + member-nodes m) (suc d) _ second (member-first k false (suc d) rest) in
         let one-more = member-some k in
@@ -143,8 +144,8 @@ module _ (lent : List ℕ) (vs : List ShownNode) where
         (λ v. member-walked m left false (suc d) (i + 1) more (omega arith) (and-r (leb 1 size && leb size 16) (member-sized m) sized)
         (omega arith) (omega arith) inside (vals ++ (v ∷ [])) (e + v * member-events m)))
 
-    loop-walked : (m : Member) (left d i : ℕ) (more : List ShownNode) → member-depth m ≤ left → member-sized m ≡ true
-        → member-nodes m ≤ 256 → first shown-depth more ≤ d → Here (shown-columns vs) i 1 0 d → drop (i + 1) vs ≡ member-shown-nodes m false (suc d) more
+    loop-walked : (m : Member) (left d i : ℕ) (more : List TreeNode) → member-depth m ≤ left → member-sized m ≡ true
+        → member-nodes m ≤ 256 → first shown-depth more ≤ d → Here (shown-columns vs) i 1 0 d → drop (i + 1) vs ≡ member-tree-nodes m false (suc d) more
         → (vals : List ℕ) (e : ℕ) → Walked lent (shown-columns vs) (suc left) i (i + (1 + member-nodes m)) (loop-process m vals e)
     loop-walked (leaf n) left d i more deep sized few after h pos vals e =
         walked-to (omega arith) (again-walked lent (shown-columns vs) left i e (leaf-copy n vals) h (here vs (i + 1) _ _ pos))
@@ -153,22 +154,22 @@ module _ (lent : List ℕ) (vs : List ShownNode) where
         (rounds-walked lent (shown-columns vs) left i (e + flow-events f) (reset-of f vals) h (flow-here f false (suc d) (i + 1) more pos)
         (flow-walked f left false (suc d) (i + 1) more deep sized few (omega arith) pos vals e))
 
-    member-walked : (m : Member) (left : ℕ) (b : Bool) (d i : ℕ) (more : List ShownNode) → member-depth m ≤ left → member-sized m ≡ true
-        → member-nodes m ≤ 256 → first shown-depth more ≤ d → drop i vs ≡ member-shown-nodes m b d more → (vals : List ℕ) (e : ℕ)
+    member-walked : (m : Member) (left : ℕ) (b : Bool) (d i : ℕ) (more : List TreeNode) → member-depth m ≤ left → member-sized m ≡ true
+        → member-nodes m ≤ 256 → first shown-depth more ≤ d → drop i vs ≡ member-tree-nodes m b d more → (vals : List ℕ) (e : ℕ)
         → Walked lent (shown-columns vs) left i (i + member-nodes m) (member-process m vals e)
     member-walked (leaf n) zero b d i more deep sized few after pos vals e = let z : ⊥ = omega arith in absurd z
     member-walked (leaf n) (suc left) b d i more deep sized few after pos vals e =
         leaf-walked lent (shown-columns vs) left i e (leaf-copy n vals) (here vs i _ _ pos)
     member-walked (inner f) left b d i more deep sized few after pos vals e = flow-walked f left b d i more deep sized few after pos vals e
 
-    members-walked : (ms : Members) (j : Joint) (left i n d at : ℕ) (more : List ShownNode) → Here (shown-columns vs) i (joint-code j) 0 d → members-depth ms ≤ left
-        → members-sized ms ≡ true → members-nodes ms ≤ n → n ≤ 255 → first shown-depth more ≤ d → drop at vs ≡ members-shown-nodes ms (suc d) more
+    members-walked : (ms : Members) (j : Joint) (left i n d at : ℕ) (more : List TreeNode) → Here (shown-columns vs) i (joint-code j) 0 d → members-depth ms ≤ left
+        → members-sized ms ≡ true → members-nodes ms ≤ n → n ≤ 255 → first shown-depth more ≤ d → drop at vs ≡ members-tree-nodes ms (suc d) more
         → (vals : List ℕ) (p : Process) (e : ℕ) → Joined lent (shown-columns vs) left i n at (at + members-nodes ms) p (members-process ms j vals p e)
     members-walked end j left i n d at more h deep sized few most after pos vals p e = joined-to (omega arith) (stops more h pos after left n p)
     members-walked (also m ms) j left i zero d at more h deep sized few most after pos vals p e =
         let z : ⊥ = omega (arith, member-some m) in absurd z
     members-walked (also m ms) j left i (suc n) d at more h deep sized few most after pos vals p e =
-        let rest = members-shown-nodes ms (suc d) more in
+        let rest = members-tree-nodes ms (suc d) more in
         let one-more = member-some m in
         let deeper = depth-at at (suc d) _ pos (member-first m false (suc d) rest) in
         let q = join j p (member-process m vals e) in
@@ -186,7 +187,7 @@ pub expansion-exact : (text : List ℕ) (d : Flow) (g : Diagram) → Shows text 
     → expanded g lent ≡ place (flow-nodes d) (length (postfix (expand d))) (fill lent (postfix (expand d)))
 unfolding expanded
 expansion-exact text d g shows sized deep few short lent =
-    let vs = flow-shown-nodes d false 1 [] in
+    let vs = flow-tree-nodes d false 1 [] in
     let end = expand-laid d sized .end in
     let less = postfix-short (expand d) in
     let start : place 0 0 lent ≡ written lent 0 [] = ap (place 0 0) (sym (fill-none lent)) in

@@ -10,7 +10,7 @@ use Rattle.reader.specs.Accepted.{Accepted}
 use Rattle.reader.specs.ShownNodes.{Shows}
 use Rattle.reader.specs.declared.ReadResult.{ReadResult}
 use Rattle.reader.proofs.Exact as exact
-use Rattle.reader.proofs.Once.{accepted-shows-only}
+use Rattle.reader.proofs.Shown.{accepted-shows-only}
 use Rattle.reader.proofs.Placed.{accepted-placed}
 use Rattle.printer.specs.Same.{Same, unplaced, wrote, written}
 use Rattle.printer.specs.declared.Printed.{Printed}
