@@ -4,3 +4,4 @@ pub mod Each
 pub mod Fields
 pub mod Decided
 pub mod Compared
+pub mod Begins

@@ -15,7 +15,7 @@ use Rattle.grammar.specs.Derives.{Derives}
 use Rattle.grammar.proofs.Rendered.{rendered}
 use Rattle.grammar.proofs.Printing.{printed-tokens}
 use Rattle.grammar.proofs.Grammar.{derived-once}
-use Rattle.reader.specs.Accepted.{Accepted}
+use Rattle.reading.specs.Accepted.{Accepted}
 
 pub printed-shorter : (bs : List ℕ) → length (printed bs) ≤ length bs
 unfolding printed

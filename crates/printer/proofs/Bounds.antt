@@ -10,19 +10,19 @@ use lib.ListN.{length}
 use lib.Seq.{length-take-le}
 use borrow.Author.Tests.{ltb-true, ltb-false, lt-ltb, le-ltb}
 use Rattle.base.specs.Fill.{fill}
-use Rattle.base.specs.Reports.{Report, result as told-result, refusal as told-refusal}
+use Rattle.base.specs.Reports.{Report, result as result-report, refusal as refusal-report}
 use Rattle.diagram.specs.Tree.{Flow}
 use Rattle.base.proofs.Truth.{cases}
 use Rattle.base.proofs.Filled.{fill-length, fill-front, fill-past, fill-taken}
 use Rattle.grammar.specs.Printed.{printed}
-use Rattle.reader.specs.Answers.{read-of}
-use Rattle.reader.specs.Accepted.{Accepted}
-use Rattle.reader.specs.Bounds.{Bounded as Answered, result as read-result, refusal as read-refusal}
-use Rattle.reader.specs.declared.Answer.{Answer}
-use Rattle.reader.specs.declared.Answer.the-variants.{Done, Refused as Unread}
-use Rattle.reader.specs.declared.ReadResult.{ReadResult}
-use Rattle.reader.proofs.Bounds.{read-bounded}
-use Rattle.reader.proofs.Exact.{accepted-exactly, refused-exactly}
+use Rattle.reading.specs.Answers.{read-of}
+use Rattle.reading.specs.Accepted.{Accepted}
+use Rattle.reading.specs.Bounds.{Bounded as Answered, result as read-result, refusal as read-refusal}
+use Rattle.reading.specs.declared.Answer.{Answer}
+use Rattle.reading.specs.declared.Answer.the-variants.{Done, Refused as Unread}
+use Rattle.reading.specs.declared.ReadResult.{ReadResult}
+use Rattle.reading.proofs.Bounds.{read-bounded}
+use Rattle.reading.proofs.Exact.{accepted-exactly, refused-exactly}
 use Rattle.printer.specs.Prints.{print-answer, print-of, left-by}
 use Rattle.printer.specs.Reports.{report}
 use Rattle.printer.specs.Bounds.{Result, Reason, short-sheet, unread, Bounded, result, refusal}
@@ -45,15 +45,15 @@ unfolding print-of
 too-short text lent e = rw e
 
 -- What an answer says tells the answer.
-bytes-told : (p : Printed) (n : ℕ) → report p ≡ told-result (n ∷ []) → p ≡ Bytes n
-bytes-told (Bytes m) n e = let q : m ∷ [] ≡ n ∷ [] = ap (λ (r : Report). r .values) e in let z : m ≡ n = cc in ap Bytes z
-bytes-told (Refused c k) n e =
+bytes-reported : (p : Printed) (n : ℕ) → report p ≡ result-report (n ∷ []) → p ≡ Bytes n
+bytes-reported (Bytes m) n e = let q : m ∷ [] ≡ n ∷ [] = ap (λ (r : Report). r .values) e in let z : m ≡ n = cc in ap Bytes z
+bytes-reported (Refused c k) n e =
     let q : _≡_ {A = List ℕ} [] (n ∷ []) = ap (λ (r : Report). r .values) e in let z : ⊥ = omega (arith, ap length q) in absurd z
 
-refused-told : (p : Printed) (c k : ℕ) → report p ≡ told-refusal c k → p ≡ Refused c k
-refused-told (Bytes m) c k e =
+refused-reported : (p : Printed) (c k : ℕ) → report p ≡ refusal-report c k → p ≡ Refused c k
+refused-reported (Bytes m) c k e =
     let q : _≡_ {A = List ℕ} (m ∷ []) [] = ap (λ (r : Report). r .values) e in let z : ⊥ = omega (arith, ap length q) in absurd z
-refused-told (Refused d j) c k e = ap₂ Refused (ap (λ (r : Report). r .number) e) (ap (λ (r : Report). r .place) e)
+refused-reported (Refused d j) c k e = ap₂ Refused (ap (λ (r : Report). r .number) e) (ap (λ (r : Report). r .place) e)
 
 module _ (text lent : List ℕ) where
   -- "Every answer is a result within the limits or one numbered refusal with its place, which leaves lent memory untouched."
@@ -67,7 +67,7 @@ module _ (text lent : List ℕ) where
         tree = d;
         limits = a;
         count = length (printed text);
-        told = refl;
+        reported = refl;
         few = few;
         length-stays = fill-length lent (printed text);
         front = fill-front lent (printed text) (omega arith);
@@ -77,7 +77,7 @@ module _ (text lent : List ℕ) where
   refused-refusal : (c k : ℕ) → Reason text lent c k → 1 ≤ c → c ≤ 11 → k ≤ 16384 → print-of text lent ≡ Refused c k
       → Bounded text lent (print-of text lent) (left-by text lent (print-of text lent))
   refused-refusal c k y l u n e =
-      rw e (refusal record { number = c; place = k; why = y; told = refl; low = l; high = u; near = n; untouched = refl })
+      rw e (refusal record { number = c; place = k; why = y; reported = refl; low = l; high = u; near = n; untouched = refl })
 
   pub print-bounded : Bounded text lent (print-of text lent) (left-by text lent (print-of text lent))
   print-bounded = ⊎-elim short enough (cases (ltb (length lent) 16384))
@@ -101,7 +101,7 @@ module _ (text lent : List ℕ) where
       let room : r .count ≤ length left = omega (arith, r .enough, r .few, r .length-stays) in
       let n : r .count ≡ length (printed text) = sym (length-take-le (r .count) left room) ∙ ap length (r .front) in
       let e = accepted-prints text lent (r .tree) (r .enough) (r .limits) in (
-        bytes-told p (r .count) (r .told) ∙ (ap Bytes n ∙ sym e),
+        bytes-reported p (r .count) (r .reported) ∙ (ap Bytes n ∙ sym e),
         sym (fill-taken lent left (r .count) (r .length-stays) (r .past)) ∙ (ap (fill lent) (r .front) ∙ sym (ap (left-by text lent) e)),
       )
 
@@ -116,4 +116,4 @@ module _ (text lent : List ℕ) where
   pub one-print : (p : Printed) (left : List ℕ) → Bounded text lent p left → Answers text lent (print-of text lent) left p
   one-print p left (result r) = one-result p left r
   one-print p left (refusal r) =
-      one-refusal p left (r .number) (r .place) (refused-told p (r .number) (r .place) (r .told)) (refusal-prints (r .number) (r .place) (r .why)) (r .untouched)
+      one-refusal p left (r .number) (r .place) (refused-reported p (r .number) (r .place) (r .reported)) (refusal-prints (r .number) (r .place) (r .why)) (r .untouched)

@@ -13,12 +13,12 @@ use Rattle.diagram.specs.declared.Diagram.{Diagram}
 use Rattle.lexer.specs.Spans.{places}
 use Rattle.rules.specs.TokenNodes.{TokenNode}
 use Rattle.grammar.specs.Printed.{printed}
-use Rattle.reader.specs.Nodes.{node-of, stored}
-use Rattle.reader.specs.Answers.{read-of}
-use Rattle.reader.specs.Accepted.{Accepted}
-use Rattle.reader.specs.declared.ReadResult.{ReadResult}
-use Rattle.reader.proofs.Exact.{accepted-read, accepted-exactly}
-use Rattle.reader.proofs.Shown.{accepted-shown}
+use Rattle.reading.specs.Nodes.{node-of, stored}
+use Rattle.reading.specs.Answers.{read-of}
+use Rattle.reading.specs.Accepted.{Accepted}
+use Rattle.reading.specs.declared.ReadResult.{ReadResult}
+use Rattle.reading.proofs.Exact.{accepted-read, accepted-exactly}
+use Rattle.reading.proofs.Shown.{accepted-shown}
 use Rattle.printer.specs.Prints.{left-by}
 use Rattle.printer.specs.Reports.{report}
 use Rattle.printer.specs.Same.{unplaced-node, unplaced, Same, written, wrote, Again, Alike}
@@ -89,7 +89,7 @@ print-then-read text lent d h a =
     let w = wrote-printed text lent d h a in
     let b : Accepted (wrote text lent) d = subst (λ (l : List ℕ). Accepted l d) (sym w) (printed-accepted text d a) in
     record {
-      told = ap report (accepted-prints text lent d h a) ∙ ap (λ (l : List ℕ). result (length l ∷ [])) (sym w);
+      reported = ap report (accepted-prints text lent d h a) ∙ ap (λ (l : List ℕ). result (length l ∷ [])) (sym w);
       accepted = b;
       done = accepted-exactly (wrote text lent) .1 (d, b);
       same = same-diagram (wrote text lent) text d b a;

@@ -4,11 +4,11 @@ use mathlib.Core.Path.{_≡_}
 use mathlib.Core.List.{List, [], _∷_}
 use Prim.Native.Nat.{ℕ, _≤_, _<_}
 use lib.ListN.{length, take, drop}
-use Rattle.base.specs.Reports.{result as told-result, refusal as told-refusal}
+use Rattle.base.specs.Reports.{result as result-report, refusal as refusal-report}
 use Rattle.diagram.specs.Tree.{Flow}
 use Rattle.grammar.specs.Printed.{printed}
-use Rattle.reader.specs.Accepted.{Accepted}
-use Rattle.reader.specs.Refused.{RefusedAt}
+use Rattle.reading.specs.Accepted.{Accepted}
+use Rattle.reading.specs.Refused.{RefusedAt}
 use Rattle.printer.specs.Reports.{report}
 use Rattle.printer.specs.declared.Printed.{Printed}
 
@@ -19,7 +19,7 @@ pub record Result (text lent : List ℕ) (p : Printed) (left : List ℕ) : Type 
   pub tree : Flow
   pub limits : Accepted text tree
   pub count : ℕ
-  pub told : report p ≡ told-result (count ∷ [])
+  pub reported : report p ≡ result-report (count ∷ [])
   pub few : count ≤ 16384
   pub length-stays : length left ≡ length lent
   pub front : take count left ≡ printed text
@@ -35,7 +35,7 @@ pub record Refusal (text lent : List ℕ) (p : Printed) (left : List ℕ) : Type
   pub number : ℕ
   pub place : ℕ
   pub why : Reason text lent number place
-  pub told : report p ≡ told-refusal number place
+  pub reported : report p ≡ refusal-report number place
   pub low : 1 ≤ number
   pub high : number ≤ 11
   pub near : place ≤ 16384

@@ -6,9 +6,9 @@ use lib.Dec.{ltb}
 use lib.ListN.{length}
 use Rattle.base.specs.Fill.{fill}
 use Rattle.grammar.specs.Printed.{printed}
-use Rattle.reader.specs.Answers.{read-of}
-use Rattle.reader.specs.declared.Answer.{Answer}
-use Rattle.reader.specs.declared.Answer.the-variants.{Done, Refused as Unread}
+use Rattle.reading.specs.Answers.{read-of}
+use Rattle.reading.specs.declared.Answer.{Answer}
+use Rattle.reading.specs.declared.Answer.the-variants.{Done, Refused as Unread}
 use Rattle.printer.specs.declared.Printed.{Printed}
 use Rattle.printer.specs.declared.Printed.the-variants.{Bytes, Refused}
 

@@ -9,10 +9,10 @@ use Rattle.base.specs.Reports.{result}
 use Rattle.diagram.specs.Tree.{Flow}
 use Rattle.diagram.specs.declared.Node.{Node}
 use Rattle.diagram.specs.declared.Diagram.{Diagram}
-use Rattle.reader.specs.Answers.{read-of}
-use Rattle.reader.specs.Accepted.{Accepted}
-use Rattle.reader.specs.ShownNodes.{shown-nodes, Shows}
-use Rattle.reader.specs.declared.Answer.the-variants.{Done}
+use Rattle.reading.specs.Answers.{read-of}
+use Rattle.reading.specs.Accepted.{Accepted}
+use Rattle.reading.specs.Shows.{shown-nodes, Shows}
+use Rattle.reading.specs.declared.Answer.the-variants.{Done}
 use Rattle.printer.specs.Prints.{print-of, left-by}
 use Rattle.printer.specs.Reports.{report}
 use Rattle.printer.specs.declared.Printed.{Printed}
@@ -41,7 +41,7 @@ wrote text lent = written (print-of text lent) (left-by text lent (print-of text
 
 -- "printing and reading again yields that diagram": what was written, read, is done, with the same diagram; both show the one tree.
 pub record Again (text lent : List ℕ) (d : Flow) : Type 0 where
-  pub told : report (print-of text lent) ≡ result (length (wrote text lent) ∷ [])
+  pub reported : report (print-of text lent) ≡ result (length (wrote text lent) ∷ [])
   pub accepted : Accepted (wrote text lent) d
   pub done : read-of (wrote text lent) .answer ≡ Done
   pub same : Same (wrote text lent) (read-of (wrote text lent) .diagram) text (read-of text .diagram)

@@ -3,7 +3,7 @@ ghost use lib.ListN.{length};
 ghost use Rattle.base.specs.Fill.{fill};
 ghost use Rattle.grammar.specs.Printed.{printed};
 ghost use Rattle.printer.specs.Prints.{passed-on, print-answer, print-of, left-by};
-use reader::Answer;
+use reading::Answer;
 
 // How many bytes were written, or the refusal with its number and place.
 pub enum Printed {

@@ -1,13 +1,4 @@
-pub mod Verdicts
-pub mod Scans
-pub mod Told
-pub mod Exact
-pub mod Shown
-pub mod Placed
-pub mod Laws
-pub mod Rows
+mod Laws
+mod Stored
 pub mod Stages
-pub mod Bounds
 pub mod Promised
-pub mod Worked
-pub mod Reading

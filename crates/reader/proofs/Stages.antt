@@ -4,13 +4,12 @@ use mathlib.Core.List.{List}
 use Prim.Native.Nat.{ℕ, _≤_}
 use native.Mathlib.Omega.{arith}
 use lib.ListN.{length, take}
-use lib.Seq.{length-take-le}
 use Rattle.lexer.specs.Spans.{spans-of, codes, places}
 use Rattle.base.specs.Fill.{fill}
 use Rattle.lexer.specs.Scanned.{scan-of, written}
 use Rattle.lexer.specs.declared.Scan.{Scan}
 use Rattle.lexer.specs.declared.Scan.the-variants.{Tokens, Refused as Unscanned}
-use Rattle.base.proofs.Filled.{fill-length, fill-front}
+use Rattle.base.proofs.Begins.{Begins, fill-begins}
 use Rattle.lexer.proofs.Spans.{codes-length, places-length, tokens-bounded}
 use Rattle.grammar.specs.Machine.{Outcome, whole, stop, outcome}
 use Rattle.grammar.proofs.Limited.{whole-none-big}
@@ -24,34 +23,20 @@ use Rattle.rules.specs.Judged.{verdict}
 use Rattle.rules.specs.declared.Verdict.{Verdict}
 use Rattle.rules.specs.declared.Verdict.the-variants.{Kept, Refused as Unkept}
 use Rattle.diagram.specs.declared.Diagram.{Diagram}
-use Rattle.reader.specs.Nodes.{stored}
-use Rattle.reader.specs.declared.Answer.the-variants.{Done}
+use Rattle.reading.specs.Nodes.{stored}
+use Rattle.reading.specs.declared.Answer.the-variants.{Done}
 use Rattle.nodes.proofs.ByColumns.{columns-token-nodes, keys-count, depths-count}
-use Rattle.reader.specs.Answers.{no-diagram, scan-answer, parse-answer, verdict-answer, judged, parsed, scanned, read-of}
-use Rattle.reader.specs.declared.ReadResult.{ReadResult}
-use Rattle.reader.proofs.Scans.{scan-clean, clean-scan}
-
--- A list of m numbers over whose front the first n are known to be vs.
-pub record Front (m n : ℕ) (xs vs : List ℕ) : Type 0 where
-  pub room : n ≤ length xs
-  pub exact : n ≡ length (take n xs)
-  pub is : take n xs ≡ vs
-
-front : (m n : ℕ) (lent xs vs : List ℕ) → length lent ≡ m → n ≡ length vs → n ≤ m → xs ≡ fill lent vs → Front m n xs vs
-front m n lent xs vs l e h q =
-    let r : n ≤ length xs = omega (arith, ap length q, fill-length lent vs) in
-    record {
-      room = r;
-      exact = sym (length-take-le n xs r);
-      is = ap₂ (λ (k : ℕ) (ys : List ℕ). take k ys) e q ∙ fill-front lent vs (omega arith);
-    }
+use Rattle.reader.specs.code.Stages.{scan-answer, parse-answer, verdict-answer}
+use Rattle.reading.specs.Answers.{no-diagram, judged, parsed, scanned, read-of}
+use Rattle.reading.specs.declared.ReadResult.{ReadResult}
+use Rattle.reading.proofs.Scans.{scan-clean, clean-scan}
 
 -- From the tokens to the columns of nodes.
 pub record Columns (cs ks ds : List ℕ) (n m : ℕ) : Type 0 where
   pub read : outcome cs ≡ whole m
   pub few : n ≤ 256
-  pub first : Front 256 n ks (keys 0 cs)
-  pub second : Front 256 n ds (depths 0 cs)
+  pub first : Begins n ks (keys 0 cs)
+  pub second : Begins n ds (depths 0 cs)
 
 read-whole : (cs : List ℕ) (o : Outcome) (len : ℕ) (r : Step) (x y : ℕ) → outcome cs ≡ o → r ≡ step-of len o → r ≡ Go x y → outcome cs ≡ whole y
 read-whole cs (whole n) len r x y q e g = let z : n ≡ y = cc in q ∙ ap whole z
@@ -65,8 +50,8 @@ columns cs ks ds lent owed n len r x y e g l o q a b =
     record {
       read = w;
       few = h;
-      first = front 256 n lent ks (keys 0 cs) l q h a;
-      second = front 256 n owed ds (depths 0 cs) o (omega (arith, keys-count 0 cs, depths-count 0 cs)) h b;
+      first = fill-begins n lent ks (keys 0 cs) q (omega arith) a;
+      second = fill-begins n owed ds (depths 0 cs) (omega (arith, keys-count 0 cs, depths-count 0 cs)) (omega arith) b;
     }
 
 pub stopped-no-diagram : (text ps : List ℕ) (hs : List TokenNode) (len : ℕ) (o : Outcome) (r : Step) (c k : ℕ) → r ≡ step-of len o → r ≡ Stop c k
@@ -94,8 +79,8 @@ kept-done ps hs (Unkept c k) v x y d e g q = let z : _≡_ {A = ℕ} 0 1 = cc in
 -- From the text to its tokens.
 pub record Tokened (text cs ps : List ℕ) (n : ℕ) : Type 0 where
   pub scanned : scan-of text ≡ Tokens n
-  pub first : Front 16384 n cs (codes text)
-  pub second : Front 16384 n ps (places text)
+  pub first : Begins n cs (codes text)
+  pub second : Begins n ps (places text)
 
 pub tokened : (text cs ps lent owed : List ℕ) (n : ℕ) (r : Scan) → r ≡ scan-of text → r ≡ Tokens n → length lent ≡ 16384 → length owed ≡ 16384
     → cs ≡ written (scan-of text) (codes text) lent → ps ≡ written (scan-of text) (places text) owed → Tokened text cs ps n
@@ -107,8 +92,8 @@ tokened text cs ps lent owed n r e g l o a b =
     let h : n ≤ 16384 = omega (arith, tokens-bounded text, c .size) in
     record {
       scanned = s;
-      first = front 16384 n lent cs (codes text) l (omega (arith, codes-length text)) h (rw s at a);
-      second = front 16384 n owed ps (places text) o (omega (arith, places-length text)) h (rw s at b);
+      first = fill-begins n lent cs (codes text) (omega (arith, codes-length text)) (omega arith) (rw s at a);
+      second = fill-begins n owed ps (places text) (omega (arith, places-length text)) (omega arith) (rw s at b);
     }
 
 pub scanned-no-diagram : (text : List ℕ) (s r : Scan) (c k : ℕ) → r ≡ s → r ≡ Unscanned c k → no-diagram (scan-answer r) ≡ scanned text (codes text) (places text) s

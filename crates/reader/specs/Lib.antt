@@ -1,10 +1,1 @@
-pub mod Nodes
-pub mod Answers
-pub mod Accepted
-pub mod Refused
-pub mod ShownNodes
-pub mod Places
-pub mod Bounds
-pub mod Reports
-pub mod Worked
-pub mod Reading
+pub mod code

@@ -1,31 +1,23 @@
 ghost use mathlib.Core.Path.{_≡_};
+ghost use mathlib.Core.Bool.{_||_};
 ghost use Prim.Native.Nat.{ℕ, _≤_};
-ghost use lib.ListN.{length, getD, drop};
+ghost use lib.ListN.{length, drop};
 ghost use Rattle.diagram.specs.Tree.{Name};
-ghost use Rattle.rules.specs.TokenNodes.{token-node, token-nodes, name-in};
+ghost use Rattle.rules.specs.TokenNodes.{flowing, leafy, copying, token-node, token-nodes, name-in};
 ghost use Rattle.nodes.specs.code.Columns.{by-columns};
 ghost use Rattle.grammar.specs.Machine.{outcome};
 ghost use Rattle.rules.specs.Judged.{verdict};
-ghost use Rattle.reader.specs.Nodes.{kind-of, size-of, strong-flow, name-place, node-of, stored};
-ghost use Rattle.reader.specs.Answers.{no-diagram, scan-answer, parse-answer, verdict-answer, place-of, judged as judged-of, parsed, read-of};
+ghost use Rattle.reading.specs.Nodes.{kind-of, node-of, stored};
+ghost use Rattle.reading.specs.Answers.{no-diagram, place-of, judged as judged-of, parsed, read-of};
+ghost use Rattle.reader.specs.code.Stages.{scan-answer, parse-answer, verdict-answer, size-at, strong-at, name-at};
 use diagram::Diagram;
 use diagram::Kind;
 use diagram::Node;
 use lexer::Scan;
 use parser::Step;
+use reading::Answer;
+use reading::ReadResult;
 use rules::Verdict;
-
-// Whether a text was read, or the refusal with its number and place.
-pub enum Answer {
-    Done,
-    Refused(u8, usize),
-}
-
-// What reading answers. Where the text is refused, the diagram is empty and all counts are 0.
-pub struct ReadResult {
-    pub answer: Answer,
-    pub diagram: Diagram,
-}
 
 // An answer that carries no diagram.
 fn no_diagram(answer: Answer) -> ReadResult
@@ -78,36 +70,22 @@ fn parse_answer(text: &[u8], starts: &[u16], s: Step) -> Answer
 fn kind(c: u8, size: u8) -> Kind
     ensures { λ r. ⌜ r ≡ kind-of c size ⌝ }
 {
-    if c == 7 {
-        return Kind::Flow;
+    match c {
+        7 => Kind::Flow,
+        8 => Kind::Leaf,
+        9 => Kind::And,
+        10 => Kind::Or,
+        11 => Kind::Xor,
+        12 => Kind::All(size),
+        13 => Kind::Some(size),
+        14 => Kind::One(size),
+        _ => Kind::Loop,
     }
-    if c == 8 {
-        return Kind::Leaf;
-    }
-    if c == 9 {
-        return Kind::And;
-    }
-    if c == 10 {
-        return Kind::Or;
-    }
-    if c == 11 {
-        return Kind::Xor;
-    }
-    if c == 12 {
-        return Kind::All(size);
-    }
-    if c == 13 {
-        return Kind::Some(size);
-    }
-    if c == 14 {
-        return Kind::One(size);
-    }
-    Kind::Loop
 }
 
 // A replicator's size; 0 for any other node.
 fn size(codes: &[u8], key: usize) -> u8
-    ensures { λ r. ⌜ r ≡ size-of (drop key (now (codes .entry))) ⌝ }
+    ensures { λ r. ⌜ r ≡ size-at (now (codes .entry)) key ⌝ }
 {
     if nodes::within(12, 14, nodes::token(codes, key, 0)) {
         return nodes::size(codes, key);
@@ -117,7 +95,7 @@ fn size(codes: &[u8], key: usize) -> u8
 
 // Whether a flow's sw is 1; false for any other node.
 fn strong(codes: &[u8], key: usize) -> bool
-    ensures { λ r. ⌜ r ≡ strong-flow (drop key (now (codes .entry))) ⌝ }
+    ensures { λ r. ⌜ r ≡ strong-at (now (codes .entry)) key ⌝ }
 {
     if nodes::token(codes, key, 0) == 7 {
         return nodes::strong(codes, key);
@@ -125,15 +103,21 @@ fn strong(codes: &[u8], key: usize) -> bool
     false
 }
 
+// Whether a node of this keyword has a name or a par.
+fn named(c: u8) -> bool
+    ensures { λ r. ⌜ r ≡ (flowing c || (leafy c || copying c)) ⌝ }
+{
+    if nodes::either(c, 7, 8) {
+        return true;
+    }
+    nodes::within(12, 14, c)
+}
+
 // The place of a node's name or par; 0 for a node that has none.
 fn name(codes: &[u8], starts: &[u16], key: usize) -> usize
-    ensures { λ r. ⌜ r ≡ name-place (getD (drop key (now (codes .entry))) 0 0) (now (starts .entry)) key ⌝ }
+    ensures { λ r. ⌜ r ≡ name-at (now (codes .entry)) (now (starts .entry)) key ⌝ }
 {
-    let c = nodes::token(codes, key, 0);
-    if nodes::either(c, 7, 8) {
-        return nodes::place(starts, key, 2);
-    }
-    if nodes::within(12, 14, c) {
+    if named(nodes::token(codes, key, 0)) {
         return nodes::place(starts, key, 2);
     }
     0
@@ -172,17 +156,24 @@ fn store(
     requires { ⌜ (length (now keys) ≤ 256) × (length (now depths) ≡ length (now keys)) ⌝ }
     ensures { λ r. ⌜ ((nm : ℕ → Name) → r ≡ stored (now (starts .entry)) (by-columns nm (now (codes .entry)) (now (keys .entry)) (now (depths .entry))) copies events) ⌝ }
 {
-    let mut d = diagram::empty();
+    let blank = diagram::empty();
+    let mut nodes = blank.nodes;
     let mut i = 0;
     while i < keys.len() {
-        let n = node(codes, starts, keys[i], depths[i]);
-        d.nodes[i] = n;
+        nodes[i] = node(
+            codes,
+            starts,
+            base::number(keys, i),
+            base::number(depths, i),
+        );
         i += 1;
     }
-    d.count = i;
-    d.copies = copies;
-    d.events = events;
-    d
+    Diagram {
+        nodes,
+        count: i,
+        copies,
+        events,
+    }
 }
 
 // Numbers 7 to 11, and the diagram.

@@ -6,10 +6,6 @@ use borrow.Author.Needs.{needs}
 use native.Mathlib.Omega.{arith}
 use Rattle.printer.proofs.copy.Statement.{statement}
 use Rattle.printer.proofs.copy.Tie as tie
-use Rattle.printer.proofs.copy.Reads as reads
-use Rattle.printer.proofs.copy.Lts as lts
-use Rattle.base.proofs.put_byte.Reads as put-byte-reads
-use Rattle.lexer.proofs.skip.Reads as skip-reads
 
 abbrev Inv-loop : tie.InvT-loop
 Inv-loop text out₀ n₀ at₀ out n at = (length out ≡ length out₀) × Copied text out₀ out n at

@@ -2,10 +2,6 @@ use Rattle.printer.proofs.Answered.{short-answers, long-answers}
 use borrow.Author.Needs.{needs}
 use Rattle.printer.proofs.print.Statement.{statement}
 use Rattle.printer.proofs.print.Tie as tie
-use Rattle.printer.proofs.print.Reads as reads
-use Rattle.printer.proofs.print.Lts as lts
-use Rattle.printer.proofs.print_read.Reads as print-read-reads
-use Rattle.reader.proofs.read.Reads as read-reads
 
 returns : tie.Need-returns
 returns c =

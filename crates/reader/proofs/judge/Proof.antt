@@ -2,17 +2,11 @@ use mathlib.Core.Path.{_∙_, ap}
 use Rattle.rules.specs.TokenNodes.{name-in}
 use Rattle.nodes.specs.code.Columns.{by-columns}
 use Rattle.rules.specs.Judged.{verdict}
-use Rattle.reader.specs.Answers.{no-diagram}
+use Rattle.reading.specs.Answers.{no-diagram}
 use Rattle.reader.proofs.Stages.{verdict-no-diagram, kept-done}
 use borrow.Author.Needs.{needs}
 use Rattle.reader.proofs.judge.Statement.{statement}
 use Rattle.reader.proofs.judge.Tie as tie
-use Rattle.reader.proofs.judge.Reads as reads
-use Rattle.reader.proofs.judge.Lts as lts
-use Rattle.reader.proofs.store.Reads as store-reads
-use Rattle.reader.proofs.no_diagram.Reads as no-diagram-reads
-use Rattle.reader.proofs.verdict_answer.Reads as verdict-answer-reads
-use Rattle.judge.proofs.verdict.Reads as verdict-reads
 
 returns : tie.Need-returns
 returns c =

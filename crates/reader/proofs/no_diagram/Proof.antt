@@ -3,9 +3,6 @@ use Rattle.diagram.specs.declared.Diagram.{Diagram}
 use borrow.Author.Needs.{needs}
 use Rattle.reader.proofs.no_diagram.Statement.{statement}
 use Rattle.reader.proofs.no_diagram.Tie as tie
-use Rattle.reader.proofs.no_diagram.Reads as reads
-use Rattle.reader.proofs.no_diagram.Lts as lts
-use Rattle.diagram.proofs.empty.Reads as empty-reads
 
 returns : tie.Need-returns
 returns c = ap (λ (d : Diagram). record { answer = c .before .args .answer; diagram = d }) (c .empty .ensures)

@@ -1,5 +1,5 @@
 use mathlib.Core.Path.{ap, sym}
-use Rattle.reader.specs.Answers.{parse-answer}
+use Rattle.reader.specs.code.Stages.{parse-answer}
 use borrow.Author.Needs.{needs}
 use Rattle.reader.proofs.parse_answer.Statement.{statement}
 use Rattle.reader.proofs.parse_answer.Tie as tie

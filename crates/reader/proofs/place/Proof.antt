@@ -4,9 +4,6 @@ use Rattle.reader.proofs.Laws.{place-inside, place-past}
 use borrow.Author.Needs.{needs}
 use Rattle.reader.proofs.place.Statement.{statement}
 use Rattle.reader.proofs.place.Tie as tie
-use Rattle.reader.proofs.place.Reads as reads
-use Rattle.reader.proofs.place.Lts as lts
-use Rattle.nodes.proofs.place.Reads as place-reads
 
 returns : tie.Need-returns
 returns c =

@@ -2,16 +2,10 @@ use mathlib.Core.Path.{_∙_, ap}
 use Prim.Native.Nat.{ℕ}
 use lib.ListN.{replicate, length-replicate}
 use Rattle.reader.proofs.Stages.{Tokened, tokened, unscanned, tokened-read}
-use Rattle.reader.specs.Answers.{no-diagram}
+use Rattle.reading.specs.Answers.{no-diagram}
 use borrow.Author.Needs.{needs}
 use Rattle.reader.proofs.read.Statement.{statement}
 use Rattle.reader.proofs.read.Tie as tie
-use Rattle.reader.proofs.read.Reads as reads
-use Rattle.reader.proofs.read.Lts as lts
-use Rattle.lexer.proofs.scan_text.Reads as scan-text-reads
-use Rattle.reader.proofs.read_tokens.Reads as read-tokens-reads
-use Rattle.reader.proofs.scan_answer.Reads as scan-answer-reads
-use Rattle.reader.proofs.no_diagram.Reads as no-diagram-reads
 
 -- What is known once the tokens are there.
 abbrev Found : tie.After-s → Type 0

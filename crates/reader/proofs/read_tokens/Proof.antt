@@ -2,20 +2,13 @@ use mathlib.Core.Path.{sym, _∙_, ap}
 use Prim.Native.Nat.{ℕ}
 use lib.ListN.{length, replicate, length-replicate}
 use Rattle.reader.proofs.Stages.{Columns, columns, stopped-no-diagram, whole-judged}
-use Rattle.reader.specs.Answers.{no-diagram}
+use Rattle.reading.specs.Answers.{no-diagram}
 use Rattle.grammar.specs.Machine.{outcome}
 use Rattle.rules.specs.TokenNodes.{token-nodes, name-in}
 use native.Mathlib.Omega.{arith}
 use borrow.Author.Needs.{needs}
 use Rattle.reader.proofs.read_tokens.Statement.{statement}
 use Rattle.reader.proofs.read_tokens.Tie as tie
-use Rattle.reader.proofs.read_tokens.Reads as reads
-use Rattle.reader.proofs.read_tokens.Lts as lts
-use Rattle.parser.proofs.parse.Reads as parse-reads
-use Rattle.reader.proofs.judge.Reads as judge-reads
-use Rattle.reader.proofs.parse_answer.Reads as parse-answer-reads
-use Rattle.reader.proofs.no_diagram.Reads as no-diagram-reads
-use Rattle.nodes.proofs.columns.Reads as columns-reads
 
 -- What is known once the columns are there.
 abbrev Found : tie.After-columns → Type 0

@@ -1,10 +1,8 @@
 use mathlib.Core.Path.{ap, sym}
-use Rattle.reader.specs.Answers.{scan-answer}
+use Rattle.reader.specs.code.Stages.{scan-answer}
 use borrow.Author.Needs.{needs}
 use Rattle.reader.proofs.scan_answer.Statement.{statement}
 use Rattle.reader.proofs.scan_answer.Tie as tie
-use Rattle.reader.proofs.scan_answer.Reads as reads
-use Rattle.reader.proofs.scan_answer.Lts as lts
 
 returns-2 : tie.Need-returns-2
 returns-2 c = ap scan-answer (sym (c .before .s .given .1))

@@ -1,10 +1,8 @@
 use mathlib.Core.Path.{ap, sym}
-use Rattle.reader.specs.Answers.{verdict-answer}
+use Rattle.reader.specs.code.Stages.{verdict-answer}
 use borrow.Author.Needs.{needs}
 use Rattle.reader.proofs.verdict_answer.Statement.{statement}
 use Rattle.reader.proofs.verdict_answer.Tie as tie
-use Rattle.reader.proofs.verdict_answer.Reads as reads
-use Rattle.reader.proofs.verdict_answer.Lts as lts
 
 returns-2 : tie.Need-returns-2
 returns-2 c = ap verdict-answer (sym (c .before .v .given .1))

@@ -27,10 +27,10 @@ use Rattle.grammar.proofs.LimitedTrees.{fits-none-big, none-big-fits}
 use Rattle.rules.specs.TokenNodes.{token-nodes, name-in}
 use Rattle.rules.proofs.Trees.{flow-token-nodes}
 use Rattle.rules.proofs.NodesRead.{Agrees, tree-token-nodes}
-use Rattle.reader.specs.Answers.{judged, read-of}
-use Rattle.reader.specs.Refused.{Clean, Derived}
-use Rattle.reader.proofs.Scans.{clean-scan}
-use Rattle.reader.proofs.Verdicts.{tree-verdict, tree-judged}
+use Rattle.reading.specs.Answers.{judged, read-of}
+use Rattle.reading.specs.Refused.{Clean, Derived}
+use Rattle.reading.proofs.Scans.{clean-scan}
+use Rattle.reading.proofs.Verdicts.{tree-verdict, tree-judged}
 
 every-at : (t : ℕ → Bool) (bs : List ℕ) (j : ℕ) → every t bs ≡ true → j < length bs → t (getD bs j 0) ≡ true
 every-at t [] j h l = let z : ⊥ = omega arith in absurd z

@@ -2,9 +2,9 @@
 use mathlib.Core.List.{[], _∷_}
 use Rattle.base.specs.Reports.{Report, result, refusal}
 use Rattle.diagram.specs.declared.Diagram.{Diagram}
-use Rattle.reader.specs.declared.Answer.{Answer}
-use Rattle.reader.specs.declared.Answer.the-variants.{Done, Refused}
-use Rattle.reader.specs.declared.ReadResult.{ReadResult}
+use Rattle.reading.specs.declared.Answer.{Answer}
+use Rattle.reading.specs.declared.Answer.the-variants.{Done, Refused}
+use Rattle.reading.specs.declared.ReadResult.{ReadResult}
 
 -- Done, with the nodes, node copies and events of the diagram; or number and place.
 abbrev pub answer-report : Diagram → Answer → Report

@@ -1,7 +1,7 @@
 -- What reading answers, stage by stage: the checks of document 01, "Numbers for what is turned away", in their order. What it means stands in
 -- Accepted.antt (`Accepted`) and Refused.antt (`Turned`): a text is read exactly if some diagram is `Accepted` for it, and is refused with a number
 -- at a place exactly if it is `Turned` so. This file only says how the stages lead there; the two theorems are
--- `reader.proofs.Exact.accepted-exactly` and `reader.proofs.Exact.refused-exactly`.
+-- `reading.proofs.Exact.accepted-exactly` and `reading.proofs.Exact.refused-exactly`.
 use mathlib.Core.List.{List}
 use Prim.Native.Nat.{ℕ}
 use lib.ListN.{length, getD}
@@ -11,16 +11,14 @@ use Rattle.lexer.specs.Scanned.{scan-of}
 use Rattle.lexer.specs.declared.Scan.{Scan}
 use Rattle.lexer.specs.declared.Scan.the-variants.{Tokens, Refused as Unscanned}
 use Rattle.grammar.specs.Machine.{Outcome, whole, stop, outcome}
-use Rattle.parser.specs.declared.Step.{Step}
-use Rattle.parser.specs.declared.Step.the-variants.{Go, Stop}
 use Rattle.rules.specs.TokenNodes.{TokenNode, token-nodes, name-in}
 use Rattle.rules.specs.Judged.{verdict}
 use Rattle.rules.specs.declared.Verdict.{Verdict}
 use Rattle.rules.specs.declared.Verdict.the-variants.{Kept, Refused as Unkept}
-use Rattle.reader.specs.Nodes.{stored}
-use Rattle.reader.specs.declared.Answer.{Answer}
-use Rattle.reader.specs.declared.Answer.the-variants.{Done, Refused}
-use Rattle.reader.specs.declared.ReadResult.{ReadResult}
+use Rattle.reading.specs.Nodes.{stored}
+use Rattle.reading.specs.declared.Answer.{Answer}
+use Rattle.reading.specs.declared.Answer.the-variants.{Done, Refused}
+use Rattle.reading.specs.declared.ReadResult.{ReadResult}
 
 -- "A refused answer carries number and place, and all its counts are 0."
 abbrev pub no-diagram : Answer → ReadResult
@@ -32,19 +30,6 @@ refused number place = no-diagram (Refused number place)
 -- The place of a token, or the text's length where the text ends.
 abbrev pub place-of : List ℕ → List ℕ → ℕ → ℕ
 place-of text places k = getD places k (length text)
-
--- The answer that a stage leads to where it refuses.
-abbrev pub scan-answer : Scan → Answer
-scan-answer (Tokens n) = Done
-scan-answer (Unscanned number place) = Refused number place
-
-abbrev pub parse-answer : List ℕ → List ℕ → Step → Answer
-parse-answer text places (Go k n) = Done
-parse-answer text places (Stop number k) = Refused number (place-of text places k)
-
-abbrev pub verdict-answer : Verdict → Answer
-verdict-answer (Kept copies events) = Done
-verdict-answer (Unkept number place) = Refused number place
 
 -- Numbers 7 to 11, and the diagram.
 abbrev pub judged : List ℕ → List TokenNode → Verdict → ReadResult

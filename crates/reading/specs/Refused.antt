@@ -16,7 +16,7 @@ use Rattle.lexer.specs.Spans.{tokens, places}
 use Rattle.grammar.specs.Derives.{Derives, Viable}
 use Rattle.rules.specs.PlacedNodes.{flow-placed-nodes, too-big, first-twice, first-broken}
 use Rattle.rules.specs.Found.{At}
-use Rattle.reader.specs.Answers.{place-of}
+use Rattle.reading.specs.Answers.{place-of}
 
 -- 2: "text over 16,384 bytes", at 16,384.
 pub record Long (text : List ℕ) (at : ℕ) : Type 0 where

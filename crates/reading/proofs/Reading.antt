@@ -3,10 +3,10 @@ use mathlib.Core.Path.{_≡_, sym, _∙_, subst, subst₂}
 use mathlib.Core.List.{List}
 use Prim.Native.Nat.{ℕ}
 use Rattle.diagram.specs.Tree.{Flow}
-use Rattle.reader.specs.Accepted.{Accepted}
-use Rattle.reader.specs.Refused.{RefusedAt}
-use Rattle.reader.proofs.Exact.{Fate, taken, refused-at, fate, accepted-exactly, refused-exactly, accepted-once, done-refused}
-use Rattle.reader.specs.Reading.{Reading, drawing, no-drawing}
+use Rattle.reading.specs.Accepted.{Accepted}
+use Rattle.reading.specs.Refused.{RefusedAt}
+use Rattle.reading.proofs.Exact.{Fate, taken, refused-at, fate, accepted-exactly, refused-exactly, accepted-once, done-refused}
+use Rattle.reading.specs.Reading.{Reading, drawing, no-drawing}
 
 pub reading : (text : List ℕ) → Reading text
 reading text = go (fate text)

@@ -2,32 +2,36 @@
 use mathlib.Core.Path.{_≡_, sym, _∙_, ap, ap₂, subst}
 use mathlib.Core.Logic.{⊎-elim}
 use mathlib.Core.Bool.{true, false}
-use mathlib.Core.List.{List, [], _∷_}
+use mathlib.Core.List.{List, [], _∷_, head-eq-of-cons-eq}
 use Prim.Native.Nat.{ℕ, _+_, _≤_, _<_}
 use native.Mathlib.Omega.{arith}
 use lib.Dec.{ltb}
 use lib.ListN.{length, getD, List·getD-eq-default}
+use lib.Seq.{drop-cons}
 use borrow.Author.Tests.{ltb-true, ltb-false}
-use Rattle.base.specs.Reports.{result as told-result}
+use Rattle.base.specs.Reports.{result as result-report}
 use Rattle.diagram.specs.Tree.{Flow}
 use Rattle.diagram.specs.Count.{flow-nodes, flow-copies, flow-events}
 use Rattle.diagram.specs.declared.Diagram.{Diagram}
 use Rattle.base.proofs.Truth.{cases}
 use Rattle.lexer.specs.Spans.{places}
 use Rattle.lexer.proofs.Spans.{tokens-length, places-length, places-below}
-use Rattle.reader.specs.Accepted.{Accepted}
-use Rattle.reader.specs.Answers.{read-of}
-use Rattle.reader.specs.Reports.{report}
-use Rattle.reader.specs.ShownNodes.{Shows}
-use Rattle.reader.specs.declared.Answer.{Answer}
-use Rattle.reader.specs.declared.Answer.the-variants.{Done}
-use Rattle.reader.specs.declared.ReadResult.{ReadResult}
-use Rattle.reader.specs.Refused.{Derived, RefusedAt, by-size, by-byte, by-word, by-token, by-limit, by-name, by-parameter, by-solid, by-strong, by-count}
-use Rattle.reader.specs.Bounds.{Bounded, result, refusal}
-use Rattle.reader.proofs.Laws.{same-inside}
-use Rattle.reader.proofs.Exact.{accepted-read, refused-at-read, Fate, taken, refused-at, fate}
-use Rattle.reader.proofs.Shown.{accepted-shown}
-use Rattle.reader.proofs.Placed.{accepted-placed, one-diagram}
+use Rattle.reading.specs.Accepted.{Accepted}
+use Rattle.reading.specs.Answers.{read-of}
+use Rattle.reading.specs.Reports.{report}
+use Rattle.reading.specs.Shows.{Shows}
+use Rattle.reading.specs.declared.Answer.{Answer}
+use Rattle.reading.specs.declared.Answer.the-variants.{Done}
+use Rattle.reading.specs.declared.ReadResult.{ReadResult}
+use Rattle.reading.specs.Refused.{Derived, RefusedAt, by-size, by-byte, by-word, by-token, by-limit, by-name, by-parameter, by-solid, by-strong, by-count}
+use Rattle.reading.specs.Bounds.{Bounded, result, refusal}
+use Rattle.reading.proofs.Exact.{accepted-read, refused-at-read, Fate, taken, refused-at, fate}
+use Rattle.reading.proofs.Shown.{accepted-shown}
+use Rattle.reading.proofs.Placed.{accepted-placed, one-diagram}
+
+-- Inside a list it does not matter what stands for what is past its end.
+pub same-inside : (ps : List ℕ) (k none : ℕ) → k < length ps → getD ps k 0 ≡ getD ps k none
+same-inside ps k none h = head-eq-of-cons-eq (sym (drop-cons ps k 0 h) ∙ drop-cons ps k none h)
 
 -- A token's place is in the text, and what stands for no place is at most the text's length.
 place-near : (text : List ℕ) (k none : ℕ) → none ≤ length text → getD (places text) k none ≤ length text
@@ -74,7 +78,7 @@ pub read-bounded : (text : List ℕ) → Bounded text (read-of text)
 read-bounded text = go (fate text)
   where
     counts : (d : Flow) → Accepted text d → Shows text d (read-of text .diagram) → read-of text .answer ≡ Done
-        → report (read-of text) ≡ told-result (flow-nodes d ∷ flow-copies d ∷ flow-events d ∷ [])
+        → report (read-of text) ≡ result-report (flow-nodes d ∷ flow-copies d ∷ flow-events d ∷ [])
     counts d a s e = rw (e, s .count, s .copies, s .events)
 
     go : Fate text → Bounded text (read-of text)
@@ -86,7 +90,7 @@ read-bounded text = go (fate text)
         record {
           tree = d;
           limits = a;
-          told = counts d a s done;
+          reported = counts d a s done;
           done = done;
           shown = s;
           placed = accepted-placed text d a;
@@ -94,7 +98,7 @@ read-bounded text = go (fate text)
     go (refused-at c at t) =
         let n = refused-at-near text c at t in
         let e = refused-at-read text c at t in
-        refusal record { number = c; place = at; why = t; told = ap report e; is = e; low = n .low; high = n .high; near = n .close }
+        refusal record { number = c; place = at; why = t; reported = ap report e; is = e; low = n .low; high = n .high; near = n .close }
 
 -- And there is no other: the text alone says whether it is read, with which diagram, and else the number and the place.
 pub one-answer : (text : List ℕ) (o : ReadResult) → Bounded text o → o ≡ read-of text

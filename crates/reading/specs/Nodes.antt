@@ -1,15 +1,15 @@
 -- A node as the diagram holds it: "Each node's kind, with its size where it has one, stands in its record beside the solid mark."
-use mathlib.Core.Bool.{Bool, false, _||_, cond}
+use mathlib.Core.Bool.{_||_, cond}
 use mathlib.Core.List.{List, _++_, map}
 use Prim.Native.Nat.{ℕ, _+_, _-_}
 use lib.Dec.{eqb}
-use lib.ListN.{length, getD, drop, replicate}
+use lib.ListN.{length, getD, replicate}
 use Rattle.diagram.specs.Stored.{blank-node}
 use Rattle.diagram.specs.declared.Kind.{Kind}
 use Rattle.diagram.specs.declared.Kind.the-variants.{Flow, Leaf, And, Or, Xor, All, Some, One, Loop}
 use Rattle.diagram.specs.declared.Node.{Node}
 use Rattle.diagram.specs.declared.Diagram.{Diagram}
-use Rattle.rules.specs.TokenNodes.{TokenNode, flowing, leafy, copying, strong-of}
+use Rattle.rules.specs.TokenNodes.{TokenNode, flowing, leafy, copying}
 
 -- The kind for a keyword's number and a size.
 unfoldable pub kind-of : ℕ → ℕ → Kind
@@ -22,14 +22,6 @@ kind-of c size =
     (cond (eqb c 12) (All size)
     (cond (eqb c 13) (Some size)
     (cond (eqb c 14) (One size) Loop)))))))
-
--- A replicator's size, by its tokens from the keyword on; 0 for any other node.
-unfoldable pub size-of : List ℕ → ℕ
-size-of cs = cond (copying (getD cs 0 0)) (getD cs 4 0 - 16) 0
-
--- Whether a flow's sw is 1, by its tokens from the keyword on; false for any other node.
-unfoldable pub strong-flow : List ℕ → Bool
-strong-flow cs = cond (flowing (getD cs 0 0)) (strong-of (drop 3 cs)) false
 
 -- The place of the name or par of a node, which stands two tokens after its keyword; 0 for a node that has none.
 unfoldable pub name-place : ℕ → List ℕ → ℕ → ℕ

@@ -25,14 +25,14 @@ use Rattle.grammar.specs.Derives.{Derives}
 use Rattle.grammar.proofs.LimitedTrees.{nodes-counted}
 use Rattle.rules.specs.TokenNodes.{TokenNode, flowing, leafy, copying, solid-of, strong-of, token-node, token-nodes, name-in, opened}
 use Rattle.rules.proofs.Trees.{simple, group-code, replicator-code, flow-token-nodes, children-token-nodes, child-token-nodes, member-token-nodes, members-token-nodes}
-use Rattle.reader.specs.Nodes.{kind-of, name-place, node-of, stored}
-use Rattle.reader.specs.Answers.{read-of}
-use Rattle.reader.specs.Accepted.{Accepted}
-use Rattle.reader.specs.ShownNodes.{Shows, Shows-only, shown-node, shown-nodes}
+use Rattle.reading.specs.Nodes.{kind-of, name-place, node-of, stored}
+use Rattle.reading.specs.Answers.{read-of}
+use Rattle.reading.specs.Accepted.{Accepted}
+use Rattle.reading.specs.Shows.{Shows, Shows-only, shown-node, shown-nodes}
 use Rattle.diagram.specs.TreeNodes.{TreeNode, tree-node, has-name, group-kind, replicator-kind, flow-tree-nodes, children-tree-nodes, child-tree-nodes, member-tree-nodes, members-tree-nodes}
-use Rattle.reader.specs.declared.ReadResult.{ReadResult}
-use Rattle.reader.proofs.Told.{derived-token-nodes}
-use Rattle.reader.proofs.Exact.{accepted-read}
+use Rattle.reading.specs.declared.ReadResult.{ReadResult}
+use Rattle.reading.proofs.Derived.{derived-token-nodes}
+use Rattle.reading.proofs.Exact.{accepted-read}
 
 -- Which kinds have a name, by the keyword's number.
 abbrev pub titled : ℕ → Bool

@@ -17,7 +17,7 @@ use Rattle.lexer.specs.declared.Scan.{Scan}
 use Rattle.lexer.specs.declared.Scan.the-variants.{Tokens, Refused}
 use Rattle.lexer.proofs.Spans.{no-span, tokens-length, token-at, place-at, places-below}
 use Rattle.grammar.proofs.Rendered.{usual}
-use Rattle.reader.specs.Refused.{Long, Foreign, Usual, Wordy, Clean}
+use Rattle.reading.specs.Refused.{Long, Foreign, Usual, Wordy, Clean}
 
 -- The first number of a list that fails a test.
 record First (t : ℕ → Bool) (l : List ℕ) (n : ℕ) : Type 0 where

@@ -15,15 +15,15 @@ use Rattle.rules.specs.TokenNodes.{TokenNode}
 use Rattle.rules.specs.PlacedNodes.{PlacedNode, flow-placed-nodes}
 use Rattle.rules.proofs.Trees.{flow-token-nodes}
 use Rattle.rules.proofs.KeysPlaced.{token-node-keys, placed-node-keys, keys-placed}
-use Rattle.reader.specs.Nodes.{name-place, node-of, stored}
-use Rattle.reader.specs.Answers.{read-of}
-use Rattle.reader.specs.Accepted.{Accepted}
-use Rattle.reader.specs.ShownNodes.{Shows, shown-node, shown-nodes}
+use Rattle.reading.specs.Nodes.{name-place, node-of, stored}
+use Rattle.reading.specs.Answers.{read-of}
+use Rattle.reading.specs.Accepted.{Accepted}
+use Rattle.reading.specs.Shows.{Shows, shown-node, shown-nodes}
 use Rattle.diagram.specs.TreeNodes.{TreeNode}
-use Rattle.reader.specs.Places.{Placed, keyword-at, name-at, names-at}
-use Rattle.reader.specs.declared.ReadResult.{ReadResult}
-use Rattle.reader.proofs.Exact.{accepted-read}
-use Rattle.reader.proofs.Shown.{kind-named, token-node-shown-node, tree-shown}
+use Rattle.reading.specs.Places.{Placed, keyword-at, name-at, names-at}
+use Rattle.reading.specs.declared.ReadResult.{ReadResult}
+use Rattle.reading.proofs.Exact.{accepted-read}
+use Rattle.reading.proofs.Shown.{kind-named, token-node-shown-node, tree-shown}
 
 abbrev ats : List Node → List ℕ
 ats ns = map (λ (n : Node). n .at) ns

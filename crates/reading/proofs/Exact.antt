@@ -38,16 +38,16 @@ use Rattle.rules.proofs.NamesKept.{names-kept-iff}
 use Rattle.rules.proofs.ParametersKept.{parameters-kept-iff}
 use Rattle.rules.proofs.SolidsKept.{solids-kept-iff}
 use Rattle.rules.proofs.StrongsKept.{strongs-kept-iff}
-use Rattle.reader.specs.Nodes.{stored}
-use Rattle.reader.specs.Answers.{refused, place-of, judged, scanned, read-of}
-use Rattle.reader.specs.Accepted.{Accepted}
-use Rattle.reader.specs.Refused.{Clean, Off, Big, Derived, RefusedAt, by-size, by-byte, by-word, by-token, by-limit, by-name, by-parameter, by-solid, by-strong, by-count}
-use Rattle.reader.specs.declared.Answer.{Answer}
-use Rattle.reader.specs.declared.Answer.the-variants.{Done, Refused}
-use Rattle.reader.specs.declared.ReadResult.{ReadResult}
-use Rattle.reader.proofs.Scans.{scan-refused-at, scan-clean, long-scan, foreign-scan, wordy-scan, clean-scan}
-use Rattle.reader.proofs.Verdicts.{twice, misplaced, unsolid, weak, tree-verdict, counted-few, counted-many, few-or-many}
-use Rattle.reader.proofs.Told.{whole-derived, derived-answer}
+use Rattle.reading.specs.Nodes.{stored}
+use Rattle.reading.specs.Answers.{refused, place-of, judged, scanned, read-of}
+use Rattle.reading.specs.Accepted.{Accepted}
+use Rattle.reading.specs.Refused.{Clean, Off, Big, Derived, RefusedAt, by-size, by-byte, by-word, by-token, by-limit, by-name, by-parameter, by-solid, by-strong, by-count}
+use Rattle.reading.specs.declared.Answer.{Answer}
+use Rattle.reading.specs.declared.Answer.the-variants.{Done, Refused}
+use Rattle.reading.specs.declared.ReadResult.{ReadResult}
+use Rattle.reading.proofs.Scans.{scan-refused-at, scan-clean, long-scan, foreign-scan, wordy-scan, clean-scan}
+use Rattle.reading.proofs.Verdicts.{twice, misplaced, unsolid, weak, tree-verdict, counted-few, counted-many, few-or-many}
+use Rattle.reading.proofs.Derived.{whole-derived, derived-answer}
 
 -- What reading a derived text answers, by the rules' verdict.
 abbrev done : List ℕ → Flow → ReadResult

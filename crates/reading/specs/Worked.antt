@@ -1,17 +1,11 @@
 -- Short texts worked through, each with what reading answers: done, or number and place. One table, in the order of document 01's numbers.
 use mathlib.Core.Path.{_≡_}
 use mathlib.Core.List.{List, [], _∷_, map}
-use Prim.Native.Nat.{ℕ}
-use Prim.Native.Char.{code}
-use Prim.Native.String.{String, [] as end, _∷_ as _then_}
-use Rattle.reader.specs.Answers.{read-of}
-use Rattle.reader.specs.declared.Answer.{Answer}
-use Rattle.reader.specs.declared.Answer.the-variants.{Done, Refused}
-
--- The bytes of a text, one for each character.
-abbrev pub bytes : String → List ℕ
-bytes end = []
-bytes (c then s) = code c ∷ bytes s
+use Prim.Native.String.{String}
+use Rattle.base.specs.Text.{bytes}
+use Rattle.reading.specs.Answers.{read-of}
+use Rattle.reading.specs.declared.Answer.{Answer}
+use Rattle.reading.specs.declared.Answer.the-variants.{Done, Refused}
 
 abbrev pub texts : List (String × Answer)
 texts =

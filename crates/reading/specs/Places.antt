@@ -26,8 +26,8 @@ names-at text [] ss = []
 names-at text (v ∷ vs) [] = []
 names-at text (v ∷ vs) (s ∷ ss) = name-at text v s ∷ names-at text vs ss
 
--- The nodes of the diagram that count stand in the text where the nodes of the tree do, and those past them, up to 256, are blank. This and `Views.Shows` leave
--- nothing of a diagram open: `reader.proofs.Placed.one-diagram`.
+-- The nodes of the diagram that count stand in the text where the nodes of the tree do, and those past them, up to 256, are blank. This and `reading.specs.Shows.Shows` leave
+-- nothing of a diagram open: `reading.proofs.Placed.one-diagram`.
 pub record Placed (text : List ℕ) (d : Flow) (g : Diagram) : Type 0 where
   pub keywords : map (λ (n : Node). n .at) (take (g .count) (g .nodes)) ≡ map (keyword-at text) (flow-placed-nodes d [] 1 0 [])
   pub names : map (λ (n : Node). n .name) (take (g .count) (g .nodes)) ≡ names-at text (flow-tree-nodes d false 1 []) (flow-placed-nodes d [] 1 0 [])

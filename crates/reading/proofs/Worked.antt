@@ -9,8 +9,8 @@ use Rattle.rules.specs.TokenNodes.{reach, extent, solid-of, par-count, strong-o
 use Rattle.rules.specs.Kept.{fault}
 use Rattle.rules.specs.Counted.{times, total}
 use Rattle.rules.specs.Judged.{verdict}
-use Rattle.reader.specs.Answers.{read-of}
-use Rattle.reader.specs.Worked.{texts, Worked}
+use Rattle.reading.specs.Answers.{read-of}
+use Rattle.reading.specs.Worked.{texts, Worked}
 
 pub worked : Worked texts
 unfolding class-of front keywords keyword numeral word-code code width spans spans-of tokens codes places first-long scan-of parts begin expand run outcome reach extent solid-of par-count strong-of token-node token-nodes fault times total verdict read-of

@@ -1,0 +1,9 @@
+pub mod Verdicts
+pub mod Scans
+pub mod Derived
+pub mod Exact
+pub mod Shown
+pub mod Placed
+pub mod Bounds
+pub mod Reading
+pub mod Worked

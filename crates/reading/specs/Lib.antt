@@ -1,0 +1,10 @@
+pub mod Accepted
+pub mod Refused
+pub mod Reading
+pub mod Nodes
+pub mod Answers
+pub mod Reports
+pub mod Shows
+pub mod Places
+pub mod Bounds
+pub mod Worked
