@@ -17,12 +17,12 @@ use Rattle.diagram.specs.declared.Diagram.{Diagram}
 use Rattle.lexer.specs.Classes.{worded}
 use Rattle.lexer.specs.Words.{front, word-at}
 use Rattle.lexer.proofs.Front.{front-le}
-use Rattle.reader.specs.Answers.{read-of}
-use Rattle.reader.specs.Accepted.{Accepted}
-use Rattle.reader.specs.declared.Answer.the-variants.{Done, Refused as Unread}
-use Rattle.reader.specs.declared.ReadResult.{ReadResult}
-use Rattle.reader.proofs.Exact.{accepted-exactly, refused-exactly}
-use Rattle.reader.proofs.Shown.{accepted-shown}
+use Rattle.reading.specs.Answers.{read-of}
+use Rattle.reading.specs.Accepted.{Accepted}
+use Rattle.reading.specs.declared.Answer.the-variants.{Done, Refused as Unread}
+use Rattle.reading.specs.declared.ReadResult.{ReadResult}
+use Rattle.reading.proofs.Exact.{accepted-exactly, refused-exactly}
+use Rattle.reading.proofs.Shown.{accepted-shown}
 use Rattle.process.specs.Process.{Event, event-of, events}
 use Rattle.process.specs.Expand.{expand}
 use Rattle.process.proofs.Events.{events-counted, event-in-order}
@@ -35,7 +35,7 @@ use Rattle.labels.specs.Seeks.{spot-of}
 use Rattle.labels.specs.declared.Spot.{Spot}
 use Rattle.labels.proofs.SearchByTree.{Labels, nothing}
 use Rattle.labels.proofs.SearchByText.{labelled}
-use Rattle.reader.specs.Reading.{Reading, drawing, no-drawing}
+use Rattle.reading.specs.Reading.{Reading, drawing, no-drawing}
 use Rattle.events.specs.Labels.{label, label-of, Valued}
 use Rattle.events.specs.Names.{name-of, Placed, Part, Named}
 use Rattle.events.specs.Listing.{first-line, spaced, line, lines, listing, Listed}

@@ -20,7 +20,7 @@ use Rattle.process.specs.Expand.{expand}
 use Rattle.labels.specs.Values.{values, packed}
 use Rattle.labels.specs.declared.Values.{Values}
 use Rattle.labels.proofs.OnePlace.{one-place}
-use Rattle.reader.specs.Reading.{Reading, drawing, no-drawing}
+use Rattle.reading.specs.Reading.{Reading, drawing, no-drawing}
 use Rattle.events.specs.Labels.{label, label-of, Valued}
 use Rattle.events.specs.Names.{name-of, Placed, Named}
 use Rattle.events.specs.Listing.{listing, Listed}
@@ -28,7 +28,7 @@ use Rattle.events.specs.Reports.{marked, event-marked, report}
 use Rattle.events.specs.Bounds.{Name-bounded, Within, Reason, unread, no-event, Values-bounded, result, refusal, List-bounded}
 use Rattle.events.specs.declared.Label.{Label}
 use Rattle.events.specs.declared.Label.the-variants.{Leaf, Reset, Refused}
-use Rattle.reader.proofs.Reading.{Same, same-drawing, same-no-drawing, one-reading}
+use Rattle.reading.proofs.Reading.{Same, same-drawing, same-no-drawing, one-reading}
 use Rattle.events.proofs.OneListing.{one-listing}
 use Rattle.events.proofs.Short.{Each, Small, Short}
 use Rattle.events.proofs.ListingFits.{near, listing-short}

@@ -9,17 +9,17 @@ use Rattle.diagram.specs.Count.{flow-events, flow-copies}
 use Rattle.base.specs.Text.{bytes}
 use Rattle.output.proofs.Decimals.{decimal-short}
 use Rattle.output.proofs.Lines.{two-numbers-short, refused-short}
-use Rattle.reader.specs.Answers.{read-of}
-use Rattle.reader.specs.Bounds.{Bounded, result, refusal}
-use Rattle.reader.specs.declared.Answer.the-variants.{Refused}
-use Rattle.reader.specs.declared.ReadResult.{ReadResult}
-use Rattle.reader.specs.Refused.{RefusedAt}
-use Rattle.reader.proofs.Exact.{done-refused, refused-exactly}
-use Rattle.reader.proofs.Bounds.{read-bounded}
+use Rattle.reading.specs.Answers.{read-of}
+use Rattle.reading.specs.Bounds.{Bounded, result, refusal}
+use Rattle.reading.specs.declared.Answer.the-variants.{Refused}
+use Rattle.reading.specs.declared.ReadResult.{ReadResult}
+use Rattle.reading.specs.Refused.{RefusedAt}
+use Rattle.reading.proofs.Exact.{done-refused, refused-exactly}
+use Rattle.reading.proofs.Bounds.{read-bounded}
 use Rattle.process.specs.Process.{Event, events}
 use Rattle.process.specs.Expand.{expand}
 use Rattle.process.proofs.Events.{events-counted}
-use Rattle.reader.specs.Reading.{Reading, drawing, no-drawing}
+use Rattle.reading.specs.Reading.{Reading, drawing, no-drawing}
 use Rattle.events.specs.Listing.{first-line, spaced, mark, line, lines, listing}
 use Rattle.events.proofs.Short.{Each, Small, Short, events-short}
 

@@ -2,8 +2,8 @@
 use mathlib.Core.Path.{_≡_, refl}
 use mathlib.Core.List.{List}
 use Prim.Native.Nat.{ℕ}
-use Rattle.reader.specs.Reading.{Reading, drawing, no-drawing}
-use Rattle.reader.proofs.Reading.{Same, same-drawing, same-no-drawing, one-reading}
+use Rattle.reading.specs.Reading.{Reading, drawing, no-drawing}
+use Rattle.reading.proofs.Reading.{Same, same-drawing, same-no-drawing, one-reading}
 use Rattle.events.specs.Listing.{listing}
 
 same-listing : {text : List ℕ} {v w : Reading text} → Same v w → listing v ≡ listing w

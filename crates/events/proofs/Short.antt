@@ -15,7 +15,7 @@ use Rattle.diagram.specs.Parameters.{surrounded, flow-parameters, children-para
 use Rattle.lexer.specs.Classes.{worded}
 use Rattle.lexer.specs.Words.{lettered, every, short, named}
 use Rattle.grammar.specs.Named.{all-named, flow-named, children-named, child-named, member-named, members-named}
-use Rattle.reader.specs.Accepted.{Accepted}
+use Rattle.reading.specs.Accepted.{Accepted}
 use Rattle.process.specs.Process.{Event, Joint, seq, Process, event, join, again, rounds, events}
 use Rattle.process.specs.Expand.{reset-of, joint, copies, expand, flow-process, children-process, child-process, loop-process, member-process, members-process}
 

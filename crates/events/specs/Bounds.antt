@@ -9,8 +9,8 @@ use lib.ListN.{length, drop}
 use Rattle.base.specs.Reports.{result as result-report, refusal as refusal-report}
 use Rattle.diagram.specs.Tree.{Flow}
 use Rattle.diagram.specs.Count.{flow-events}
-use Rattle.reader.specs.Accepted.{Accepted}
-use Rattle.reader.specs.Refused.{RefusedAt}
+use Rattle.reading.specs.Accepted.{Accepted}
+use Rattle.reading.specs.Refused.{RefusedAt}
 use Rattle.process.specs.Process.{event-of}
 use Rattle.process.specs.Expand.{expand}
 use Rattle.labels.specs.Values.{packed}

@@ -13,7 +13,7 @@ use Rattle.process.specs.Process.{Event, events}
 use Rattle.process.specs.Expand.{expand}
 use Rattle.output.specs.Decimal.{decimal}
 use Rattle.output.specs.Lines.{two-numbers, refused-line}
-use Rattle.reader.specs.Reading.{Reading, drawing, no-drawing}
+use Rattle.reading.specs.Reading.{Reading, drawing, no-drawing}
 
 -- `events E copies C`
 unfoldable pub first-line : ℕ → ℕ → List ℕ

@@ -12,7 +12,7 @@ use Rattle.diagram.specs.Count.{flow-events}
 use Rattle.process.specs.Process.{event-of}
 use Rattle.process.specs.Expand.{expand}
 use Rattle.labels.specs.Stands.{Stands}
-use Rattle.reader.specs.Reading.{Reading, drawing, no-drawing}
+use Rattle.reading.specs.Reading.{Reading, drawing, no-drawing}
 
 -- The name of event e; none where the text is turned away or e is at or past E.
 unfoldable pub name-of : {text : List ℕ} → Reading text → ℕ → Name

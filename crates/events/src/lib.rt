@@ -7,7 +7,7 @@ ghost use Rattle.events.specs.code.Spots.{Word, passed-on, refusal-line,
 use diagram::Diagram;
 use labels::Spot;
 use labels::Values;
-use reader::Answer;
+use reading::Answer;
 
 // What an event is, with the values of the replicators around it, outermost first; or the refusal with its number and place.
 pub enum Label {

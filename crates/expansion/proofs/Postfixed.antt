@@ -16,7 +16,7 @@ use Rattle.diagram.specs.Count.{flow-nodes, children-nodes, child-nodes, member
 use Rattle.diagram.specs.Depth.{flow-depth, children-depth, child-depth, member-depth, members-depth}
 use Rattle.diagram.specs.Sizes.{flow-sized, children-sized, child-sized, member-sized, members-sized}
 use Rattle.diagram.specs.declared.Diagram.{Diagram}
-use Rattle.reader.specs.ShownNodes.{Shows}
+use Rattle.reading.specs.Shows.{Shows}
 use Rattle.diagram.specs.TreeNodes.{TreeNode, group-kind, replicator-kind, flow-tree-nodes, children-tree-nodes, child-tree-nodes, member-tree-nodes, members-tree-nodes}
 use Rattle.process.specs.Process.{Joint, seq, Process, join}
 use Rattle.process.specs.Expand.{leaf-copy, reset-of, joint, expand, flow-process, children-process, child-process, loop-process, member-process, members-process}

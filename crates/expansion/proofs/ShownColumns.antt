@@ -9,7 +9,7 @@ use Rattle.diagram.specs.Columns.{kind-number, size-number, array-of, columns-o
 use Rattle.diagram.specs.declared.Node.{Node}
 use Rattle.diagram.specs.declared.Diagram.{Diagram}
 use Rattle.diagram.proofs.Filled.{array-read}
-use Rattle.reader.specs.ShownNodes.{shown-node, shown-nodes}
+use Rattle.reading.specs.Shows.{shown-node, shown-nodes}
 use Rattle.diagram.specs.TreeNodes.{TreeNode}
 use Rattle.expansion.specs.Walks.{Columns, columns, walk-columns}
 

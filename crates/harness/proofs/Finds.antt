@@ -7,13 +7,13 @@ use lib.ListN.{length, getD}
 use borrow.Author.Tests.{lt-ltb, le-ltb}
 use Rattle.diagram.specs.Stored.{blank-node}
 use Rattle.diagram.specs.declared.Node.{Node}
-use Rattle.reader.specs.Answers.{read-of}
-use Rattle.reader.specs.Bounds.{Bounded, result, refusal}
-use Rattle.reader.specs.declared.Answer.{Answer}
-use Rattle.reader.specs.declared.Answer.the-variants.{Done, Refused as Unread}
-use Rattle.reader.specs.declared.ReadResult.{ReadResult}
-use Rattle.reader.proofs.Bounds.{read-bounded}
-use Rattle.reader.proofs.Exact.{done-refused}
+use Rattle.reading.specs.Answers.{read-of}
+use Rattle.reading.specs.Bounds.{Bounded, result, refusal}
+use Rattle.reading.specs.declared.Answer.{Answer}
+use Rattle.reading.specs.declared.Answer.the-variants.{Done, Refused as Unread}
+use Rattle.reading.specs.declared.ReadResult.{ReadResult}
+use Rattle.reading.proofs.Bounds.{read-bounded}
+use Rattle.reading.proofs.Exact.{done-refused}
 use Rattle.harness.specs.Nodes.{found-in, found-at, unread}
 use Rattle.harness.specs.declared.Found.{Found}
 use Rattle.harness.specs.declared.Found.the-variants.{At, Refused}

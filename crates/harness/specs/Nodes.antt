@@ -10,9 +10,9 @@ use Rattle.diagram.specs.declared.Diagram.{Diagram}
 use Rattle.diagram.specs.declared.Kind.{Kind}
 use Rattle.diagram.specs.declared.Kind.the-variants.{Flow, Leaf, And, Or, Xor, All, Some, One, Loop}
 use Rattle.diagram.specs.declared.Node.{Node}
-use Rattle.reader.specs.declared.Answer.{Answer}
-use Rattle.reader.specs.declared.Answer.the-variants.{Done, Refused as Unread}
-use Rattle.reader.specs.declared.ReadResult.{ReadResult}
+use Rattle.reading.specs.declared.Answer.{Answer}
+use Rattle.reading.specs.declared.Answer.the-variants.{Done, Refused as Unread}
+use Rattle.reading.specs.declared.ReadResult.{ReadResult}
 use Rattle.diagram.specs.Columns.{size-number}
 use Rattle.harness.specs.declared.Found.{Found}
 use Rattle.harness.specs.declared.Found.the-variants.{At, Refused}

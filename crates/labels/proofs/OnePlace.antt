@@ -20,8 +20,8 @@ use Rattle.rules.specs.Kept.{unheard, names-kept, fault}
 use Rattle.rules.specs.Found.{Found, At, Nothing}
 use Rattle.rules.proofs.NamesPlaced.{names-placed}
 use Rattle.rules.proofs.NamesKept.{names-kept-iff}
-use Rattle.reader.specs.Accepted.{Accepted}
-use Rattle.reader.proofs.Told.{derived-token-nodes}
+use Rattle.reading.specs.Accepted.{Accepted}
+use Rattle.reading.proofs.Derived.{derived-token-nodes}
 use Rattle.labels.specs.Stands.{Stands}
 use Rattle.labels.proofs.SearchByText.{titled}
 

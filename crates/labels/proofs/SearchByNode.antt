@@ -7,7 +7,7 @@ use native.Mathlib.Omega.{arith}
 use lib.ListN.{length}
 use borrow.Author.Tests.{ne-eqb}
 use Rattle.rules.specs.TokenNodes.{TokenNode}
-use Rattle.reader.specs.Nodes.{node-of}
+use Rattle.reading.specs.Nodes.{node-of}
 use Rattle.labels.specs.declared.Spot.{Spot}
 use Rattle.labels.specs.declared.Search.{Search}
 use Rattle.labels.specs.declared.Step.{Step}

@@ -16,12 +16,12 @@ use Rattle.lexer.specs.Spans.{codes, places}
 use Rattle.grammar.specs.Machine.{keyed}
 use Rattle.rules.specs.TokenNodes.{TokenNode, flowing, leafy, copying, token-node, token-nodes, name-in, opened}
 use Rattle.rules.proofs.Trees.{flow-token-nodes}
-use Rattle.reader.specs.Nodes.{name-place, node-of, stored}
-use Rattle.reader.specs.Answers.{read-of}
-use Rattle.reader.specs.Accepted.{Accepted}
-use Rattle.reader.specs.declared.ReadResult.{ReadResult}
-use Rattle.reader.proofs.Told.{derived-token-nodes}
-use Rattle.reader.proofs.Exact.{accepted-read}
+use Rattle.reading.specs.Nodes.{name-place, node-of, stored}
+use Rattle.reading.specs.Answers.{read-of}
+use Rattle.reading.specs.Accepted.{Accepted}
+use Rattle.reading.specs.declared.ReadResult.{ReadResult}
+use Rattle.reading.proofs.Derived.{derived-token-nodes}
+use Rattle.reading.proofs.Exact.{accepted-read}
 use Rattle.process.specs.Process.{event-of}
 use Rattle.process.specs.Expand.{expand}
 use Rattle.process.proofs.Events.{event-in-order}

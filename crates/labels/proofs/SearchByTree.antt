@@ -19,7 +19,7 @@ use Rattle.grammar.specs.Tokens.{child-tokens, member-tokens}
 use Rattle.rules.specs.TokenNodes.{TokenNode, flowing, leafy}
 use Rattle.rules.proofs.NodesRead.{flow-node, copy-node}
 use Rattle.rules.proofs.Trees.{group-code, replicator-code, simple, flow-token-nodes, children-token-nodes, child-token-nodes, member-token-nodes, members-token-nodes}
-use Rattle.reader.specs.Nodes.{kind-of, node-of}
+use Rattle.reading.specs.Nodes.{kind-of, node-of}
 use Rattle.process.specs.Process.{Event, Joint, seq, Process, join, events}
 use Rattle.process.specs.Expand.{leaf-copy, reset-of, joint, copies, flow-process, children-process, child-process, loop-process, member-process, members-process}
 use Rattle.process.proofs.Numbered.{size-events}

@@ -16,7 +16,7 @@ use Rattle.grammar.specs.Tokens.{child-tokens, member-tokens}
 use Rattle.rules.specs.TokenNodes.{TokenNode}
 use Rattle.rules.proofs.NodesRead.{flow-node, copy-node}
 use Rattle.rules.proofs.Trees.{group-code, replicator-code, simple, flow-token-nodes, children-token-nodes, child-token-nodes, member-token-nodes, members-token-nodes}
-use Rattle.reader.specs.Nodes.{kind-of, node-of}
+use Rattle.reading.specs.Nodes.{kind-of, node-of}
 use Rattle.labels.specs.SearchNodes.{search-node}
 use Rattle.labels.specs.declared.SearchNode.{SearchNode}
 use Rattle.labels.specs.Weights.{sum-mod, product-mod, parts, resets, weight, weigh}

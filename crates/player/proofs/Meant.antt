@@ -14,7 +14,7 @@ use Rattle.diagram.specs.Names.{same}
 use Rattle.base.proofs.Decided.{same-decides}
 use Rattle.diagram.specs.Count.{flow-events, flow-copies}
 use Rattle.lexer.specs.Words.{lettered}
-use Rattle.reader.specs.Accepted.{Accepted}
+use Rattle.reading.specs.Accepted.{Accepted}
 use Rattle.process.specs.Process.{Event, events, event-of}
 use Rattle.process.specs.Expand.{expand}
 use Rattle.process.proofs.Events.{events-counted, event-in-order}

@@ -17,8 +17,8 @@ use Rattle.firmware.proofs.Promised as c
 use Rattle.translator.specs.Translates.{Translation}
 use Rattle.translator.specs.declared.Translated.{Translated}
 use Rattle.translator.proofs.Promised as translator
-use Rattle.reader.specs.Answers.{read-of}
-use Rattle.reader.specs.declared.ReadResult.{ReadResult}
+use Rattle.reading.specs.Answers.{read-of}
+use Rattle.reading.specs.declared.ReadResult.{ReadResult}
 use Rattle.reader.proofs.Promised as reader
 use Rattle.printer.specs.Prints.{print-of, left-by}
 use Rattle.printer.specs.declared.Printed.{Printed}

@@ -6,7 +6,7 @@ use Rattle.table.specs.Bounds.{Step-answer}
 use Rattle.table.specs.declared.Answer.{Answer}
 use Rattle.table.proofs.Bounds.{check-answered, step-answered, finished-answered, offer-answered}
 use Rattle.firmware.proofs.Bounds.{calls-told}
-use Rattle.reader.proofs.Bounds.{read-bounded}
+use Rattle.reading.proofs.Bounds.{read-bounded}
 use Rattle.printer.proofs.Bounds.{print-bounded}
 use Rattle.translator.proofs.Bounds.{translate-bounded}
 use Rattle.events.proofs.Bounds.{name-bounded, values-bounded, list-bounded}

@@ -5,13 +5,13 @@ use mathlib.Core.List.{List}
 use Prim.Native.Nat.{ℕ}
 use Rattle.diagram.specs.Tree.{Flow}
 use Rattle.diagram.specs.declared.Diagram.{Diagram}
-use Rattle.reader.specs.Answers.{read-of}
-use Rattle.reader.specs.Accepted.{Accepted}
-use Rattle.reader.specs.ShownNodes.{Shows}
-use Rattle.reader.specs.declared.ReadResult.{ReadResult}
-use Rattle.reader.proofs.Exact as exact
-use Rattle.reader.proofs.Shown.{accepted-shows-only}
-use Rattle.reader.proofs.Placed.{accepted-placed}
+use Rattle.reading.specs.Answers.{read-of}
+use Rattle.reading.specs.Accepted.{Accepted}
+use Rattle.reading.specs.Shows.{Shows}
+use Rattle.reading.specs.declared.ReadResult.{ReadResult}
+use Rattle.reading.proofs.Exact as exact
+use Rattle.reading.proofs.Shown.{accepted-shows-only}
+use Rattle.reading.proofs.Placed.{accepted-placed}
 use Rattle.printer.specs.Same.{Same, unplaced, wrote, written}
 use Rattle.printer.specs.declared.Printed.{Printed}
 use Rattle.printer.proofs.Same.{same-diagram, print-then-read, left-alike}
@@ -32,7 +32,7 @@ again text d p left k o q m n =
     let r = reads-met text o m in
     let s = reads-met (written p left) q n in
     record {
-      told = rw (w, x) (a .told);
+      told = rw (w, x) (a .reported);
       done = rw (s, w) (a .done);
       same = rw (s, r, w) (a .same);
       shows = rw r (a .shows);

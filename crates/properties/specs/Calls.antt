@@ -8,7 +8,7 @@ use Rattle.record.specs.declared.Record.{Record}
 use Rattle.table.specs.declared.Answer.{Answer}
 use Rattle.table.specs.declared.Finish.{Finish}
 use Rattle.table.specs.declared.Stepped.{Stepped}
-use Rattle.reader.specs.declared.ReadResult.{ReadResult}
+use Rattle.reading.specs.declared.ReadResult.{ReadResult}
 use Rattle.printer.specs.declared.Printed.{Printed}
 use Rattle.translator.specs.declared.Translated.{Translated}
 use Rattle.events.specs.declared.Label.{Label}

@@ -9,8 +9,8 @@ use Rattle.table.specs.declared.Answer.{Answer}
 use Rattle.table.specs.declared.Finish.{Finish}
 use Rattle.table.specs.declared.Stepped.{Stepped}
 use Rattle.firmware.specs.Bounds.{Check-told, Step-told, Finish-told, Offer-told}
-use Rattle.reader.specs.Bounds as reader
-use Rattle.reader.specs.declared.ReadResult.{ReadResult}
+use Rattle.reading.specs.Bounds as reader
+use Rattle.reading.specs.declared.ReadResult.{ReadResult}
 use Rattle.printer.specs.Bounds as printer
 use Rattle.printer.specs.declared.Printed.{Printed}
 use Rattle.translator.specs.Bounds as translator

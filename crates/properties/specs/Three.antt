@@ -12,7 +12,7 @@ use Rattle.record.specs.declared.Record.{Record}
 use Rattle.table.specs.declared.Answer.{Answer}
 use Rattle.table.specs.declared.Finish.{Finish}
 use Rattle.table.specs.declared.Stepped.{Stepped}
-use Rattle.reader.specs.Accepted.{Accepted}
+use Rattle.reading.specs.Accepted.{Accepted}
 use Rattle.translator.specs.declared.Translated.{Translated}
 use Rattle.translator.specs.declared.Translated.the-variants.{Bytes}
 use Rattle.plays.specs.Plays.{Line, Played}

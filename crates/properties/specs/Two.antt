@@ -7,12 +7,12 @@ use Prim.Native.Nat.{ℕ, _≤_}
 use lib.ListN.{length}
 use Rattle.base.specs.Reports.{result}
 use Rattle.diagram.specs.Tree.{Flow}
-use Rattle.reader.specs.Accepted.{Accepted}
-use Rattle.reader.specs.Refused.{RefusedAt}
-use Rattle.reader.specs.ShownNodes.{Shows, Shows-only}
-use Rattle.reader.specs.Places.{Placed}
-use Rattle.reader.specs.declared.Answer.the-variants.{Done, Refused}
-use Rattle.reader.specs.declared.ReadResult.{ReadResult}
+use Rattle.reading.specs.Accepted.{Accepted}
+use Rattle.reading.specs.Refused.{RefusedAt}
+use Rattle.reading.specs.Shows.{Shows, Shows-only}
+use Rattle.reading.specs.Places.{Placed}
+use Rattle.reading.specs.declared.Answer.the-variants.{Done, Refused}
+use Rattle.reading.specs.declared.ReadResult.{ReadResult}
 use Rattle.printer.specs.Reports.{report}
 use Rattle.printer.specs.Same.{Same, written}
 use Rattle.printer.specs.declared.Printed.{Printed}

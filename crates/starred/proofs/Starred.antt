@@ -22,7 +22,7 @@ use Rattle.lexer.specs.Words.{front, keywords, keyword, named, numeral, word-co
 use Rattle.lexer.specs.Spans.{width, spans, spans-of, tokens}
 use Rattle.grammar.specs.Named.{flow-named}
 use Rattle.grammar.specs.Tokens.{key, digits, flow-tokens}
-use Rattle.reader.specs.Accepted.{Accepted}
+use Rattle.reading.specs.Accepted.{Accepted}
 use Rattle.process.specs.Process.{owns}
 use Rattle.process.specs.Expand.{expand, flow-process}
 use Rattle.process.specs.Runs.{Begins}

@@ -7,7 +7,7 @@ use Prim.Native.String.{String}
 use lib.ListN.{getD}
 use Rattle.base.specs.Text.{bytes}
 use Rattle.diagram.specs.Tree.{Flow}
-use Rattle.reader.specs.Accepted.{Accepted}
+use Rattle.reading.specs.Accepted.{Accepted}
 use Rattle.process.specs.Expand.{expand}
 use Rattle.process.specs.Runs.{Whole, Begins}
 use Rattle.record.specs.Bytes.{bytes-of}

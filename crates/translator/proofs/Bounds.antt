@@ -12,14 +12,14 @@ use Rattle.base.specs.Reports.{Report, result}
 use Rattle.base.proofs.Filled.{fill-length, fill-front, fill-past, fill-none, fill-taken}
 use Rattle.base.proofs.Truth.{by-cases}
 use Rattle.diagram.specs.Tree.{Flow}
-use Rattle.reader.specs.Answers.{read-of}
-use Rattle.reader.specs.Accepted.{Accepted}
-use Rattle.reader.specs.Refused.{RefusedAt}
-use Rattle.reader.specs.Bounds.{Bounded as Answered, result as read-result, refusal as read-refusal}
-use Rattle.reader.specs.declared.Answer.the-variants.{Refused as Unread}
-use Rattle.reader.specs.declared.ReadResult.{ReadResult}
-use Rattle.reader.proofs.Bounds.{read-bounded}
-use Rattle.reader.proofs.Exact.{accepted-read, accepted-once, refused-exactly, done-refused, Fate, taken, refused-at, fate}
+use Rattle.reading.specs.Answers.{read-of}
+use Rattle.reading.specs.Accepted.{Accepted}
+use Rattle.reading.specs.Refused.{RefusedAt}
+use Rattle.reading.specs.Bounds.{Bounded as Answered, result as read-result, refusal as read-refusal}
+use Rattle.reading.specs.declared.Answer.the-variants.{Refused as Unread}
+use Rattle.reading.specs.declared.ReadResult.{ReadResult}
+use Rattle.reading.proofs.Bounds.{read-bounded}
+use Rattle.reading.proofs.Exact.{accepted-read, accepted-once, refused-exactly, done-refused, Fate, taken, refused-at, fate}
 use Rattle.layout.specs.Sound.{Sound-table}
 use Rattle.layout.proofs.Sentences.{sound-exactly}
 use Rattle.translator.specs.Reports.{report}

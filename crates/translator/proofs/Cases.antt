@@ -5,13 +5,13 @@ use Prim.Native.Nat.{ℕ, _≤_}
 use lib.ListN.{length, take}
 use Rattle.diagram.specs.Tree.{Flow}
 use Rattle.diagram.specs.declared.Diagram.{Diagram}
-use Rattle.reader.specs.Answers.{read-of}
-use Rattle.reader.specs.Accepted.{Accepted}
-use Rattle.reader.specs.ShownNodes.{Shows}
-use Rattle.reader.specs.declared.Answer.the-variants.{Done, Refused as Unread}
-use Rattle.reader.specs.declared.ReadResult.{ReadResult}
-use Rattle.reader.proofs.Exact.{accepted-exactly, refused-exactly}
-use Rattle.reader.proofs.Shown.{accepted-shown}
+use Rattle.reading.specs.Answers.{read-of}
+use Rattle.reading.specs.Accepted.{Accepted}
+use Rattle.reading.specs.Shows.{Shows}
+use Rattle.reading.specs.declared.Answer.the-variants.{Done, Refused as Unread}
+use Rattle.reading.specs.declared.ReadResult.{ReadResult}
+use Rattle.reading.proofs.Exact.{accepted-exactly, refused-exactly}
+use Rattle.reading.proofs.Shown.{accepted-shown}
 use Rattle.process.specs.Expand.{expand}
 use Rattle.postfix.specs.Postfix.{postfix}
 use Rattle.guards.specs.Table.{TableWritten}

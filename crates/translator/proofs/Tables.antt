@@ -11,8 +11,8 @@ use Rattle.base.proofs.Filled.{fill-length, fill-front}
 use Rattle.diagram.specs.Tree.{Flow}
 use Rattle.diagram.specs.Count.{flow-nodes, flow-events}
 use Rattle.diagram.specs.declared.Diagram.{Diagram}
-use Rattle.reader.specs.Accepted.{Accepted}
-use Rattle.reader.specs.ShownNodes.{Shows}
+use Rattle.reading.specs.Accepted.{Accepted}
+use Rattle.reading.specs.Shows.{Shows}
 use Rattle.process.specs.Expand.{expand}
 use Rattle.postfix.specs.Postfix.{postfix}
 use Rattle.process.proofs.Numbered.{size, Numbered}

@@ -5,8 +5,8 @@ use Prim.Native.Nat.{ℕ, _≤_, _<_}
 use lib.ListN.{length, take, drop}
 use Rattle.base.specs.Reports.{result, refusal}
 use Rattle.diagram.specs.Tree.{Flow}
-use Rattle.reader.specs.Accepted.{Accepted}
-use Rattle.reader.specs.Refused.{RefusedAt}
+use Rattle.reading.specs.Accepted.{Accepted}
+use Rattle.reading.specs.Refused.{RefusedAt}
 use Rattle.translator.specs.Reports.{report}
 use Rattle.translator.specs.Translates.{Table-of, table-of}
 use Rattle.translator.specs.declared.Translated.{Translated}

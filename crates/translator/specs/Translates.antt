@@ -11,11 +11,11 @@ use Rattle.base.specs.Reports.{result, refusal}
 use Rattle.diagram.specs.Tree.{Flow}
 use Rattle.diagram.specs.Count.{flow-copies, flow-events}
 use Rattle.diagram.specs.declared.Diagram.{Diagram}
-use Rattle.reader.specs.Accepted.{Accepted}
-use Rattle.reader.specs.Refused.{RefusedAt}
-use Rattle.reader.specs.ShownNodes.{Shows}
-use Rattle.reader.specs.declared.Answer.{Answer}
-use Rattle.reader.specs.declared.Answer.the-variants.{Done, Refused as Unread}
+use Rattle.reading.specs.Accepted.{Accepted}
+use Rattle.reading.specs.Refused.{RefusedAt}
+use Rattle.reading.specs.Shows.{Shows}
+use Rattle.reading.specs.declared.Answer.{Answer}
+use Rattle.reading.specs.declared.Answer.the-variants.{Done, Refused as Unread}
 use Rattle.process.specs.Expand.{expand}
 use Rattle.process.specs.Bits.{clears}
 use Rattle.layout.specs.Fields.{events, rows, event-word, first-of, count-of}

@@ -3,7 +3,7 @@ ghost use Prim.Native.Nat.{_≤_};
 ghost use lib.ListN.{length};
 ghost use Rattle.translator.specs.Translates.{Translation, passed-on, Read, Writes};
 use diagram::Diagram;
-use reader::Answer;
+use reading::Answer;
 
 // How many bytes were written, or the refusal with its number and place.
 pub enum Translated {

@@ -9,8 +9,8 @@ use lib.ListN.{length}
 use Rattle.base.specs.Text.{bytes}
 use Rattle.diagram.specs.declared.Diagram.{Diagram}
 use Rattle.lexer.specs.Words.{word-at}
-use Rattle.reader.specs.declared.Answer.{Answer}
-use Rattle.reader.specs.declared.Answer.the-variants.{Done, Refused as Unread}
+use Rattle.reading.specs.declared.Answer.{Answer}
+use Rattle.reading.specs.declared.Answer.the-variants.{Done, Refused as Unread}
 use Rattle.output.specs.Decimal.{decimal}
 use Rattle.labels.specs.declared.Values.{Values}
 use Rattle.labels.specs.declared.Spot.{Spot}

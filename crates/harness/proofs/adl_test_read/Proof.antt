@@ -1,7 +1,7 @@
 -- `adl_test_read` meets its contract: what reading answers is packed.
 use mathlib.Core.Path.{ap, _∙_}
-use Rattle.reader.specs.declared.ReadResult.{ReadResult}
-use Rattle.reader.specs.Reports.{report as read-report}
+use Rattle.reading.specs.declared.ReadResult.{ReadResult}
+use Rattle.reading.specs.Reports.{report as read-report}
 use Rattle.harness.specs.Packed.{packed}
 use borrow.Author.Needs.{needs}
 use Rattle.harness.proofs.adl_test_read.Statement.{statement}

@@ -1,5 +1,5 @@
 -- `harness::read_number` meets its contract, answer by answer.
-use Rattle.reader.specs.Reports.{answer-report}
+use Rattle.reading.specs.Reports.{answer-report}
 use Rattle.harness.proofs.Packs.{told, three, refused}
 use borrow.Author.Needs.{needs}
 use Rattle.harness.proofs.read_number.Statement.{statement}
