@@ -53,12 +53,12 @@ module _ (d : ℕ) where
   good-node : (top : ℕ) → 8 ≤ top → top ≤ 15 → Good (node top d)
   unfolding a-leaf child-named child-sized
   good-node top a b =
-      record { low = b; filled = λ rest. (child-tokens a-leaf rest, record { tree = a-leaf; names = a-named; sizes = refl; allowed = a; told = refl }) }
+      record { low = b; filled = λ rest. (child-tokens a-leaf rest, record { tree = a-leaf; names = a-named; sizes = refl; allowed = a; tokens = refl }) }
 
   pub good-root : Good (node root d)
   unfolding a-flow a-leaf a-name a-named child-named child-sized named keyword keywords class-of
   good-root =
-      record { low = omega arith; filled = λ rest. (child-tokens a-flow rest, record { tree = a-flow; names = refl; sizes = refl; allowed = omega arith; told = refl }) }
+      record { low = omega arith; filled = λ rest. (child-tokens a-flow rest, record { tree = a-flow; names = refl; sizes = refl; allowed = omega arith; tokens = refl }) }
 
   good-more : Good (more d)
   good-more = record { low = tt; filled = λ rest. (closing ∷ rest, more-listed d .ended rest) }
@@ -86,10 +86,10 @@ good-size = record { low = tt; filled = λ rest. (digits 1 ∷ rest, sizes 1 ref
 
 good-params : Good params
 good-params =
-    record { low = tt; filled = λ rest. (comma ∷ bit false ∷ closing ∷ rest, record { pars = []; sw = false; names = refl; told = refl }) }
+    record { low = tt; filled = λ rest. (comma ∷ bit false ∷ closing ∷ rest, record { pars = []; sw = false; names = refl; tokens = refl }) }
 
 good-param : Good param
-good-param = record { low = tt; filled = λ rest. (bit false ∷ closing ∷ rest, record { pars = []; sw = false; names = refl; told = refl }) }
+good-param = record { low = tt; filled = λ rest. (bit false ∷ closing ∷ rest, record { pars = []; sw = false; names = refl; tokens = refl }) }
 
 good-ref : (d : ℕ) → AllGood (ref ++ (more d ∷ []))
 good-ref d = (good-opening, (good-bit, (good-closing, (good-more d, tt))))

@@ -1,4 +1,4 @@
--- The machine and the grammar: what an outcome tells of the tokens, and the other way.
+-- The machine and the grammar: what an outcome means for the tokens, and the other way.
 use mathlib.Core.Path.{_≡_, refl, sym, _∙_, ap, subst}
 use mathlib.Core.Logic.{_⊎_, inl, inr, ⊎-elim}
 use mathlib.Core.Bool.{Bool, true, false}
@@ -20,7 +20,7 @@ use Rattle.grammar.specs.Derives.{Derives, Viable}
 use Rattle.grammar.proofs.Token.{all-tokens}
 use Rattle.grammar.proofs.Stack.{Node, SpellsAll, place, shape}
 use Rattle.grammar.proofs.Goods.{good-root}
-use Rattle.grammar.proofs.Runs.{Off, Big, Told, told}
+use Rattle.grammar.proofs.Runs.{Off, Big, Means, run-means}
 pub use Rattle.grammar.proofs.Once.{derived-once}
 
 abbrev first : List Want
@@ -30,18 +30,18 @@ first = node root depths ∷ []
 spelled : (ts : List Name) (d : Flow) → Derives ts d → SpellsAll first ts []
 unfolding child-named child-sized child-tokens member-named member-sized member-tokens
 spelled ts d h =
-    ([], record { tree = plain (inner d); names = h .proper .names; sizes = h .proper .sizes; allowed = omega arith; told = h .told }, refl)
+    ([], record { tree = plain (inner d); names = h .proper .names; sizes = h .proper .sizes; allowed = omega arith; tokens = h .tokens }, refl)
 
 derived : (ts : List Name) → SpellsAll first ts [] → (d : Flow) × Derives ts d
 unfolding child-named child-sized child-tokens member-named member-sized member-tokens
-derived ts s = go (n .tree) (n .names) (n .sizes) (n .allowed) (n .told)
+derived ts s = go (n .tree) (n .names) (n .sizes) (n .allowed) (n .tokens)
   where
     n : Node root ts []
     n = subst (λ (r : List Name). Node root ts r) (s .2) (s .1)
 
     go : (c : Child) → child-named c ≡ true → child-sized c ≡ true → 7 + place (shape c) ≤ 7 → ts ≡ child-tokens c [] → (d : Flow) × Derives ts d
     go (plain (leaf m)) h k a e = let z : ⊥ = omega arith in absurd z
-    go (plain (inner f)) h k a e = (f, record { proper = record { names = h; sizes = k }; told = e })
+    go (plain (inner f)) h k a e = (f, record { proper = record { names = h; sizes = k }; tokens = e })
     go (loop m) h k a e = let z : ⊥ = omega arith in absurd z
     go (group y b c ms) h k a e = let z : ⊥ = omega arith in absurd z
     go (replicator y par size m) h k a e = let z : ⊥ = omega arith in absurd z
@@ -73,41 +73,41 @@ pub data Answered (ts : List Name) : Type 0 where
   outgrown : (k : ℕ) → answer ts ≡ stop 6 k → Answered ts
 
 module _ (ts : List Name) (h : all-tokens ts ≡ true) where
-  tells : (o : Outcome) → answer ts ≡ o → Told first ts 0 o
+  answer-means : (o : Outcome) → answer ts ≡ o → Means first ts 0 o
   unfolding outcome
-  tells o e = subst (Told first ts 0) e (told ts h first (good-root depths, tt) 0 0)
+  answer-means o e = subst (Means first ts 0) e (run-means ts h first (good-root depths, tt) 0 0)
 
-  off-told : (k : ℕ) → answer ts ≡ stop 5 k → Off first ts k
-  off-told k e = let r = tells (stop 5 k) e in ⊎-elim (λ q. subst (Off first ts) (omega (arith, r .1)) (q .1)) (λ q. let z : ⊥ = omega (arith, q .0) in absurd z) (r .2)
+  answered-off : (k : ℕ) → answer ts ≡ stop 5 k → Off first ts k
+  answered-off k e = let r = answer-means (stop 5 k) e in ⊎-elim (λ q. subst (Off first ts) (omega (arith, r .1)) (q .1)) (λ q. let z : ⊥ = omega (arith, q .0) in absurd z) (r .2)
 
-  big-told : (k : ℕ) → answer ts ≡ stop 6 k → Big first ts k
-  big-told k e = let r = tells (stop 6 k) e in ⊎-elim (λ q. let z : ⊥ = omega (arith, q .0) in absurd z) (λ q. subst (Big first ts) (omega (arith, r .1)) (q .1)) (r .2)
+  answered-big : (k : ℕ) → answer ts ≡ stop 6 k → Big first ts k
+  answered-big k e = let r = answer-means (stop 6 k) e in ⊎-elim (λ q. let z : ⊥ = omega (arith, q .0) in absurd z) (λ q. subst (Big first ts) (omega (arith, r .1)) (q .1)) (r .2)
 
   pub answered : Answered ts
   answered = go (answer ts) refl
     where
       go : (o : Outcome) → answer ts ≡ o → Answered ts
       go (whole n) e = read n e
-      go (stop c k) e = ⊎-elim (λ q. strayed k (e ∙ ap (λ (c : ℕ). stop c k) (q .0))) (λ q. outgrown k (e ∙ ap (λ (c : ℕ). stop c k) (q .0))) (tells (stop c k) e .2)
+      go (stop c k) e = ⊎-elim (λ q. strayed k (e ∙ ap (λ (c : ℕ). stop c k) (q .0))) (λ q. outgrown k (e ∙ ap (λ (c : ℕ). stop c k) (q .0))) (answer-means (stop c k) e .2)
 
   -- A text that is read derives a diagram.
   pub read-derives : (n : ℕ) → answer ts ≡ whole n → (d : Flow) × Derives ts d
-  read-derives n e = derived ts (tells (whole n) e)
+  read-derives n e = derived ts (answer-means (whole n) e)
 
   -- Where a text is off grammar, the tokens before begin some grammatical text, and with the token they begin none, and at the end the text
   -- is none.
   pub off-viable : (k : ℕ) → answer ts ≡ stop 5 k → (k ≤ length ts) × Viable (take k ts)
-  off-viable k e = let o = off-told k e in (o .within, viable-of (take k ts) (o .rest) (o .viable))
+  off-viable k e = let o = answered-off k e in (o .within, viable-of (take k ts) (o .rest) (o .viable))
 
   pub off-token : (k : ℕ) → answer ts ≡ stop 5 k → k < length ts → Viable (take (suc k) ts) → ⊥
-  off-token k e l v = off-told k e .astray l (v .1) (spelled (take (suc k) ts ++ v .1) (v .0) (v .2))
+  off-token k e l v = answered-off k e .astray l (v .1) (spelled (take (suc k) ts ++ v .1) (v .0) (v .2))
 
   pub off-end : (k : ℕ) → answer ts ≡ stop 5 k → k ≡ length ts → (d : Flow) → Derives ts d → ⊥
-  off-end k e l d g = off-told k e .unfinished l (spelled ts d g)
+  off-end k e l d g = answered-off k e .unfinished l (spelled ts d g)
 
   -- A node too many or too deep is on grammar.
   pub big-viable : (k : ℕ) → answer ts ≡ stop 6 k → (k < length ts) × Viable (take (suc k) ts)
-  big-viable k e = let b = big-told k e in (b .within, viable-of (take (suc k) ts) (b .rest) (b .viable))
+  big-viable k e = let b = answered-big k e in (b .within, viable-of (take (suc k) ts) (b .rest) (b .viable))
 
   -- A text that derives a diagram is never off grammar.
   never-off : (d : Flow) → Derives ts d → (k : ℕ) → answer ts ≡ stop 5 k → ⊥

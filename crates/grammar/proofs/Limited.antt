@@ -20,9 +20,9 @@ abbrev Why : ℕ → ℕ → List ℕ → ℕ → ℕ → Type 0
 Why n p cs j x = (x ≡ 5) ⊎ ((x ≡ 6) × (j < length cs) × (big-in n p cs j ≡ true))
 
 -- What an outcome says of the tokens, before which n nodes, p open parentheses and k tokens stand.
-abbrev Told : ℕ → ℕ → ℕ → List ℕ → Outcome → Type 0
-Told n p k cs (whole m) = (m ≡ n + nodes-in cs) × Safe n p cs
-Told n p k cs (stop x i) = (j : ℕ) × (i ≡ k + j) × (j ≤ length cs) × Safe-below n p cs j × Why n p cs j x
+abbrev Limited : ℕ → ℕ → ℕ → List ℕ → Outcome → Type 0
+Limited n p k cs (whole m) = (m ≡ n + nodes-in cs) × Safe n p cs
+Limited n p k cs (stop x i) = (j : ℕ) × (i ≡ k + j) × (j ≤ length cs) × Safe-below n p cs j × Why n p cs j x
 
 -- One token more in front.
 module _ (n p r k c : ℕ) (cs : List ℕ) (e : r + closes c ≡ p + opens c) (h : big-at c n p ≡ false) where
@@ -34,33 +34,33 @@ module _ (n p r k c : ℕ) (cs : List ℕ) (e : r + closes c ≡ p + opens c) (h
   why-more j x (inl y) = inl y
   why-more j x (inr y) = inr (y .0, omega arith, big-later n p r c cs j e ∙ y .2)
 
-  told-more : (o : Outcome) → Told (n + keys c) r (suc k) cs o → Told n p k (c ∷ cs) o
-  told-more (whole m) t = let y = nodes-cons c cs in (omega arith, safe-cons n p r c cs e .1 (h, t .1))
-  told-more (stop x i) t = (suc (t .0), omega arith, omega arith, below-more (t .0) (t .3), why-more (t .0) x (t .4))
+  limited-more : (o : Outcome) → Limited (n + keys c) r (suc k) cs o → Limited n p k (c ∷ cs) o
+  limited-more (whole m) t = let y = nodes-cons c cs in (omega arith, safe-cons n p r c cs e .1 (h, t .1))
+  limited-more (stop x i) t = (suc (t .0), omega arith, omega arith, below-more (t .0) (t .3), why-more (t .0) x (t .4))
 
 -- A refusal at the first token.
-told-here : (n p k : ℕ) (cs : List ℕ) (x : ℕ) → Why n p cs 0 x → Told n p k cs (stop x k)
-told-here n p k cs x y = (0, omega arith, omega arith, λ i l. (let z : ⊥ = omega arith in absurd z), y)
+limited-here : (n p k : ℕ) (cs : List ℕ) (x : ℕ) → Why n p cs 0 x → Limited n p k cs (stop x k)
+limited-here n p k cs x y = (0, omega arith, omega arith, λ i l. (let z : ⊥ = omega arith in absurd z), y)
 
--- Each run tells.
+-- Of each run.
 module _ (n p k c : ℕ) (cs : List ℕ) (q : ℕ) (go : ℕ → List Want → Outcome) where
-  told-move : (m : Move) → Moves m n c p q → ((u : ℕ) (vs : List Want) (r : ℕ) → u ≡ keys c → Turns vs r q → Told (n + keys c) r (suc k) cs (go u vs)) → Told n p k (c ∷ cs) (proceed m k go)
-  told-move off t f = told-here n p k (c ∷ cs) 5 (inl refl)
-  told-move big t f = told-here n p k (c ∷ cs) 6 (inr (refl, omega arith, big-here n p c cs ∙ t))
-  told-move (push u vs) t f = told-more n p (t .2) k c cs (t .3) (t .0) (go u vs) (f u vs (t .2) (t .1) (t .4))
+  limited-move : (m : Move) → Moves m n c p q → ((u : ℕ) (vs : List Want) (r : ℕ) → u ≡ keys c → Turns vs r q → Limited (n + keys c) r (suc k) cs (go u vs)) → Limited n p k (c ∷ cs) (proceed m k go)
+  limited-move off t f = limited-here n p k (c ∷ cs) 5 (inl refl)
+  limited-move big t f = limited-here n p k (c ∷ cs) 6 (inr (refl, omega arith, big-here n p c cs ∙ t))
+  limited-move (push u vs) t f = limited-more n p (t .2) k c cs (t .3) (t .0) (go u vs) (f u vs (t .2) (t .1) (t .4))
 
-told : (cs : List ℕ) (ws : List Want) (n p k : ℕ) → Level ws p → Told n p k cs (run ws n k cs)
+run-limited : (cs : List ℕ) (ws : List Want) (n p k : ℕ) → Level ws p → Limited n p k cs (run ws n k cs)
 unfolding run count-of
-told [] [] n p k l = (omega arith, λ i. big-nil n p i)
-told [] (w ∷ ws) n p k l = told-here n p k [] 5 (inl refl)
-told (c ∷ cs) [] n p k l = told-here n p k (c ∷ cs) 5 (inl refl)
-told (c ∷ cs) (w ∷ ws) n p k l =
-    told-move n p k c cs (l .0) (λ u vs. run (vs ++ ws) (n + u) (suc k) cs) (expand w n c) (expand-moves w n c p (l .0) (l .1))
-    (λ u vs r e t. rw e (told cs (vs ++ ws) (n + keys c) r (suc k) (turns-append vs ws r (l .0) 0 t (l .2))))
+run-limited [] [] n p k l = (omega arith, λ i. big-nil n p i)
+run-limited [] (w ∷ ws) n p k l = limited-here n p k [] 5 (inl refl)
+run-limited (c ∷ cs) [] n p k l = limited-here n p k (c ∷ cs) 5 (inl refl)
+run-limited (c ∷ cs) (w ∷ ws) n p k l =
+    limited-move n p k c cs (l .0) (λ u vs. run (vs ++ ws) (n + u) (suc k) cs) (expand w n c) (expand-moves w n c p (l .0) (l .1))
+    (λ u vs r e t. rw e (run-limited cs (vs ++ ws) (n + keys c) r (suc k) (turns-append vs ws r (l .0) 0 t (l .2))))
 
-outcome-told : (cs : List ℕ) → Told 0 0 0 cs (outcome cs)
+outcome-limited : (cs : List ℕ) → Limited 0 0 0 cs (outcome cs)
 unfolding outcome
-outcome-told cs = told cs (node root depths ∷ []) 0 0 0 (0, omega arith, refl)
+outcome-limited cs = run-limited cs (node root depths ∷ []) 0 0 0 (0, omega arith, refl)
 
 -- Why the token k is refused with the number c, by the tokens alone.
 abbrev Known : List ℕ → ℕ → ℕ → Type 0
@@ -68,8 +68,8 @@ Known cs c k = (c ≡ 5) ⊎ ((c ≡ 6) × (k < length cs) × (over-limit cs k �
 
 -- What a refusal says of the tokens.
 module _ (cs : List ℕ) (c k : ℕ) (e : outcome cs ≡ stop c k) where
-  refused : Told 0 0 0 cs (stop c k)
-  refused = rw e at (outcome-told cs)
+  refused : Limited 0 0 0 cs (stop c k)
+  refused = rw e at (outcome-limited cs)
 
   place : refused .0 ≡ k
   place = let t = refused .1 in omega arith
@@ -96,5 +96,5 @@ off-none-big cs k e = none-before cs 5 k e
 
 pub whole-none-big : (cs : List ℕ) (n : ℕ) → outcome cs ≡ whole n → (n ≡ nodes-in cs) × ((j : ℕ) → over-limit cs j ≡ false)
 whole-none-big cs n e =
-    let t : Told 0 0 0 cs (whole n) = rw e at (outcome-told cs) in
+    let t : Limited 0 0 0 cs (whole n) = rw e at (outcome-limited cs) in
     (omega arith, λ j. over-limit-in cs j ∙ t .1 j)

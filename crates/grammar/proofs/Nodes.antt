@@ -71,7 +71,7 @@ pub names : (n : Name) → named n ≡ true → (rest : List Name) → One (is-s
 names n h = the-one (is-sign 6) (coded-name n h) refl
 
 pub bits : (b : Bool) (rest : List Name) → One (between 16 17) (bit b ∷ rest) rest
-bits b rest = record { first = bit b; taken = coded-bit b .taken; passed = bit-between b; told = refl }
+bits b rest = record { first = bit b; taken = coded-bit b .taken; passed = bit-between b; tokens = refl }
 
 pub sizes : (n : ℕ) → (leb 1 n && leb n 16) ≡ true → (rest : List Name) → One (between 17 32) (digits n ∷ rest) rest
 sizes n h =
@@ -79,16 +79,16 @@ sizes n h =
     the-one (between 17 32) (coded-digits n (r .1)) (between-in 17 32 (16 + n) (omega arith) (omega arith))
 
 pub a-member : (m : Member) → member-named m ≡ true → member-sized m ≡ true → (rest : List Name) → Node member (member-tokens m rest) rest
-a-member m h k rest = as-node (record { tree = m; names = h; sizes = k; told = refl })
+a-member m h k rest = as-node (record { tree = m; names = h; sizes = k; tokens = refl })
 
 pub a-child : (c : Child) → child-named c ≡ true → child-sized c ≡ true → (rest : List Name) → Node child (child-tokens c rest) rest
-a-child c h k rest = record { tree = c; names = h; sizes = k; allowed = omega (arith, place-small (shape c)); told = refl }
+a-child c h k rest = record { tree = c; names = h; sizes = k; allowed = omega (arith, place-small (shape c)); tokens = refl }
 
 -- What stands after a child of a flow, both ways.
 module _ (d : ℕ) (rest : List Name) where
   pub after-child : (r : Bool) (cs : Children) → children-named cs ≡ true → children-sized cs ≡ true
       → SpellsAll (ref ++ (more d ∷ [])) (ref-tokens r (children-tokens cs (closing ∷ rest))) rest
-  after-child r cs h k = (_, opens _, (_, bits r _, (_, closes _, (rest, record { tree = cs; names = h; sizes = k; told = refl }, refl))))
+  after-child r cs h k = (_, opens _, (_, bits r _, (_, closes _, (rest, record { tree = cs; names = h; sizes = k; tokens = refl }, refl))))
 
   pub child-after : (ts : List Name) → SpellsAll (ref ++ (more d ∷ [])) ts rest → (r : Bool) × (mid : List Name) × More mid rest × (ts ≡ ref-tokens r mid)
   child-after ts s =
@@ -123,7 +123,7 @@ module _ (d : ℕ) (rest : List Name) where
             names n (and-l (named n) (all-named ps) h1) _,
             (
               _,
-              record { pars = ps; sw = sw; names = and-r (named n) (all-named ps) h1; told = refl },
+              record { pars = ps; sw = sw; names = and-r (named n) (all-named ps) h1; tokens = refl },
               (
                 _,
                 opens _,
@@ -155,7 +155,7 @@ module _ (d : ℕ) (rest : List Name) where
             (
               _,
               a-member b (and-l (member-named b) (members-named ms) h2) (and-l (member-sized b) (members-sized ms) k2) _,
-              (rest, record { tree = ms; names = and-r (member-named b) (members-named ms) h2; sizes = and-r (member-sized b) (members-sized ms) k2; told = refl }, refl),
+              (rest, record { tree = ms; names = and-r (member-named b) (members-named ms) h2; sizes = and-r (member-sized b) (members-sized ms) k2; tokens = refl }, refl),
             ),
           ),
         ),
@@ -223,7 +223,7 @@ module _ (d : ℕ) (ts rest : List Name) where
         names = and-i (and-i (at-name n) (p .names)) (and-i (c .names) (m .names));
         sizes = and-i (c .sizes) (m .sizes);
         allowed = omega arith;
-        told = cc (o, n .told, p .told, q, c .told, a .3, m .told);
+        tokens = cc (o, n .tokens, p .tokens, q, c .tokens, a .3, m .tokens);
       }
 
   built-leaf : SpellsAll (parts-of leaves d) ts rest → Node 8 (key-of leaves ∷ ts) rest
@@ -233,7 +233,7 @@ module _ (d : ℕ) (ts rest : List Name) where
       let n = s .2 .1 in
       let c = at-closing (s .2 .2 .1) in
       let z = s .2 .2 .2 in
-      record { tree = plain (leaf (n .first)); names = at-name n; sizes = refl; allowed = omega arith; told = cc (o, n .told, c, z) }
+      record { tree = plain (leaf (n .first)); names = at-name n; sizes = refl; allowed = omega arith; tokens = cc (o, n .tokens, c, z) }
 
   built-loop : SpellsAll (parts-of loops d) ts rest → Node 15 (key-of loops ∷ ts) rest
   unfolding child-named child-sized child-tokens
@@ -242,7 +242,7 @@ module _ (d : ℕ) (ts rest : List Name) where
       let m = as-member (s .2 .1) in
       let c = at-closing (s .2 .2 .1) in
       let z = s .2 .2 .2 in
-      record { tree = loop (m .tree); names = m .names; sizes = m .sizes; allowed = omega arith; told = cc (o, m .told, c, z) }
+      record { tree = loop (m .tree); names = m .names; sizes = m .sizes; allowed = omega arith; tokens = cc (o, m .tokens, c, z) }
 
   built-group : (y : Way) → SpellsAll (parts-of (groups y) d) ts rest → Node (7 + place (groups y)) (key-of (groups y) ∷ ts) rest
   unfolding child-named child-sized child-tokens
@@ -257,7 +257,7 @@ module _ (d : ℕ) (ts rest : List Name) where
         names = and-i (a .names) (and-i (b .names) (ms .names));
         sizes = and-i (a .sizes) (and-i (b .sizes) (ms .sizes));
         allowed = omega arith;
-        told = cc (group-place y, o, a .told, b .told, ms .told, z);
+        tokens = cc (group-place y, o, a .tokens, b .tokens, ms .tokens, z);
       }
 
   built-replicator : (y : Way) → SpellsAll (parts-of (replicators y) d) ts rest → Node (7 + place (replicators y)) (key-of (replicators y) ∷ ts) rest
@@ -277,7 +277,7 @@ module _ (d : ℕ) (ts rest : List Name) where
         names = and-i (at-name p) (m .names);
         sizes = and-i (n .1) (m .sizes);
         allowed = omega arith;
-        told = cc (replicator-place y, o, p .told, c, n .2, e, f, m .told, g, z);
+        tokens = cc (replicator-place y, o, p .tokens, c, n .2, e, f, m .tokens, g, z);
       }
 
   pub built : (k : Kind) → SpellsAll (parts-of k d) ts rest → Node (7 + place k) (key-of k ∷ ts) rest

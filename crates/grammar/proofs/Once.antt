@@ -212,4 +212,4 @@ mutual
 -- Two grammatical diagrams with the same tokens are the same.
 pub derived-once : (ts : List Name) (d e : Flow) → Derives ts d → Derives ts e → d ≡ e
 derived-once ts d e h k =
-    flow-once d e [] [] (h .proper .names, h .proper .sizes) (k .proper .names, k .proper .sizes) (sym (h .told) ∙ k .told) .0
+    flow-once d e [] [] (h .proper .names, h .proper .sizes) (k .proper .names, k .proper .sizes) (sym (h .tokens) ∙ k .tokens) .0

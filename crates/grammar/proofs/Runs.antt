@@ -1,4 +1,4 @@
--- What the outcome of a run tells, by one induction over the tokens.
+-- What the outcome of a run means for the tokens, by one induction over the tokens.
 use mathlib.Core.Path.{_≡_, refl, sym, subst}
 use mathlib.Core.Logic.{_⊎_, inl, inr, ⊎-elim}
 use mathlib.Core.Bool.{true}
@@ -29,10 +29,10 @@ pub record Big (ws : List Want) (ts : List Name) (i : ℕ) : Type 0 where
   pub rest : List Name
   pub viable : SpellsAll ws (take (suc i) ts ++ rest) []
 
--- What an outcome tells of the entries and the tokens, of which the first has the number k.
-abbrev pub Told : List Want → List Name → ℕ → Outcome → Type 0
-Told ws ts k (whole n) = SpellsAll ws ts []
-Told ws ts k (stop e j) = (i : ℕ) × (j ≡ k + i) × (((e ≡ 5) × Off ws ts i) ⊎ ((e ≡ 6) × Big ws ts i))
+-- What an outcome means for the entries and the tokens, of which the first has the number k.
+abbrev pub Means : List Want → List Name → ℕ → Outcome → Type 0
+Means ws ts k (whole n) = SpellsAll ws ts []
+Means ws ts k (stop e j) = (i : ℕ) × (j ≡ k + i) × (((e ≡ 5) × Off ws ts i) ⊎ ((e ≡ 6) × Big ws ts i))
 
 module _ (w : Want) (ws : List Want) (n : ℕ) (t : Name) (h : token t ≡ true) (g : Good w) where
   -- The token and the entries pushed, for the entry itself, both ways.
@@ -48,8 +48,8 @@ module _ (w : Want) (ws : List Want) (n : ℕ) (t : Name) (h : token t ≡ true)
       let r = parted vs ws ts [] s in
       (r .0, step-into w n t ts (r .0) (g .low) h (subst (λ (m : Move). Taken ⊥ m ts (r .0)) (sym e) (r .1)), r .2)
 
-  told-off : AllGood ws → (ts : List Name) (k : ℕ) → expand w n (code t) ≡ off → Told (w ∷ ws) (t ∷ ts) k (stop 5 k)
-  told-off a ts k e =
+  off-means : AllGood ws → (ts : List Name) (k : ℕ) → expand w n (code t) ≡ off → Means (w ∷ ws) (t ∷ ts) k (stop 5 k)
+  off-means a ts k e =
       let f = all-filled (w ∷ ws) (g, a) [] in (
         0,
         omega arith,
@@ -65,16 +65,16 @@ module _ (w : Want) (ws : List Want) (n : ℕ) (t : Name) (h : token t ≡ true)
         ),
       )
 
-  told-big : AllGood ws → (ts : List Name) (k : ℕ) → expand w n (code t) ≡ big → Told (w ∷ ws) (t ∷ ts) k (stop 6 k)
-  told-big a ts k e =
+  big-means : AllGood ws → (ts : List Name) (k : ℕ) → expand w n (code t) ≡ big → Means (w ∷ ws) (t ∷ ts) k (stop 6 k)
+  big-means a ts k e =
       let f = all-filled ws a [] in
       let b = big-spells n t (f .0) w (g .low) h e in
       (0, omega arith, inr (refl, record { within = omega arith; rest = b .0; viable = (f .0, b .1, f .1) }))
 
-  told-push : (u : ℕ) (vs : List Want) (ts : List Name) (k : ℕ) → expand w n (code t) ≡ push u vs → (o : Outcome) → Told (vs ++ ws) ts (suc k) o
-      → Told (w ∷ ws) (t ∷ ts) k o
-  told-push u vs ts k e (whole m) s = push-into u vs ts e s
-  told-push u vs ts k e (stop c j) s = (suc (s .0), omega (arith, s .1), ⊎-elim (λ q. inl (q .0, later (s .0) (q .1))) (λ q. inr (q .0, large (s .0) (q .1))) (s .2))
+  push-means : (u : ℕ) (vs : List Want) (ts : List Name) (k : ℕ) → expand w n (code t) ≡ push u vs → (o : Outcome) → Means (vs ++ ws) ts (suc k) o
+      → Means (w ∷ ws) (t ∷ ts) k o
+  push-means u vs ts k e (whole m) s = push-into u vs ts e s
+  push-means u vs ts k e (stop c j) s = (suc (s .0), omega (arith, s .1), ⊎-elim (λ q. inl (q .0, later (s .0) (q .1))) (λ q. inr (q .0, large (s .0) (q .1))) (s .2))
     where
       later : (i : ℕ) → Off (vs ++ ws) ts i → Off (w ∷ ws) (t ∷ ts) (suc i)
       later i o =
@@ -89,19 +89,19 @@ module _ (w : Want) (ws : List Want) (n : ℕ) (t : Name) (h : token t ≡ true)
       large : (i : ℕ) → Big (vs ++ ws) ts i → Big (w ∷ ws) (t ∷ ts) (suc i)
       large i o = record { within = omega arith; rest = o .rest; viable = push-into u vs (take (suc i) ts ++ o .rest) e (o .viable) }
 
-  told-step : AllGood ws → (ts : List Name) (k : ℕ)
-      → ((vs : List Want) (u : ℕ) → AllGood (vs ++ ws) → Told (vs ++ ws) ts (suc k) (run (vs ++ ws) (n + u) (suc k) (map code ts)))
-      → (m : Move) → expand w n (code t) ≡ m → Told (w ∷ ws) (t ∷ ts) k (proceed m k (λ u vs. run (vs ++ ws) (n + u) (suc k) (map code ts)))
-  told-step a ts k ih off e = told-off a ts k e
-  told-step a ts k ih big e = told-big a ts k e
-  told-step a ts k ih (push u vs) e =
-      told-push u vs ts k e (run (vs ++ ws) (n + u) (suc k) (map code ts))
+  step-means : AllGood ws → (ts : List Name) (k : ℕ)
+      → ((vs : List Want) (u : ℕ) → AllGood (vs ++ ws) → Means (vs ++ ws) ts (suc k) (run (vs ++ ws) (n + u) (suc k) (map code ts)))
+      → (m : Move) → expand w n (code t) ≡ m → Means (w ∷ ws) (t ∷ ts) k (proceed m k (λ u vs. run (vs ++ ws) (n + u) (suc k) (map code ts)))
+  step-means a ts k ih off e = off-means a ts k e
+  step-means a ts k ih big e = big-means a ts k e
+  step-means a ts k ih (push u vs) e =
+      push-means u vs ts k e (run (vs ++ ws) (n + u) (suc k) (map code ts))
       (ih vs u (good-append vs ws (subst GoodMove e (good-expand w n (code t))) a))
 
-pub told : (ts : List Name) → all-tokens ts ≡ true → (ws : List Want) → AllGood ws → (n k : ℕ) → Told ws ts k (run ws n k (map code ts))
+pub run-means : (ts : List Name) → all-tokens ts ≡ true → (ws : List Want) → AllGood ws → (n k : ℕ) → Means ws ts k (run ws n k (map code ts))
 unfolding run
-told [] h [] a n k = refl
-told [] h (w ∷ ws) a n k =
+run-means [] h [] a n k = refl
+run-means [] h (w ∷ ws) a n k =
     let f = all-filled (w ∷ ws) a [] in (
       0,
       omega arith,
@@ -116,7 +116,7 @@ told [] h (w ∷ ws) a n k =
         },
       ),
     )
-told (t ∷ ts) h [] a n k = (
+run-means (t ∷ ts) h [] a n k = (
   0,
   omega arith,
   inl (
@@ -130,7 +130,7 @@ told (t ∷ ts) h [] a n k = (
     },
   ),
 )
-told (t ∷ ts) h (w ∷ ws) a n k =
-    told-step w ws n t (and-l (token t) (all-tokens ts) h) (a .0) (a .1) ts k
-    (λ vs u b. told ts (and-r (token t) (all-tokens ts) h) (vs ++ ws) b (n + u) (suc k))
+run-means (t ∷ ts) h (w ∷ ws) a n k =
+    step-means w ws n t (and-l (token t) (all-tokens ts) h) (a .0) (a .1) ts k
+    (λ vs u b. run-means ts (and-r (token t) (all-tokens ts) h) (vs ++ ws) b (n + u) (suc k))
     (expand w n (code t)) refl

@@ -62,32 +62,32 @@ pub record One (f : ℕ → Bool) (ts rest : List Name) : Type 0 where
   pub first : Name
   pub taken : token first ≡ true
   pub passed : f (code first) ≡ true
-  pub told : ts ≡ first ∷ rest
+  pub tokens : ts ≡ first ∷ rest
 
 pub record Params (ts rest : List Name) : Type 0 where
   pub pars : List Name
   pub sw : Bool
   pub names : all-named pars ≡ true
-  pub told : ts ≡ pars-tokens pars (comma ∷ bit sw ∷ closing ∷ rest)
+  pub tokens : ts ≡ pars-tokens pars (comma ∷ bit sw ∷ closing ∷ rest)
 
 pub record Node (top : ℕ) (ts rest : List Name) : Type 0 where
   pub tree : Child
   pub names : child-named tree ≡ true
   pub sizes : child-sized tree ≡ true
   pub allowed : 7 + place (shape tree) ≤ top
-  pub told : ts ≡ child-tokens tree rest
+  pub tokens : ts ≡ child-tokens tree rest
 
 pub record More (ts rest : List Name) : Type 0 where
   pub tree : Children
   pub names : children-named tree ≡ true
   pub sizes : children-sized tree ≡ true
-  pub told : ts ≡ children-tokens tree (closing ∷ rest)
+  pub tokens : ts ≡ children-tokens tree (closing ∷ rest)
 
 pub record Others (ts rest : List Name) : Type 0 where
   pub tree : Members
   pub names : members-named tree ≡ true
   pub sizes : members-sized tree ≡ true
-  pub told : ts ≡ members-tokens tree (closing ∷ rest)
+  pub tokens : ts ≡ members-tokens tree (closing ∷ rest)
 
 abbrev pub is-sign : ℕ → ℕ → Bool
 is-sign s c = eqb c s && ltb 0 c
@@ -119,14 +119,14 @@ parted (v ∷ vs) ws ts rest s = let r = parted vs ws (s .0) rest (s .2) in (r .
 
 -- What a single token is, and a single token of each kind.
 pub the-one : {t : Name} {c : ℕ} (f : ℕ → Bool) → Coded t c → f c ≡ true → (rest : List Name) → One f (t ∷ rest) rest
-the-one {t} f k h rest = record { first = t; taken = k .taken; passed = rw (k .number) h; told = refl }
+the-one {t} f k h rest = record { first = t; taken = k .taken; passed = rw (k .number) h; tokens = refl }
 
 sign-code : {ts rest : List Name} (s : ℕ) (o : One (is-sign s) ts rest) → code (o .first) ≡ s
 sign-code s o = eqb-true (code (o .first)) s (and-l (eqb (code (o .first)) s) (ltb 0 (code (o .first))) (o .passed))
 
 module _ {ts rest : List Name} where
   the-sign : (s : ℕ) (t : Name) → ((u : Name) → token u ≡ true → code u ≡ s → u ≡ t) → One (is-sign s) ts rest → ts ≡ t ∷ rest
-  the-sign s t f o = o .told ∙ ap (λ (u : Name). u ∷ rest) (f (o .first) (o .taken) (sign-code s o))
+  the-sign s t f o = o .tokens ∙ ap (λ (u : Name). u ∷ rest) (f (o .first) (o .taken) (sign-code s o))
 
   pub at-opening : One (is-sign 1) ts rest → ts ≡ opening ∷ rest
   at-opening = the-sign 1 opening is-opening
@@ -141,14 +141,14 @@ module _ {ts rest : List Name} where
   at-name o = is-name (o .first) (o .taken) (sign-code 6 o)
 
   pub at-bit : One (between 16 17) ts rest → (b : Bool) × (ts ≡ bit b ∷ rest)
-  at-bit o = let r = is-bit (o .first) (o .taken) (o .passed) in (r .0, o .told ∙ ap (λ (u : Name). u ∷ rest) (r .1))
+  at-bit o = let r = is-bit (o .first) (o .taken) (o .passed) in (r .0, o .tokens ∙ ap (λ (u : Name). u ∷ rest) (r .1))
 
   pub at-size : One (between 17 32) ts rest → (n : ℕ) × ((leb 1 n && leb n 16) ≡ true) × (ts ≡ digits n ∷ rest)
   at-size o =
       let r = in-range 17 32 (code (o .first)) (o .passed) in (
         code (o .first) - 16,
         between-in 1 16 (code (o .first) - 16) (omega arith) (omega arith),
-        o .told ∙ ap (λ (u : Name). u ∷ rest) (is-digits (o .first) (o .taken) (omega arith)),
+        o .tokens ∙ ap (λ (u : Name). u ∷ rest) (is-digits (o .first) (o .taken) (omega arith)),
       )
 
 -- A member is a node that is a leaf or a flow.
@@ -156,7 +156,7 @@ pub record Membered (ts rest : List Name) : Type 0 where
   pub tree : Member
   pub names : member-named tree ≡ true
   pub sizes : member-sized tree ≡ true
-  pub told : ts ≡ member-tokens tree rest
+  pub tokens : ts ≡ member-tokens tree rest
 
 pub member-small : (m : Member) → 7 + place (member-shape m) ≤ 8
 member-small (leaf n) = omega arith
@@ -164,14 +164,14 @@ member-small (inner f) = omega arith
 
 pub as-node : {ts rest : List Name} → Membered ts rest → Node member ts rest
 unfolding child-named child-sized child-tokens
-as-node m = record { tree = plain (m .tree); names = m .names; sizes = m .sizes; allowed = member-small (m .tree); told = m .told }
+as-node m = record { tree = plain (m .tree); names = m .names; sizes = m .sizes; allowed = member-small (m .tree); tokens = m .tokens }
 
 pub as-member : {ts rest : List Name} → Node member ts rest → Membered ts rest
 unfolding child-named child-sized child-tokens
-as-member {ts} {rest} n = go (n .tree) (n .names) (n .sizes) (n .allowed) (n .told)
+as-member {ts} {rest} n = go (n .tree) (n .names) (n .sizes) (n .allowed) (n .tokens)
   where
     go : (c : Child) → child-named c ≡ true → child-sized c ≡ true → 7 + place (shape c) ≤ 8 → ts ≡ child-tokens c rest → Membered ts rest
-    go (plain m) h k a e = record { tree = m; names = h; sizes = k; told = e }
+    go (plain m) h k a e = record { tree = m; names = h; sizes = k; tokens = e }
     go (loop m) h k a e = let z : ⊥ = omega arith in absurd z
     go (group y b c ms) h k a e = let z : ⊥ = omega arith in absurd z
     go (replicator y par size m) h k a e = let z : ⊥ = omega arith in absurd z

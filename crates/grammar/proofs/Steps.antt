@@ -68,7 +68,7 @@ module _ (t : Name) (ts rest : List Name) (top : ℕ) where
       o = opened d rest (n .tree) (n .names) (n .sizes)
 
       e : t ∷ ts ≡ key-of k ∷ o .0
-      e = n .told ∙ o .1
+      e = n .tokens ∙ o .1
 
       c : code t ≡ 7 + place k
       c = key-code k t (head-eq-of-cons-eq e)
@@ -83,7 +83,7 @@ module _ (t : Name) (ts rest : List Name) (top : ℕ) where
         names = m .names;
         sizes = m .sizes;
         allowed = omega (arith, code-at, m .allowed, r .1);
-        told = ap (λ (u : Name). u ∷ ts) (k .1) ∙ m .told;
+        tokens = ap (λ (u : Name). u ∷ ts) (k .1) ∙ m .tokens;
       }
     where
       r : (7 ≤ code t) × (code t ≤ top)
@@ -131,8 +131,8 @@ pub more-listed : (d : ℕ) → Listed More child (ref ++ (more d ∷ []))
 unfolding children-named children-sized children-tokens
 more-listed d =
     record {
-      out = λ ts rest m. out ts rest (m .tree) (m .names) (m .sizes) (m .told);
-      ended = λ rest. record { tree = none; names = refl; sizes = refl; told = refl };
+      out = λ ts rest m. out ts rest (m .tree) (m .names) (m .sizes) (m .tokens);
+      ended = λ rest. record { tree = none; names = refl; sizes = refl; tokens = refl };
       begun = begun;
     }
   where
@@ -155,15 +155,15 @@ more-listed d =
           tree = next (n .tree) (a .0) (m .tree);
           names = and-i (n .names) (m .names);
           sizes = and-i (n .sizes) (m .sizes);
-          told = cc (n .told, a .3, m .told);
+          tokens = cc (n .tokens, a .3, m .tokens);
         }
 
 pub others-listed : (d : ℕ) → Listed Others member (others d ∷ [])
 unfolding members-named members-sized members-tokens
 others-listed d =
     record {
-      out = λ ts rest m. out ts rest (m .tree) (m .names) (m .sizes) (m .told);
-      ended = λ rest. record { tree = end; names = refl; sizes = refl; told = refl };
+      out = λ ts rest m. out ts rest (m .tree) (m .names) (m .sizes) (m .tokens);
+      ended = λ rest. record { tree = end; names = refl; sizes = refl; tokens = refl };
       begun = begun;
     }
   where
@@ -176,7 +176,7 @@ others-listed d =
           rw e (a-member m (and-l (member-named m) (members-named ms) h) (and-l (member-sized m) (members-sized ms) k) _),
           (
             rest,
-            record { tree = ms; names = and-r (member-named m) (members-named ms) h; sizes = and-r (member-sized m) (members-sized ms) k; told = refl },
+            record { tree = ms; names = and-r (member-named m) (members-named ms) h; sizes = and-r (member-sized m) (members-sized ms) k; tokens = refl },
             refl,
           ),
         )
@@ -190,7 +190,7 @@ others-listed d =
           tree = also (n .tree) (m .tree);
           names = and-i (n .names) (m .names);
           sizes = and-i (n .sizes) (m .sizes);
-          told = cc (n .told, m .told, z);
+          tokens = cc (n .tokens, m .tokens, z);
         }
 
 module _ {W : List Name → List Name → Type 0} (top d n : ℕ) (after : List Want) (l : Listed W top after) (t : Name) (ts rest : List Name) where
@@ -216,17 +216,17 @@ module _ {W : List Name → List Name → Type 0} (top d n : ℕ) (after : List 
 module _ (f : ℕ → Bool) (t : Name) (ts rest : List Name) where
   one-out : One f (t ∷ ts) rest → Taken (Unit {0}) (cond (f (code t)) (push 0 []) off) ts rest
   one-out o =
-      let p : f (code t) ≡ true = subst (λ (u : Name). f (code u) ≡ true) (sym (head-eq-of-cons-eq (o .told))) (o .passed) in
-      rw p (tail-eq-of-cons-eq (o .told))
+      let p : f (code t) ≡ true = subst (λ (u : Name). f (code u) ≡ true) (sym (head-eq-of-cons-eq (o .tokens))) (o .passed) in
+      rw p (tail-eq-of-cons-eq (o .tokens))
 
   one-into : token t ≡ true → Taken ⊥ (cond (f (code t)) (push 0 []) off) ts rest → One f (t ∷ ts) rest
   one-into h =
       chosen (f (code t)) (push 0 []) off (λ (m : Move). Taken ⊥ m ts rest → One f (t ∷ ts) rest)
-      (λ q e. record { first = t; taken = h; passed = q; told = ap (λ (l : List Name). t ∷ l) e })
+      (λ q e. record { first = t; taken = h; passed = q; tokens = ap (λ (l : List Name). t ∷ l) e })
       (λ q z. absurd z)
 
 params-comma : (t : Name) (ts rest : List Name) → Params (t ∷ ts) rest → t ≡ comma
-params-comma t ts rest p = go (p .pars) (p .told)
+params-comma t ts rest p = go (p .pars) (p .tokens)
   where
     go : (ps : List Name) → t ∷ ts ≡ pars-tokens ps (comma ∷ bit (p .sw) ∷ closing ∷ rest) → t ≡ comma
     go [] e = head-eq-of-cons-eq e
@@ -248,7 +248,7 @@ module _ (t : Name) (ts rest : List Name) where
   at-param = cond (eqb (code t) 6) (push 0 (params ∷ [])) (cond (between 16 17 (code t)) (push 0 (sign 2 ∷ [])) off)
 
   param-out : Params (comma ∷ t ∷ ts) rest → Taken (Unit {0}) at-param ts rest
-  param-out p = go (p .pars) (p .names) (tail-comma (p .pars) (p .told))
+  param-out p = go (p .pars) (p .names) (tail-comma (p .pars) (p .tokens))
     where
       last : List Name
       last = comma ∷ bit (p .sw) ∷ closing ∷ rest
@@ -270,7 +270,7 @@ module _ (t : Name) (ts rest : List Name) where
           let c : code t ≡ 6 = ap code (head-eq-of-cons-eq e) ∙ coded-name q (and-l (named q) (all-named ps) h) .number in
           rw (eq-eqb (code t) 6 c) (
             rest,
-            record { pars = ps; sw = p .sw; names = and-r (named q) (all-named ps) h; told = tail-eq-of-cons-eq e },
+            record { pars = ps; sw = p .sw; names = and-r (named q) (all-named ps) h; tokens = tail-eq-of-cons-eq e },
             refl,
           )
 
@@ -281,11 +281,11 @@ module _ (t : Name) (ts rest : List Name) where
       (λ q s. named-next (is-name t h (eqb-true (code t) 6 q)) (rw (← s .2) (s .1)))
       (λ q.
       chosen (between 16 17 (code t)) (push 0 (sign 2 ∷ [])) off (λ (m : Move). Taken ⊥ m ts rest → Params (comma ∷ t ∷ ts) rest)
-      (λ b s. let r = is-bit t h b in record { pars = []; sw = r .0; names = refl; told = cc (r .1, at-closing (s .1), s .2) })
+      (λ b s. let r = is-bit t h b in record { pars = []; sw = r .0; names = refl; tokens = cc (r .1, at-closing (s .1), s .2) })
       (λ b z. absurd z))
     where
       named-next : named t ≡ true → Params ts rest → Params (comma ∷ t ∷ ts) rest
-      named-next g p = record { pars = t ∷ p .pars; sw = p .sw; names = and-i g (p .names); told = ap (λ (l : List Name). comma ∷ t ∷ l) (p .told) }
+      named-next g p = record { pars = t ∷ p .pars; sw = p .sw; names = and-i g (p .names); tokens = ap (λ (l : List Name). comma ∷ t ∷ l) (p .tokens) }
 
 pub step-out : (w : Want) (n : ℕ) (t : Name) (ts rest : List Name) → Spells w (t ∷ ts) rest → Taken (Unit {0}) (expand w n (code t)) ts rest
 unfolding expand
@@ -320,7 +320,7 @@ step-into (others d) n t ts rest l h m = list-into member d n (others d ∷ []) 
 
 -- No entry spells nothing.
 node-filled : (top : ℕ) (rest : List Name) → Node top [] rest → ⊥
-node-filled top rest n = nil≢cons (n .told ∙ opened 0 rest (n .tree) (n .names) (n .sizes) .1)
+node-filled top rest n = nil≢cons (n .tokens ∙ opened 0 rest (n .tree) (n .names) (n .sizes) .1)
 
 listed-filled : {W : List Name → List Name → Type 0} (top : ℕ) (after : List Want) → Listed W top after → (rest : List Name) → W [] rest → ⊥
 listed-filled top after l rest w = ⊎-elim (λ e. nil≢cons e) (λ b. node-filled top (b .0) (b .1)) (l .out [] rest w)
@@ -334,10 +334,10 @@ param-filled [] t l e = nil≢cons (tail-eq-of-cons-eq e)
 param-filled (p ∷ ps) t l e = nil≢cons (tail-eq-of-cons-eq e)
 
 pub never-empty : (w : Want) (rest : List Name) → Spells w [] rest → ⊥
-never-empty (sign s) rest h = nil≢cons (h .told)
-never-empty (number a b) rest h = nil≢cons (h .told)
-never-empty params rest h = params-filled (h .pars) (bit (h .sw) ∷ closing ∷ rest) (h .told)
-never-empty param rest h = param-filled (h .pars) (bit (h .sw)) (closing ∷ rest) (h .told)
+never-empty (sign s) rest h = nil≢cons (h .tokens)
+never-empty (number a b) rest h = nil≢cons (h .tokens)
+never-empty params rest h = params-filled (h .pars) (bit (h .sw) ∷ closing ∷ rest) (h .tokens)
+never-empty param rest h = param-filled (h .pars) (bit (h .sw)) (closing ∷ rest) (h .tokens)
 never-empty (node top d) rest h = node-filled top rest h
 never-empty (more d) rest h = listed-filled child (ref ++ (more d ∷ [])) (more-listed d) rest h
 never-empty (others d) rest h = listed-filled member (others d ∷ []) (others-listed d) rest h

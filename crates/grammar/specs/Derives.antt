@@ -15,7 +15,7 @@ pub record Grammatical (d : Flow) : Type 0 where
 -- The diagram derives these tokens.
 pub record Derives (ts : List Name) (d : Flow) : Type 0 where
   pub proper : Grammatical d
-  pub told : ts ≡ flow-tokens d []
+  pub tokens : ts ≡ flow-tokens d []
 
 -- Some grammatical text starts with these tokens.
 abbrev pub Viable : List Name → Type 0
