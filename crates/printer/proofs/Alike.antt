@@ -25,11 +25,11 @@ printed-shorter (b ∷ bs) =
 
 -- A derived text prints as its diagram's tokens, one after the other.
 derived-printed : (text : List ℕ) (d : Flow) → Derives (tokens text) d → printed text ≡ flatten (flow-tokens d [])
-derived-printed text d g = sym (printed-tokens text) ∙ ap flatten (g .told)
+derived-printed text d g = sym (printed-tokens text) ∙ ap flatten (g .tokens)
 
 printed-derives : (text : List ℕ) (d : Flow) → Derives (tokens text) d → Derives (tokens (printed text)) d
 printed-derives text d g =
-    record { proper = g .proper; told = ap tokens (derived-printed text d g) ∙ rendered d (g .proper) }
+    record { proper = g .proper; tokens = ap tokens (derived-printed text d g) ∙ rendered d (g .proper) }
 
 -- "printing and reading again yields that diagram"
 pub printed-accepted : (text : List ℕ) (d : Flow) → Accepted text d → Accepted (printed text) d

@@ -44,7 +44,7 @@ proper-at (t ∷ ts) (suc j) h l = proper-at ts j (and-r (proper t) (all-proper 
 
 -- No token of a diagram is refused by itself.
 tokens-proper : (text : List ℕ) (d : Flow) → Derives (tokens text) d → all-proper (tokens text) ≡ true
-tokens-proper text d g = rw (g .told) (diagram-sound d (g .proper) .proper)
+tokens-proper text d g = rw (g .tokens) (diagram-sound d (g .proper) .proper)
 
 pub derived-clean : (text : List ℕ) (d : Flow) → Derived text d → Clean text
 derived-clean text d g =
@@ -62,14 +62,14 @@ derived-outcome text d g =
     (derived-read (tokens text) (text-tokens text) d (g .derives))
   where
     small : (j : ℕ) → over-limit (map code (tokens text)) j ≡ false
-    small j = rw (g .derives .told) (fits-none-big d (g .derives .proper) (g .nodes) (g .depth) j)
+    small j = rw (g .derives .tokens) (fits-none-big d (g .derives .proper) (g .nodes) (g .depth) j)
 
 -- A text that is read is derived by a diagram within the limits.
 pub whole-derived : (text : List ℕ) (n : ℕ) → length text ≤ 16384 → outcome (codes text) ≡ whole n → (d : Flow) × Derived text d
 unfolding codes
 whole-derived text n l e =
     let r = read-derives (tokens text) (text-tokens text) n e in
-    let fits = none-big-fits (r .0) (r .1 .proper) (λ j. rw (r .1 .told) at (whole-none-big (map code (tokens text)) n e .1 j)) in
+    let fits = none-big-fits (r .0) (r .1 .proper) (λ j. rw (r .1 .tokens) at (whole-none-big (map code (tokens text)) n e .1 j)) in
     (r .0, record { size = l; derives = r .1; nodes = fits .0; depth = fits .1 })
 
 nothing-worded : worded (getD [] 0 0) ≡ true → ⊥
@@ -92,8 +92,8 @@ name-agrees text j e = rw (zero-add j) (⊎-elim inside outside (cases (ltb j (l
 pub derived-token-nodes : (text : List ℕ) (d : Flow) → Derives (tokens text) d → token-nodes (name-in text (places text)) 0 0 (codes text) ≡ flow-token-nodes d false 1 0 []
 unfolding codes
 derived-token-nodes text d g =
-    ap (λ (ts : List Name). token-nodes (name-in text (places text)) 0 0 (map code ts)) (g .told)
-    ∙ tree-token-nodes d (g .proper) (name-in text (places text)) (subst (Agrees (name-in text (places text)) 0) (g .told) (name-agrees text))
+    ap (λ (ts : List Name). token-nodes (name-in text (places text)) 0 0 (map code ts)) (g .tokens)
+    ∙ tree-token-nodes d (g .proper) (name-in text (places text)) (subst (Agrees (name-in text (places text)) 0) (g .tokens) (name-agrees text))
 
 -- What reading answers where a diagram within the limits derives the text.
 pub derived-answer : (text : List ℕ) (d : Flow) → Derived text d → read-of text ≡ judged (places text) (flow-token-nodes d false 1 0 []) (tree-verdict (places text) d)

@@ -84,7 +84,7 @@ stopped text c k h e = scanned-as text (Tokens (length (spans-of text))) (clean-
 limits-alike : (ts rest : List Name) (d : Flow) (t j : ℕ) → Derives (take t ts ++ rest) d → t ≤ length ts → j < t
     → over-limit (map code ts) j ≡ too-big 0 (flow-placed-nodes d [] 1 0 []) j
 limits-alike ts rest d t j g h l =
-    over-limit-begun ts rest t j h l ∙ (ap (λ (us : List Name). over-limit (map code us) j) (g .told) ∙ limits-placed d (g .proper) j)
+    over-limit-begun ts rest t j h l ∙ (ap (λ (us : List Name). over-limit (map code us) j) (g .tokens) ∙ limits-placed d (g .proper) j)
 
 off-stops : (text : List ℕ) (at : ℕ) (o : Off text at) → outcome (codes text) ≡ stop 5 (o .token)
 unfolding codes

@@ -165,7 +165,7 @@ unfolding codes
 nodes-held text d g =
     ap length (sym (derived-token-nodes text d g))
     ∙ (token-nodes-count (name-in text (places text)) 0 0 (codes text)
-    ∙ (ap (λ (ts : List Name). nodes-in (map code ts)) (g .told) ∙ nodes-counted d (g .proper)))
+    ∙ (ap (λ (ts : List Name). nodes-in (map code ts)) (g .tokens) ∙ nodes-counted d (g .proper)))
 
 pub accepted-shown : (text : List ℕ) (d : Flow) → Accepted text d → Shows text d (read-of text .diagram)
 unfolding stored
