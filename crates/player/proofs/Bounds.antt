@@ -7,6 +7,7 @@ use native.Mathlib.Omega.{arith}
 use lib.Dec.{eqb}
 use lib.ListN.{length, length-append}
 use Rattle.base.specs.Fill.{fill}
+use Rattle.base.specs.Text.{bytes}
 use Rattle.base.proofs.Truth.{by-cases}
 use Rattle.output.specs.Buffer.{buffer, put-all}
 use Rattle.output.proofs.Buffers.{whole}
@@ -21,8 +22,8 @@ use Rattle.table.specs.declared.Finish.{Finish}
 use Rattle.table.specs.declared.Finish.the-variants.{No, Yes, Refused as Unasked}
 use Rattle.table.specs.declared.Stepped.{Stepped}
 use Rattle.output.specs.Lines.{refused-line}
-use Rattle.player.specs.Lines.{onto, lines, first, rest, event-lines}
-use Rattle.player.specs.Shown.{item, chosen, next-words, state-text, answer-text, stepped-text, said-step, opening-text, finish-text, closing-text}
+use Rattle.said.specs.Lines.{onto, lines, first, rest, event-lines}
+use Rattle.player.specs.Shown.{item, chosen, events-line, next-bits, state-text, answer-text, answer-line, stepped-text, said-step, opening-text, finish-text, closing-text}
 
 -- The bytes of lines with their ends.
 abbrev size : List (List ℕ) → ℕ
@@ -61,9 +62,14 @@ chosen-short : (listing bits : List ℕ) → length (chosen (event-lines listing
 unfolding event-lines
 chosen-short listing bits = omega (arith, chosen-size (rest (lines listing)) bits 0, rest-size (lines listing), lines-size listing)
 
+line-short : (word listing bits : List ℕ) → length (events-line word listing bits) ≤ length word + 3 * length listing + 4
+unfolding events-line
+line-short word listing bits = simp length-append (omega (arith, chosen-short listing bits))
+
 state-short : (listing table : List ℕ) (r : Record) → length (state-text listing table r) ≤ 6 * length listing + 16
 unfolding state-text
-state-short listing table r = simp length-append (omega (arith, chosen-short listing (r .bits), chosen-short listing (next-words table r)))
+state-short listing table r =
+    simp length-append (omega (arith, line-short (bytes "bits") listing (r .bits), line-short (bytes "next") listing (next-bits table r)))
 
 refused-short : (number place : ℕ) → length (refused-line number place) ≤ 50
 unfolding refused-line
@@ -79,7 +85,7 @@ finish-short No = omega arith
 finish-short (Unasked number place) = refused-short number place
 
 stepped-short : (listing table said : List ℕ) (s : Stepped) → length (stepped-text listing table said s) ≤ 6 * length listing + length said + 68
-unfolding stepped-text
+unfolding stepped-text answer-line
 stepped-short listing table said s = simp length-append (omega (arith, answer-short (s .answer), state-short listing table (s .after)))
 
 opening-short : (listing table : List ℕ) → length (opening-text listing table) ≤ 7 * length listing + 18

@@ -1,4 +1,2 @@
-mod Split
-mod Saying
+mod Chosen
 pub mod Bounds
-pub mod Meant

@@ -1,4 +1,1 @@
-pub mod Lines
-pub mod Said
-pub mod Meant
 pub mod Shown

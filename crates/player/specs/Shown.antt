@@ -3,6 +3,7 @@ use mathlib.Core.Bool.{Bool, cond}
 use mathlib.Core.List.{List, [], _∷_, _++_}
 use Prim.Native.Nat.{ℕ, suc}
 use lib.ListN.{replicate}
+use Rattle.base.specs.Text.{bytes}
 use Rattle.record.specs.Bits.{bit-at}
 use Rattle.record.specs.Bytes.{words-of}
 use Rattle.record.specs.Blank.{blank-record}
@@ -14,42 +15,42 @@ use Rattle.table.specs.declared.Finish.{Finish}
 use Rattle.table.specs.declared.Finish.the-variants.{No, Yes, Refused as Unasked}
 use Rattle.table.specs.declared.Stepped.{Stepped}
 use Rattle.output.specs.Lines.{refused-line}
-use Rattle.player.specs.Lines.{lines, first, event-lines}
-use Rattle.player.specs.Said.{event-said}
+use Rattle.said.specs.Lines.{lines, first, event-lines}
+use Rattle.said.specs.Said.{event-said}
 
 -- An event's line in brackets, after a space; or nothing.
 abbrev pub item : Bool → List ℕ → List ℕ
-item there line = cond there ((32 ∷ 91 ∷ []) ++ (line ++ (93 ∷ []))) []
+item there line = cond there (bytes " [" ++ (line ++ bytes "]")) []
 
 -- The lines whose bits are set, of lines the first of which has bit e.
 unfoldable pub chosen : List (List ℕ) → List ℕ → ℕ → List ℕ
 chosen [] bits e = []
 chosen (l ∷ ls) bits e = item (bit-at bits e) l ++ chosen ls bits (suc e)
 
+-- A line: a word, and the events of a listing whose bits are set.
+unfoldable pub events-line : List ℕ → List ℕ → List ℕ → List ℕ
+events-line word listing bits = (word ++ chosen (event-lines listing) bits 0) ++ bytes "\n"
+
 -- The words of what a step would take; none are set where the offer is refused.
-unfoldable pub next-words : List ℕ → Record → List ℕ
-next-words table r = words-of (offer-left table r (replicate 64 0) (offer-of table r (replicate 64 0)))
+unfoldable pub next-bits : List ℕ → Record → List ℕ
+next-bits table r = words-of (offer-left table r (replicate 64 0) (offer-of table r (replicate 64 0)))
 
 -- `bits` and the events whose control bits are set, `next` and the events that may come next.
 unfoldable pub state-text : List ℕ → List ℕ → Record → List ℕ
-state-text listing table r =
-    (98 ∷ 105 ∷ 116 ∷ 115 ∷ [])
-    ++ (chosen (event-lines listing) (r .bits) 0
-    ++ ((10 ∷ 110 ∷ 101 ∷ 120 ∷ 116 ∷ []) ++ (chosen (event-lines listing) (next-words table r) 0 ++ (10 ∷ []))))
-
--- The line of a step that was refused; one that was taken has none.
-abbrev pub refused-text : Answer → List ℕ
-refused-text Done = []
-refused-text (Refused number place) = refused-line number place
+state-text listing table r = events-line (bytes "bits") listing (r .bits) ++ events-line (bytes "next") listing (next-bits table r)
 
 -- `done`, or `refused`, number and place.
 abbrev pub answer-text : Answer → List ℕ
-answer-text Done = 100 ∷ 111 ∷ 110 ∷ 101 ∷ 10 ∷ []
+answer-text Done = bytes "done\n"
 answer-text (Refused number place) = refused-line number place
+
+-- What was said, and the answer to it.
+unfoldable pub answer-line : List ℕ → Answer → List ℕ
+answer-line said a = said ++ (bytes ": " ++ answer-text a)
 
 -- What was said, the answer to it, and the state after it.
 unfoldable pub stepped-text : List ℕ → List ℕ → List ℕ → Stepped → List ℕ
-stepped-text listing table said s = said ++ ((58 ∷ 32 ∷ []) ++ (answer-text (s .answer) ++ state-text listing table (s .after)))
+stepped-text listing table said s = answer-line said (s .answer) ++ state-text listing table (s .after)
 
 -- A step with the event that is said.
 unfoldable pub said-step : List ℕ → List ℕ → Record → List ℕ → Stepped
@@ -57,12 +58,12 @@ said-step listing table before said = step-of table before (event-said listing s
 
 -- The listing's first line, and the state of the blank record.
 unfoldable pub opening-text : List ℕ → List ℕ → List ℕ
-opening-text listing table = first (lines listing) ++ ((10 ∷ []) ++ state-text listing table blank-record)
+opening-text listing table = (first (lines listing) ++ bytes "\n") ++ state-text listing table blank-record
 
 -- `finished` or `not finished`.
 abbrev pub finish-text : Finish → List ℕ
-finish-text Yes = 102 ∷ 105 ∷ 110 ∷ 105 ∷ 115 ∷ 104 ∷ 101 ∷ 100 ∷ 10 ∷ []
-finish-text No = 110 ∷ 111 ∷ 116 ∷ 32 ∷ 102 ∷ 105 ∷ 110 ∷ 105 ∷ 115 ∷ 104 ∷ 101 ∷ 100 ∷ 10 ∷ []
+finish-text Yes = bytes "finished\n"
+finish-text No = bytes "not finished\n"
 finish-text (Unasked number place) = refused-line number place
 
 unfoldable pub closing-text : List ℕ → Record → List ℕ

@@ -100,7 +100,7 @@ starred x m =
       d,
       record {
         short = leb-true (length (bytes (x .text))) 16384 (cc);
-        derived = record { proper = record { names = cc; sizes = k .sizes }; told = ap (λ (p : List Name × List Bool). p .0) q };
+        derived = record { proper = record { names = cc; sizes = k .sizes }; tokens = ap (λ (p : List Name × List Bool). p .0) q };
         keeps = k;
         nodes = leb-true (flow-nodes d) 256 (cc);
         depth = leb-true (flow-depth d) 12 (cc);

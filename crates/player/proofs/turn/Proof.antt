@@ -11,14 +11,13 @@ use Rattle.player.proofs.turn.Tie as tie
 returns : tie.Need-returns
 unfolding stepped-text said-step
 returns c =
-    let a = c .before .before .before .before .before .before .before .before .before .before .before .before .before .before .before .before .before .before .before .before .before .before .before .before .args in
-    let s = c .before .before .before .before .before .before .before .before .before .before .before .before .before .before .before .before .before .before .step in
-    let q : s .result ≡ said-step (a .listing .now) (a .table .now) (a .before) (a .said .now) = s .ensures ∙ ap (step-of (a .table .now) (a .before)) (c .before .before .before .before .before .before .before .before .before .before .before .before .before .before .before .before .before .before .before .seek .ensures) in
-    let w = before _ _ _ (c .before .before .before .before .before .before .before .before .before .before .before .before .before .before .before .bytes .ensures) (before _ _ _ (c .before .before .before .before .before .before .before .before .before .before .bytes2 .ensures) (before _ _ _ (c .before .before .before .before .before .before .answered .ensures) (c .before .before .state .ensures))) in
+    let a = c .before .before .before .before .before .before .before .before .before .before .before .before .before .before .before .args in
+    let s = c .before .before .before .before .before .before .before .before .before .step in
+    let q : s .result ≡ said-step (a .listing .now) (a .table .now) (a .before) (a .said .now) = s .ensures ∙ ap (step-of (a .table .now) (a .before)) (c .before .before .before .before .before .before .before .before .before .before .event .ensures) in
+    let w = before _ _ _ (c .before .before .before .before .before .before .answer-line .ensures) (c .before .before .state-lines .ensures) in
     (same-put _ _ _ w (ap (stepped-text (a .listing .now) (a .table .now) (a .said .now)) q), ap (λ (x : Stepped). x .after) q)
 
 pub turn-spec : {M : Type 1} → statement M
 turn-spec =
     tie.close
-    (tie.spec (λ c κs. search needs) (λ c κs. search needs) (λ c κs. search needs) (λ c. search needs) (λ c κs. search needs)
-    (λ c κs. search needs) (λ c κs. search needs) (λ c. search needs) returns)
+    (tie.spec (λ c κs. search needs) (λ c κs. search needs) (λ c κs. search needs) (λ c κs. search needs) (λ c. search needs) returns)

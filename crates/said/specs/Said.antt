@@ -4,8 +4,8 @@ use mathlib.Core.List.{List, [], _∷_}
 use Prim.Native.Nat.{ℕ, suc}
 use lib.ListN.{take, drop}
 use Rattle.bytes.specs.Bytes.{indexOf}
-use Rattle.diagram.specs.Names.{same}
-use Rattle.player.specs.Lines.{event-lines}
+use Rattle.base.specs.Equal.{same}
+use Rattle.said.specs.Lines.{event-lines}
 
 -- The number of an event's line stands before its first space, what the event is called after it.
 unfoldable pub number-part : List ℕ → List ℕ

@@ -7,10 +7,11 @@ use Prim.Native.Nat.{ℕ, zero, suc, _+_, _^_, _≤_, _<_}
 use native.Mathlib.Omega.{arith}
 use lib.Dec.{eqb}
 use lib.ListN.{length, getD}
+use Rattle.base.specs.Text.{bytes}
 use Rattle.base.proofs.Truth.{by-cases, clash, is-false, and-l, and-r, or-r, or-e}
 use Rattle.bytes.specs.Bytes.{indexOf, indexAfter}
 use Rattle.diagram.specs.Tree.{Flow}
-use Rattle.diagram.specs.Names.{same}
+use Rattle.base.specs.Equal.{same}
 use Rattle.base.proofs.Decided.{same-decides}
 use Rattle.diagram.specs.Count.{flow-events, flow-copies}
 use Rattle.lexer.specs.Words.{lettered}
@@ -25,10 +26,10 @@ use Rattle.events.specs.Listing.{first-line, mark, spaced, line, lines as listi
 use Rattle.events.proofs.Short.{Each, each-append, each-at, Short, events-short}
 use Rattle.events.proofs.Called.{Without, without, decimal-without, word-without, blanks-no-words, letter-high, digit-low, decimal-one, called-one}
 use Rattle.events.proofs.Answers.{short-at}
-use Rattle.player.specs.Lines.{lines, rest, event-lines}
-use Rattle.player.specs.Said.{number-part, label-part, says, before-saying, event-said}
-use Rattle.player.specs.Meant.{label, before-meant}
-use Rattle.player.proofs.Split.{line-here, line-on, no-lines}
+use Rattle.said.specs.Lines.{lines, rest, event-lines}
+use Rattle.said.specs.Said.{number-part, label-part, says, before-saying, event-said}
+use Rattle.said.specs.Meant.{label, before-meant}
+use Rattle.said.proofs.Lines.{line-here, line-on, no-lines}
 
 joined : (bs cs : List ℕ) → Without 10 bs → Without 10 cs → Without 10 (bs ++ cs)
 joined bs cs h k = each-append (λ b. eqb b 10 ≡ false) bs cs h k
@@ -78,10 +79,10 @@ bares-listed e (l ∷ ls) s =
 
 -- The first line, without its end.
 abbrev events-word : List ℕ
-events-word = 101 ∷ 118 ∷ 101 ∷ 110 ∷ 116 ∷ 115 ∷ 32 ∷ []
+events-word = bytes "events "
 
 abbrev copies-word : List ℕ
-copies-word = 32 ∷ 99 ∷ 111 ∷ 112 ∷ 105 ∷ 101 ∷ 115 ∷ 32 ∷ []
+copies-word = bytes " copies "
 
 abbrev counted : ℕ → ℕ → List ℕ
 counted e c = events-word ++ (decimal e ++ (copies-word ++ decimal c))

@@ -1,7 +1,7 @@
--- Which line says it, and which lines are chosen. Assumes nothing.
+-- Which line says it. Assumes nothing.
 use mathlib.Core.Path.{_≡_, refl, sym, ap, _∙_}
 use mathlib.Core.Bool.{Bool, true, false, _||_}
-use mathlib.Core.List.{List, [], _∷_, _++_}
+use mathlib.Core.List.{List, [], _∷_}
 use Prim.Native.Nat.{ℕ, suc, _+_, _-_, _≤_, _<_}
 use native.Mathlib.Nat.{zero-add}
 use native.Mathlib.Numerals.{add-one}
@@ -9,34 +9,30 @@ use native.Mathlib.Omega.{arith}
 use lib.Dec.{eqb}
 use lib.ListN.{length, take, drop, drop-of-length-le}
 use Rattle.bytes.specs.Bytes.{indexOf, slice}
-use Rattle.diagram.specs.Names.{same}
+use Rattle.base.specs.Equal.{same}
 use borrow.Author.Tests.{ne-eqb}
-use Rattle.output.specs.Buffer.{Buffer, put-all}
-use Rattle.output.proofs.Buffers.{put-all-append}
-use Rattle.record.specs.Bits.{bit-at}
-use Rattle.player.specs.Lines.{lines}
-use Rattle.player.specs.Said.{number-part, label-part, says, before-saying}
-use Rattle.player.specs.Shown.{item, chosen}
-use Rattle.player.proofs.Split.{all-from, line-at, none-at}
+use Rattle.said.specs.Lines.{lines, LineEnds}
+use Rattle.said.specs.Said.{number-part, label-part, says, before-saying}
+use Rattle.said.proofs.Lines.{all-from, line-at, none-at}
 
 -- By what stands before the first space, and after it.
 module _ (line said : List ℕ) (space : ℕ) (q : space ≡ 0 + indexOf 32 (slice 0 (length line) line)) where
   at-space : space ≡ indexOf 32 line
   at-space = q ∙ (zero-add _ ∙ ap (indexOf 32) (all-from 0 line))
 
-  told : says line said ≡ (same (take space line) said || same (drop (space + 1) line) said)
+  both-parts : says line said ≡ (same (take space line) said || same (drop (space + 1) line) said)
   unfolding says number-part label-part
-  told = rw (at-space, add-one)
+  both-parts = rw (at-space, add-one)
 
   module _ (r : Bool) (p : r ≡ same (take space line) said) where
     pub says-number : r ≡ true → true ≡ says line said
-    says-number t = sym (told ∙ rw (← p, t))
+    says-number t = sym (both-parts ∙ rw (← p, t))
 
     pub says-label : r ≡ false → {b : Bool} → b ≡ same (drop (space + 1) line) said → b ≡ says line said
-    says-label t g = g ∙ sym (told ∙ rw (← p, t))
+    says-label t g = g ∙ sym (both-parts ∙ rw (← p, t))
 
     pub says-nothing : r ≡ false → length line ≤ space → eqb (length said) 0 ≡ says line said
-    says-nothing t h = let past : length line ≤ space + 1 = omega arith in no-bytes said ∙ sym (told ∙ rw (← p, t, drop-of-length-le line past))
+    says-nothing t h = let past : length line ≤ space + 1 = omega arith in no-bytes said ∙ sym (both-parts ∙ rw (← p, t, drop-of-length-le line past))
       where
         no-bytes : (bs : List ℕ) → eqb (length bs) 0 ≡ same [] bs
         no-bytes [] = refl
@@ -51,39 +47,16 @@ module _ (ls : List (List ℕ)) (l : List ℕ) (on : List (List ℕ)) (q : ls �
   unfolding before-saying
   further said t = rw (q, t)
 
-  pub chosen-on : (bits : List ℕ) (e : ℕ) → chosen ls bits e ≡ item (bit-at bits e) l ++ chosen on bits (suc e)
-  unfolding chosen
-  chosen-on bits e = rw q
-
 pub none-says : (ls : List (List ℕ)) (said : List ℕ) → ls ≡ [] → before-saying ls said ≡ 0
 unfolding before-saying
 none-says ls said q = rw q
 
-pub none-chosen : (ls : List (List ℕ)) (bits : List ℕ) (e : ℕ) → ls ≡ [] → chosen ls bits e ≡ []
-unfolding chosen
-none-chosen ls bits e q = rw q
-
--- The lines that are chosen, one after the other.
-pub chosen-more : (s bits : List ℕ) (at end e : ℕ) (there : Bool) (b t : Buffer) → at < length s → end ≡ at + indexOf 10 (slice at (length s) s)
-    → t ≡ put-all (item there (take (end - at) (drop at s))) b → there ≡ bit-at bits e
-    → put-all (chosen (lines (drop (end + 1) s)) bits (e + 1)) t ≡ put-all (chosen (lines (drop at s)) bits e) b
-chosen-more s bits at end e there b t h q p g =
-    let w = line-at s at end h q in
-    let c = chosen-on (lines (drop at s)) (take (end - at) (drop at s)) (lines (drop (end + 1) s)) w bits e in
-    let i = item there (take (end - at) (drop at s)) in
-    let on = chosen (lines (drop (end + 1) s)) bits (e + 1) in
-    ap (put-all on) p ∙ (sym (put-all-append i on b) ∙ ap (λ (x : List ℕ). put-all x b) (rw (add-one e, g) (sym c)))
-
-pub chosen-done : (s bits : List ℕ) (at e : ℕ) (b : Buffer) → length s ≤ at → b ≡ put-all (chosen (lines (drop at s)) bits e) b
-unfolding put-all
-chosen-done s bits at e b h = rw (none-chosen (lines (drop at s)) bits e (none-at s at h))
-
 -- The lines that say it, one after the other.
-pub seek-found : (s said : List ℕ) (at end : ℕ) (r : Bool) → at < length s → end ≡ at + indexOf 10 (slice at (length s) s)
+pub seek-found : (s said : List ℕ) (at end : ℕ) (r : Bool) → at < length s → LineEnds s at end
     → r ≡ says (take (end - at) (drop at s)) said → r ≡ true → before-saying (lines (drop at s)) said ≡ 0
 seek-found s said at end r h q p t = found (lines (drop at s)) (take (end - at) (drop at s)) (lines (drop (end + 1) s)) (line-at s at end h q) said (sym p ∙ t)
 
-pub seek-on : (s said : List ℕ) (at end : ℕ) (r : Bool) → at < length s → end ≡ at + indexOf 10 (slice at (length s) s)
+pub seek-on : (s said : List ℕ) (at end : ℕ) (r : Bool) → at < length s → LineEnds s at end
     → r ≡ says (take (end - at) (drop at s)) said → r ≡ false → before-saying (lines (drop at s)) said ≡ suc (before-saying (lines (drop (end + 1) s)) said)
 seek-on s said at end r h q p t = further (lines (drop at s)) (take (end - at) (drop at s)) (lines (drop (end + 1) s)) (line-at s at end h q) said (sym p ∙ t)
 

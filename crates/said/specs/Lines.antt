@@ -1,8 +1,10 @@
 -- The lines of some bytes. Document 01: "Each line ends with byte 10."
+use mathlib.Core.Path.{_≡_}
 use mathlib.Core.Bool.{cond}
 use mathlib.Core.List.{List, [], _∷_}
-use Prim.Native.Nat.{ℕ}
+use Prim.Native.Nat.{ℕ, _+_, _-_, _≤_}
 use lib.Dec.{eqb}
+use lib.ListN.{length, take, drop}
 
 -- A byte before the first of some lines.
 abbrev pub onto : ℕ → List (List ℕ) → List (List ℕ)
@@ -27,3 +29,10 @@ rest (l ∷ ls) = ls
 -- The lines of a listing's events: "First line: events and node copies. Then number, name, and values".
 unfoldable pub event-lines : List ℕ → List (List ℕ)
 event-lines listing = rest (lines listing)
+
+-- Of the lines from a place on, the first ends here, and the others start after the byte at its end.
+pub record LineEnds (s : List ℕ) (at end : ℕ) : Type 0 where
+  pub starts : at ≤ end
+  pub within : end - at ≤ length s - at
+  pub its-bytes : take (end - at) (drop at s) ≡ first (lines (drop at s))
+  pub after-it : lines (drop (end + 1) s) ≡ rest (lines (drop at s))

@@ -2,7 +2,7 @@
 use mathlib.Core.Bool.{cond, _||_}
 use mathlib.Core.List.{List, [], _∷_, _++_}
 use Prim.Native.Nat.{ℕ, suc}
-use Rattle.diagram.specs.Names.{same}
+use Rattle.base.specs.Equal.{same}
 use Rattle.process.specs.Process.{Event}
 use Rattle.output.specs.Decimal.{decimal}
 use Rattle.events.specs.Listing.{mark, spaced}

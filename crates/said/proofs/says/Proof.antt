@@ -1,14 +1,14 @@
--- `player::says` meets its contract. Assumes nothing.
+-- `said::says` meets its contract. Assumes nothing.
 use mathlib.Core.Path.{sym, ap, _∙_}
 use mathlib.Core.List.{List}
 use Prim.Native.Nat.{ℕ}
 use lib.Seq.{length-take-le}
-use Rattle.diagram.specs.Names.{same}
-use Rattle.player.proofs.Split.{to-end}
-use Rattle.player.proofs.Saying.{says-number, says-label, says-nothing}
+use Rattle.base.specs.Equal.{same}
+use Rattle.said.proofs.Lines.{to-end}
+use Rattle.said.proofs.Saying.{says-number, says-label, says-nothing}
 use borrow.Author.Needs.{needs}
-use Rattle.player.proofs.says.Statement.{statement}
-use Rattle.player.proofs.says.Tie as tie
+use Rattle.said.proofs.says.Statement.{statement}
+use Rattle.said.proofs.says.Tie as tie
 
 slice-aggregate-equal : tie.Need-slice-aggregate-equal
 slice-aggregate-equal c = sym (length-take-le (c .before .find .result) (c .before .before .before .before .args .line .now) (c .before .find .ensures .1))

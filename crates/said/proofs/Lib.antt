@@ -1,0 +1,3 @@
+pub mod Lines
+mod Saying
+pub mod Meant
