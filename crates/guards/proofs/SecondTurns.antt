@@ -29,24 +29,24 @@ second-begins ops base needs rows event top gates out h =
 
 module _ (ops : List ℕ) (base : ℕ) (needs : List Needs) (start : SecondAt) (rows event left top : ℕ) (gates out : List ℕ) where
   -- One more.
-  second-stepped : (op m : ℕ) (n : Needs) (e record-word a b top′ : ℕ) (list : Words) (mid out′ : List ℕ) → m ≡ getD gates top 0
-      → n ≡ getD needs (left - 1) no-needs → e ≡ event - event-count op → record-word ≡ record-of op rows m (n .earlier) e
-      → mid ≡ put-record op e record-word out → Lists list (second-words op m n) → out′ ≡ put-rows base rows (listed list) mid
+  second-stepped : (op m : ℕ) (n : Needs) (e a b top′ : ℕ) (list : Words) (mid out′ : List ℕ) → m ≡ getD gates top 0
+      → n ≡ getD needs (left - 1) no-needs → e ≡ event - event-count op
+      → mid ≡ put-record op e (record-of op rows m (n .earlier) e) out → Lists list (second-words op m n) → out′ ≡ put-rows base rows (listed list) mid
       → a ≡ gate-row op (rows + 1) m → b ≡ gate-row op rows m → top′ ≡ moved op top 1 1025
       → second-at (rows + list .count) e (left - 1) top′ (set (set gates top a) (ring top 1025) b) out′
       ≡ second-step base needs op (second-at rows event left top gates out)
   unfolding second-step
-  second-stepped op m n e record-word a b top′ list mid out′ qm qn qe qw qr l qo qa qb qt =
-      rw (qo, qr, qw, l .its-words, l .its-count, qa, qb, qt, qe, qm, qn)
+  second-stepped op m n e a b top′ list mid out′ qm qn qe qr l qo qa qb qt =
+      rw (qo, qr, l .its-words, l .its-count, qa, qb, qt, qe, qm, qn)
 
-  pub second-turn : SecondTo ops base needs start rows event left top gates out → 0 < left → (m : ℕ) (n : Needs) (e record-word a b top′ : ℕ) (list : Words)
+  pub second-turn : SecondTo ops base needs start rows event left top gates out → 0 < left → (m : ℕ) (n : Needs) (e a b top′ : ℕ) (list : Words)
       (mid out′ : List ℕ) → m ≡ getD gates top 0 → n ≡ getD needs (left - 1) no-needs → e ≡ event - event-count (getD ops (left - 1) 0)
-      → record-word ≡ record-of (getD ops (left - 1) 0) rows m (n .earlier) e → mid ≡ put-record (getD ops (left - 1) 0) e record-word out
+      → mid ≡ put-record (getD ops (left - 1) 0) e (record-of (getD ops (left - 1) 0) rows m (n .earlier) e) out
       → length mid ≡ length out → Lists list (second-words (getD ops (left - 1) 0) m n) × (list .count ≤ 2)
       → out′ ≡ put-rows base rows (listed list) mid → length out′ ≡ length mid → a ≡ gate-row (getD ops (left - 1) 0) (rows + 1) m
       → b ≡ gate-row (getD ops (left - 1) 0) rows m → (top′ ≡ moved (getD ops (left - 1) 0) top 1 1025) × (top′ < 1026)
       → SecondTo ops base needs start (rows + list .count) e (left - 1) top′ (set (set gates top a) (ring top 1025) b) out′
-  second-turn u h m n e record-word a b top′ list mid out′ qm qn qe qw qr sr l qo so qa qb t =
+  second-turn u h m n e a b top′ list mid out′ qm qn qe qr sr l qo so qa qb t =
       let here : suc (left - 1) ≡ left = omega (arith, h) in
       record {
         within = omega (arith, u .within);
@@ -54,7 +54,7 @@ module _ (ops : List ℕ) (base : ℕ) (needs : List Needs) (start : SecondAt) (
         low = t .1;
         same-out = so ∙ sr ∙ u .same-out;
         its-state =
-            second-stepped (getD ops (left - 1) 0) m n e record-word a b top′ list mid out′ qm qn qe qw qr (l .0) qo qa qb (t .0)
+            second-stepped (getD ops (left - 1) 0) m n e a b top′ list mid out′ qm qn qe qr (l .0) qo qa qb (t .0)
             ∙ (ap (second-step base needs (getD ops (left - 1) 0)) (u .its-state ∙ ap (λ (k : ℕ). second-pass base needs (drop k ops) start) (sym here))
             ∙ sym (ap (λ (l : List ℕ). second-pass base needs l start) (drop-cons ops (left - 1) 0 (omega (arith, u .within, h)))));
       }

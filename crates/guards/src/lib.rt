@@ -7,7 +7,7 @@ ghost use Rattle.plan.specs.Pieces.{leaf-piece, rounds-piece, pair-piece, settl
 ghost use Rattle.guards.specs.Table.{TableWritten};
 ghost use Rattle.guards.specs.code.Rows.{put-rows, listed, Lists, Appends, Adds};
 ghost use Rattle.guards.specs.code.Passes.{coupled as coupled-of, piece-of, event-count as event-count-of, moved as moved-of, second-count as second-count-of};
-ghost use Rattle.guards.specs.code.Passes.{second-words as second-words-of, gate-row, record-of, put-record as put-record-of, no-rows, first-start, first-pass as first-pass-of, FirstEnds};
+ghost use Rattle.guards.specs.code.Passes.{second-words as second-words-of, gate-row, record-of, put-record, no-rows, first-start, first-pass as first-pass-of, FirstEnds};
 ghost use Rattle.guards.specs.code.Passes.{second-start, second-pass as second-pass-of, SecondEnds, Passes};
 use plan::Needs;
 use plan::PartRows;
@@ -386,13 +386,21 @@ fn record_of(op: u8, k: u16, m: u16, first: u16, e: u16) -> usize
     event_record(k, first, minus(e, first))
 }
 
-// A leaf or a reset has a record; a joint has none.
-fn put_record(out: &mut [u8], op: u8, e: u16, w: usize)
-    ensures { λ _. ⌜ now (out .exit) ≡ put-record-of op e w (now (out .entry)) ⌝ }
+// A leaf or a reset has a record, that of the event before e, and answers that event; a joint has none.
+fn write_record(out: &mut [u8], op: u8, e: u16, k: u16, m: u16, first: u16) -> u16
+    ensures { λ r. ⌜ r ≡ e - event-count-of op ⌝ }
+    ensures { λ r. ⌜ now (out .exit) ≡ put-record op r (record-of op k m first r) (now (out .entry)) ⌝ }
 {
-    if op < postfix::SEQ {
-        base::put_word(out, 4 + 4 * base::wide_short(e), w);
+    if postfix::ROUNDS < op {
+        return e;
     }
+    let own = minus(e, 1);
+    base::put_word(
+        out,
+        4 + 4 * base::wide_short(own),
+        record_of(op, k, m, first, own),
+    );
+    own
 }
 
 // The second pass: what lets each part go on, and the event records; answers the next free row.
@@ -412,8 +420,7 @@ fn second_pass(ops: &[u8], base: usize, first: FirstResult, out: &mut [u8]) -> u
         let op = ops[left];
         let m = gates[top];
         let n = needs[left];
-        e = minus(e, event_count(op));
-        put_record(out, op, e, record_of(op, rows, m, n.earlier, e));
+        e = write_record(out, op, e, rows, m, n.earlier);
         let words = second_words(op, m, n);
         write_rows(out, base, rows, words);
         gates[top] = gate(op, rows + 1, m);

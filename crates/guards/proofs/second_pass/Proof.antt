@@ -18,11 +18,11 @@ abbrev μ-loop : tie.MeasureT-loop
 abbrev start-of : tie.In-loop Inv-loop μ-loop → tie.Start Inv-loop μ-loop
 start-of c = c .before .before .before .before .before
 
-abbrev test-of : tie.After-record-of Inv-loop μ-loop → tie.In-loop Inv-loop μ-loop
-test-of c = c .before .before .before .before .before .before
+abbrev test-of : tie.After-write-record Inv-loop μ-loop → tie.In-loop Inv-loop μ-loop
+test-of c = c .before .before .before .before
 
-abbrev recorded : tie.After-second-words Inv-loop μ-loop → tie.After-record-of Inv-loop μ-loop
-recorded c = c .before .before .before .before
+abbrev recorded : tie.After-second-words Inv-loop μ-loop → tie.After-write-record Inv-loop μ-loop
+recorded c = c .before .before .before
 
 abbrev words-of : tie.After-slice-known3 Inv-loop μ-loop → tie.After-second-words Inv-loop μ-loop
 words-of c = c .before .before .before .before
@@ -85,15 +85,12 @@ loop-again c =
     let w = words-of (gate .before) in
     let written = gate .before .before .before in
     let r = recorded w in
-    let put = w .before .before .before in
-    let minus = r .before .before in
     let test = test-of r in
     let l = test .before .loop in
     let s = start-of test .args in
     second-turn (s .ops .now) (s .base) (s .first .needs) _ (l .rows) (l .e) (l .left) (l .top) (l .gates) (l .out) (l .inv) (test .loop-test .taken) _ _
-    (minus .minus .result) (r .record-of .result) (gate .gate .result) (moved .before .gate2 .result) (moved .moved .result) (w .second-words .result)
-    (put .put-record .last .0) (written .write-rows .last .0) refl refl (omega (arith, minus .minus .ensures, minus .before .event-count .ensures .0))
-    (r .record-of .ensures) (put .put-record .ensures) (put .put-record .kept .0) (w .second-words .ensures) (written .write-rows .ensures)
+    (r .write-record .result) (gate .gate .result) (moved .before .gate2 .result) (moved .moved .result) (w .second-words .result)
+    (r .write-record .last .0) (written .write-rows .last .0) refl refl (r .write-record .ensures .0) (r .write-record .ensures .1) (r .write-record .kept .0) (w .second-words .ensures) (written .write-rows .ensures)
     (written .write-rows .kept .0) (gate .gate .ensures) (moved .before .gate2 .ensures) (moved .moved .ensures)
 
 same-length : tie.Need-same-length Inv-loop μ-loop
@@ -108,6 +105,6 @@ pub second-pass-spec : {M : Type 1} → statement M
 second-pass-spec =
     tie.close
     (tie.spec Inv-loop μ-loop (λ c. search needs) loop-holds (λ c. search needs) shared-slice-read-op mul-m array-read-m mul-n array-copy-out-n
-    (λ c κs. search needs) (λ c κs. search needs) (λ c κs. search needs) (λ c κs. search needs) (λ c κs. search needs) write-rows-requires
+    (λ c κs. search needs) (λ c κs. search needs) write-rows-requires
     add-gate (λ c κs. search needs) mul-gates array-write-gates-2 add-over (λ c κs. search needs) (λ c. search needs) (λ c. search needs)
     moved-requires add-rows loop-less loop-again same-length returns)
