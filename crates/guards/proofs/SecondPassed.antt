@@ -64,7 +64,7 @@ wrote-then base ws rs vs ss d e f h a b = record {
 }
 
 -- ---- what is so after a part
--- From d to e the pass went over the n numbers of a part with these guards. It took the latest of the rows that let a part go on, and kept those before it.
+-- From d to e the pass went over the n numbers of a part with these guards. It took the latest gate, and kept those before it.
 pub record Passed (base n : ℕ) (g : Guards) (d e : SecondAt) : Type 0 where
   pub wrote : Wrote base (g .words) (g .records) d e
   pub its-at : e .at + n ≡ d .at
@@ -124,7 +124,7 @@ leaf-passed base op m n column g d t o e h i w q r =
       long = s .long;
     }
 
--- A joint writes its rows, and puts the rows by which its parts may go on.
+-- A joint writes its rows, and puts the gates of its parts.
 abbrev parted-at : Joint → (base m : ℕ) → Needs → SecondAt → SecondAt
 parted-at j base m n d = record {
   rows = d .rows + length (joint-words j m n);

@@ -116,7 +116,7 @@ fn rounds(k: u16, e: u16, m: PartRows) -> Added
     Added { words, part, needs }
 }
 
-// Two parts, p before q, which are complete by a row of its own, `done`; the later one needs row `later`.
+// Two parts, p before q, complete by a row of its own, `done`; the later part needs row `later`.
 fn join_pair(k: u16, p: PartRows, q: PartRows, done: usize, later: u16) -> Added
     requires { ⌜ k < 12000 ⌝ }
     ensures { λ r. ⌜ Adds (pair-piece k p q done later) r ⌝ }
@@ -139,7 +139,7 @@ fn join_pair(k: u16, p: PartRows, q: PartRows, done: usize, later: u16) -> Added
     Added { words, part, needs }
 }
 
-// One row more.
+// A list with one row more.
 fn add(list: Words, w: usize) -> Words
     requires { ⌜ list .count < 6 ⌝ }
     ensures { λ r. ⌜ Appends list r (w ∷ []) ⌝ }
@@ -153,7 +153,7 @@ fn add(list: Words, w: usize) -> Words
     }
 }
 
-// The row that a part is complete or not begun, where there is none yet.
+// A list with the row that a part is complete or not begun, where there is none yet.
 fn settle(list: Words, m: PartRows) -> Words
     requires { ⌜ list .count < 6 ⌝ }
     ensures { λ r. ⌜ Appends list r (settling m) ⌝ }
@@ -164,14 +164,14 @@ fn settle(list: Words, m: PartRows) -> Words
     list
 }
 
-// Its number, where the next free row is k.
+// The number of that row, where the next free one is k.
 fn settled(k: u16, m: PartRows) -> u16
     ensures { λ r. ⌜ r ≡ settled-row k m ⌝ }
 {
     if m.settled == 0 { k } else { m.settled }
 }
 
-// Either part or both, after the rows that settle the parts: rows a and b say that they are, and j is the next free row.
+// Either part or both, after the rows that settle the parts: a and b say that the parts are complete or not begun, and j is the next free row.
 fn join_settled(front: Words, j: u16, p: PartRows, q: PartRows, a: u16, b: u16) -> Added
     requires { ⌜ (front .count ≤ 2) × (j < 12010) ⌝ }
     ensures { λ r. ⌜ ((ws : List ℕ) → Lists front ws → Adds (after-words ws (settled-piece j p q a b)) r) ⌝ }
@@ -253,7 +253,7 @@ fn write_rows(out: &mut [u8], base: usize, k: u16, list: Words)
     }
 }
 
-// Where the top of a stack of 1,026 places goes by a number that joins no part, one or two: so many places on, in a ring.
+// The stacks of both passes have 1,026 places in a ring, and grow downwards. Where the top goes by a number that joins no part, `none` places on, or two, `two` on.
 fn moved(op: u8, top: usize, none: usize, two: usize) -> usize
     requires { ⌜ (top < 1026) × (none < 1026) × (two < 1026) ⌝ }
     ensures { λ r. ⌜ (r ≡ moved-of op top none two) × (r < 1026) ⌝ }
@@ -267,7 +267,7 @@ fn moved(op: u8, top: usize, none: usize, two: usize) -> usize
     (top + two) % 1026
 }
 
-// How many events a number has: a leaf and a reset is one.
+// How many events a number is: a leaf and a reset is one.
 fn event_count(op: u8) -> u16
     ensures { λ r. ⌜ (r ≡ event-count-of op) × (r ≤ 1) ⌝ }
 {
@@ -328,7 +328,7 @@ fn first_pass(ops: &[u8], base: usize, out: &mut [u8]) -> FirstResult
     }
 }
 
-// Whether the parts of a number go on by rows of its own: in a flow, and where one part of two runs.
+// Whether each part of a joint needs something of the other: in a flow, and where one part of two runs.
 fn coupled(op: u8) -> bool
     ensures { λ r. ⌜ r ≡ coupled-of op ⌝ }
 {
@@ -349,7 +349,7 @@ fn second_count(op: u8) -> u16
     }
 }
 
-// Those rows, where the number may go on by row m: the guard of a leaf or a reset, or the rows by which the later and the earlier part may go on.
+// Those rows, where the number may go on by row m: the guard of a leaf or a reset, or the gates of the later and the earlier part.
 fn second_words(op: u8, m: u16, n: Needs) -> Words
     ensures { λ r. ⌜ Lists r (second-words-of op m n) × (r .count ≤ 2) ⌝ }
 {
@@ -359,7 +359,7 @@ fn second_words(op: u8, m: u16, n: Needs) -> Words
     }
 }
 
-// The row by which a part of a number may go on: a new one, k, or that of the whole, m.
+// The gate of a part, the row by which it may go on: a new one, k, or that of the joint, m.
 fn gate(op: u8, k: u16, m: u16) -> u16
     ensures { λ r. ⌜ r ≡ gate-row op k m ⌝ }
 {
@@ -403,7 +403,7 @@ fn write_record(out: &mut [u8], op: u8, e: u16, k: u16, m: u16, first: u16) -> u
     own
 }
 
-// The second pass: what lets each part go on, and the event records; answers the next free row.
+// The second pass: the gate of each part, and the event records; answers the next free row.
 fn second_pass(ops: &[u8], base: usize, first: FirstResult, out: &mut [u8]) -> u16
     requires { ⌜ (base ≤ 2052) × (length (now ops) ≤ 1024) × (first .rows ≤ 3 + 6 * 1024) ⌝ }
     ensures { λ r. ⌜ SecondEnds (second-pass-of base (first .needs) (now (ops .entry)) (second-start (first .rows) (first .event) (length (now (ops .entry))) (now (out .entry)))) r (now (out .exit)) ⌝ }

@@ -1,4 +1,4 @@
--- The rows by which the parts of a joint may go on are below what is above the joint's own rows and its own such row.
+-- The gates of a joint's parts are below what is above the joint's own rows and its own gate.
 use Prim.Native.Nat.{ℕ, _+_, _≤_, _<_}
 use native.Mathlib.Omega.{arith}
 use lib.ListN.{length}

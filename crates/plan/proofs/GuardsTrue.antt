@@ -201,7 +201,7 @@ module _ (s : Bits) (v : ℕ → Bool) where
     below-q : Below (first-q + length (plan-q .words)) (lo + size p) (plan-q .part)
     below-q = plan-below q first-q (lo + size p) (later .numbered) (later .low)
 
-    -- The rows by which they may go on say what the joint asks.
+    -- Their gates say what the joint asks.
     goes-earlier : v (earlier-gate j k m) ≡ (v m && earlier-ok j q s)
     goes-earlier =
         earlier-true p q (first-q + length (plan-q .words)) k m lo (lo + size p) (plan-p .part) (plan-q .part)

@@ -1,4 +1,5 @@
--- The rows that say of each part of a process what the control bits say of it: whether it is begun, not begun, complete.
+-- The rows that say of each part of a process what the control bits say of it: whether it is begun, not begun, complete. A part is a leaf, a loop, or two parts
+-- joined.
 use mathlib.Core.Bool.{cond}
 use mathlib.Core.List.{List, [], _∷_, _++_}
 use Prim.Native.Nat.{ℕ, _+_}
@@ -18,7 +19,7 @@ constants = bit-row 0 ∷ not-row 0 ∷ either-row 0 1 ∷ []
 abbrev pub part-rows : ℕ → ℕ → ℕ → ℕ → ℕ → PartRows
 part-rows begun idle done settled first = record { begun = begun; idle = idle; done = done; settled = settled; first = first }
 
--- What a part adds to its own parts: rows; the rows that speak of it; and two numbers for the second pass.
+-- What a part adds to those of its own parts: its rows, the rows that speak of it, and what the second pass needs.
 pub record Piece : Type 0 where
   pub words : List ℕ
   pub part : PartRows
@@ -46,7 +47,7 @@ abbrev pub rounds-piece : ℕ → ℕ → PartRows → Piece
 rounds-piece k e m =
     piece (bit-row e ∷ either-row (m .begun) k ∷ not-row (k + 1) ∷ []) (part-rows (k + 1) (k + 2) (m .idle) (m .idle) (m .first)) (m .done) (m .first)
 
--- Two parts, p before q, which are complete by a row of its own, `done`. The earlier part needs that the later is not begun.
+-- Two parts, p before q: begun where either is, complete by a row of its own, `done`. The earlier part needs that the later is not begun.
 abbrev pub pair-piece : ℕ → PartRows → PartRows → ℕ → ℕ → Piece
 pair-piece k p q done later =
     piece (either-row (p .begun) (q .begun) ∷ not-row k ∷ done ∷ []) (part-rows k (k + 1) (k + 2) 0 (p .first)) later (q .idle)

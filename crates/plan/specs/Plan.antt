@@ -65,7 +65,7 @@ joint-words and m n = []
 joint-words or m n = []
 joint-words xor m n = both-row m (n .later) ∷ both-row m (n .earlier) ∷ []
 
--- The row by which the later part of a joint may go on, and that of the earlier, where the joint's own rows begin at k.
+-- The gate of the later part of a joint, the row by which it may go on, and that of the earlier, where the joint's own rows begin at k.
 abbrev pub later-gate : Joint → ℕ → ℕ → ℕ
 later-gate seq k m = k
 later-gate and k m = m

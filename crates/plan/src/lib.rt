@@ -1,4 +1,4 @@
-// No function: what a translation writes for a process is definitions in specs/ and theorems in proofs/. These are the two values that the code of `guards` holds.
+// No function: the plan of a process is definitions in specs/ and theorems in proofs/. Only the two values that the code of `guards` holds stand here.
 
 // The rows that speak of a part: that it is begun; that it is not; that it is complete; that it is complete or not begun, or 0 where no row says so yet. And the
 // part's first event.

@@ -28,25 +28,26 @@ piece-of op k e q p =
     (cond (eqb op 5) (some-piece k p q)
     (cond (eqb op 6) (one-piece k p q) (all-piece k p q)))))
 
--- How many events it has: a leaf and a reset is one.
+-- How many events it is: a leaf and a reset is one.
 abbrev pub event-count : ℕ → ℕ
 event-count op = cond (ltb op 3) 1 0
 
--- Where the top of a stack of 1,026 places goes, in a ring: a leaf joins no part, a loop over a flow one, a joint two. The stack grows downwards.
+-- The stacks of both passes have 1,026 places in a ring, and grow downwards. So many places on from the top.
 abbrev pub ring : ℕ → ℕ → ℕ
 ring top n = (top + n) % 1026
 
+-- Where the top goes: a leaf joins no part, a loop over a flow one, a joint two.
 abbrev pub moved : ℕ → ℕ → ℕ → ℕ → ℕ
 moved op top none two = cond (ltb op 2) (ring top none) (cond (eqb op 2) top (ring top two))
 
--- The rows of a number in the second pass, where it may go on by row m: the guard of a leaf or a reset, or the rows by which the later and the earlier part may go on.
+-- The rows of a number in the second pass, where it may go on by row m: the guard of a leaf or a reset, or the gates of the later and the earlier part.
 abbrev pub second-count : ℕ → ℕ
 second-count op = cond (coupled op) 2 (cond (eqb op 0 || eqb op 2) 1 0)
 
 abbrev pub second-words : ℕ → ℕ → Needs → List ℕ
 second-words op m n = take (second-count op) (both-row m (n .later) ∷ both-row m (n .earlier) ∷ [])
 
--- The row by which a part of a number may go on: a new one, or that of the whole.
+-- The gate of a part, the row by which it may go on: a new one, or that of the joint.
 abbrev pub gate-row : ℕ → ℕ → ℕ → ℕ
 gate-row op k m = cond (coupled op) k m
 
@@ -112,7 +113,7 @@ pub record FirstEnds (u : FirstAt) (r : FirstResult) (left : List ℕ) : Type 0 
   pub few-events : r .event ≤ 1024
 
 -- ---- the second pass
--- Where it stands: the next row, one more than the next event, how many numbers are left; the rows by which parts may go on, the latest at `top`; the lent bytes.
+-- Where it stands: the next row, one more than the next event, how many numbers are left; the gates of parts to come, the latest at `top`; the lent bytes.
 pub record SecondAt : Type 0 where
   pub rows : ℕ
   pub event : ℕ
@@ -126,7 +127,7 @@ abbrev pub second-start : ℕ → ℕ → ℕ → List ℕ → SecondAt
 second-start rows event n out =
     record { rows = rows; event = event; at = n; top = 1024; gates = set (replicate 1026 0) 1024 2; out = out }
 
--- The row by which the part of a number goes on is taken, and those of its parts are put: the later one's above the earlier one's.
+-- The gate of a number's part is taken, and the gates of its own parts are put, the later one's over the earlier one's.
 abbrev pub second-with : ℕ → ℕ → ℕ → Needs → SecondAt → SecondAt
 second-with base op m n d = record {
   rows = d .rows + length (second-words op m n);
