@@ -1,9 +1,8 @@
 -- The table worked through in `table.specs.Worked`, by the C calls: their numbers and every byte that they leave.
-use mathlib.Core.Path.{_≡_}
-use mathlib.Core.List.{List, [], _∷_, _++_, map}
+use mathlib.Core.List.{List, [], _∷_, _++_}
 use Prim.Native.Nat.{ℕ}
 use lib.ListN.{set, replicate}
-use Rattle.table.specs.Worked.{worked}
+use Rattle.table.specs.Worked.{worked, Line, on, Shown, shown}
 use Rattle.firmware.specs.Calls.{check-number, step-number, step-bytes, finished-number, offer-number, offer-bytes}
 
 -- A call on a table: adl_check; adl_step with a record's bytes and an event number; adl_finished with a record's bytes; adl_offer with these and the
@@ -14,21 +13,11 @@ pub data Call : Type 0 where
   finished : List ℕ → Call
   offer : List ℕ → List ℕ → Call
 
--- A line: the call on this table answers this number, and leaves these bytes: step the record's, offer the lent ones.
-pub record Line : Type 0 where
-  pub table : List ℕ
-  pub call : Call
-  pub number : ℕ
-  pub left : List ℕ
-
-abbrev on : List ℕ → Call → ℕ → List ℕ → Line
-on table call number left = record { table = table; call = call; number = number; left = left }
-
 -- The 64 bytes of a record, by the first of them: the others are 0.
 abbrev bytes : ℕ → List ℕ
 bytes first = first ∷ replicate 63 0
 
-abbrev pub lines : List Line
+abbrev pub lines : List (Line Call)
 lines =
     -- Sound: 0. Unsound, here with E 5: 12.
     on worked check 0 [] ∷ on (set worked 1 5) check 12 []
@@ -47,20 +36,8 @@ lines =
     ∷ on (set worked 1 5) (step (bytes 8) 4) 12 (bytes 8) ∷ []
 
 -- What a call answers, and what it leaves.
-abbrev pub answered : List ℕ → Call → ℕ
-answered t check = check-number t
-answered t (step held e) = step-number t held e
-answered t (finished held) = finished-number t held
-answered t (offer held lent) = offer-number t held lent
-
-abbrev pub leaves : List ℕ → Call → List ℕ
-leaves t check = []
-leaves t (step held e) = step-bytes t held e
-leaves t (finished held) = []
-leaves t (offer held lent) = offer-bytes t held lent
-
--- Every line holds.
-abbrev pub Each : List Line → Type 0
-Each ls =
-    (map (λ (l : Line). answered (l .table) (l .call)) ls ≡ map (λ (l : Line). l .number) ls)
-    × (map (λ (l : Line). leaves (l .table) (l .call)) ls ≡ map (λ (l : Line). l .left) ls)
+abbrev pub does : List ℕ → Call → Shown ℕ
+does t check = shown (check-number t) []
+does t (step held e) = shown (step-number t held e) (step-bytes t held e)
+does t (finished held) = shown (finished-number t held) []
+does t (offer held lent) = shown (offer-number t held lent) (offer-bytes t held lent)

@@ -5,3 +5,4 @@ pub mod Sentences
 pub mod NextRow
 pub mod Obeyed
 pub mod Decoded
+pub mod Worked

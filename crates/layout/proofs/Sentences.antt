@@ -71,15 +71,7 @@ module _ (t : List ℕ) where
   sound-holds : Sound-table t → sound t ≡ true
   unfolding sound events-sound rows-sound
   sound-holds k =
-      and-i
-      (sized-holds t
-      record {
-        events-least = k .events-least;
-        events-most = k .events-most;
-        rows-least = k .rows-least;
-        rows-most = k .rows-most;
-        length-exact = k .length-exact;
-      })
+      and-i (sized-holds t (k .events-least) (k .events-most) (k .rows-least) (k .rows-most) (k .length-exact))
       (and-i
       (below-each (events-sound t) (λ e. event-sound (event-word t e) (rows t) e) refl (λ e. refl) (events t)
       (λ e h. event-holds (event-word t e) (rows t) e (k .guards e h) (k .runs e h)))

@@ -3,8 +3,7 @@ use mathlib.Core.Path.{_≡_}
 use mathlib.Core.Bool.{Bool, true, false, _&&_}
 use mathlib.Core.List.{List}
 use Prim.Native.Nat.{ℕ, _+_, _*_, _≤_}
-use native.Mathlib.Omega.{arith}
-use lib.Dec.{leb, eqb}
+use lib.Dec.{leb}
 use lib.ListN.{length}
 use borrow.Author.Tests.{leb-true, le-leb, eqb-true, eq-eqb}
 use Rattle.base.proofs.Truth.{and-l, and-r, and-i}
@@ -34,13 +33,9 @@ module _ (t : List ℕ) where
         length-exact = eqb-true _ _ (and-r (leb (rows t) 12288) _ e3);
       }
 
-  pub sized-holds : Shaped t → sized t ≡ true
+  pub sized-holds : 1 ≤ events t → events t ≤ 512 → 1 ≤ rows t → rows t ≤ 12288 → length t ≡ 4 + 4 * events t + 4 * rows t → sized t ≡ true
   unfolding sized
-  sized-holds s =
-      and-i (le-leb 1 (events t) (s .events-least))
-      (and-i (le-leb (events t) 512 (s .events-most))
-      (and-i (le-leb 1 (rows t) (s .rows-least))
-      (and-i (le-leb (rows t) 12288 (s .rows-most)) (eq-eqb (length t) (4 + 4 * events t + 4 * rows t) (s .length-exact)))))
+  sized-holds a b c d e = and-i (le-leb _ _ a) (and-i (le-leb _ _ b) (and-i (le-leb _ _ c) (and-i (le-leb _ _ d) (eq-eqb _ _ e))))
 
   -- Whether a table is sound, from what the functions answer.
   pub unsized : sized t ≡ false → false ≡ sound t

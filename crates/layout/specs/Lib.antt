@@ -1,3 +1,4 @@
 pub mod Fields
 pub mod Sound
 pub mod Values
+pub mod Worked

@@ -1,5 +1,5 @@
 -- What the calls answer, case by case, in the words of the definitions.
-use mathlib.Core.Path.{_≡_, refl, sym, ap, _∙_}
+use mathlib.Core.Path.{_≡_, refl, sym, _∙_}
 use mathlib.Core.Bool.{Bool, true, false, cond}
 use mathlib.Core.List.{List}
 use Prim.Native.Nat.{ℕ, _+_, _-_, _≤_, _<_}
@@ -18,10 +18,10 @@ use Rattle.layout.specs.Sound.{sound}
 use Rattle.layout.specs.Values.{values-of, allows, ended}
 use Rattle.layout.proofs.Sizes.{sound-shaped}
 use Rattle.layout.proofs.Events.{sound-guard}
-use Rattle.table.specs.Steps.{check-of, admit-of, taken, refused, taken-or-not, step-of, as-finish, finished-of, offered, offer-of, offer-left}
+use Rattle.table.specs.Steps.{check-of, admit-of, taken, refused, taken-or-not, step-of, finished-of, offered, offer-of, offer-left}
 use Rattle.table.specs.declared.Answer.{Answer}
 use Rattle.table.specs.declared.Answer.the-variants.{Done, Refused}
-use Rattle.table.specs.declared.Finish.the-variants.{No, Yes}
+use Rattle.table.specs.declared.Finish.the-variants.{No, Yes, Refused as Unasked}
 
 -- A refusal is not done.
 pub not-done : (number place : ℕ) → Refused number place ≡ Done → ⊥
@@ -84,28 +84,20 @@ module _ (t : List ℕ) (before : Record) (e : ℕ) where
       step-done w set cleared g p s c = rw (d, lt-ltb e (events t) h, g, c, s, p)
 
 module _ (t : List ℕ) (before : Record) where
-  pub finished-passed : (a : Answer) (number place : ℕ) → a ≡ Refused number place → a ≡ admit-of t (before .bits) → as-finish a ≡ finished-of t before
+  pub finished-passed : (a : Answer) (number place : ℕ) → a ≡ Refused number place → a ≡ admit-of t (before .bits)
+      → Unasked number place ≡ finished-of t before
   unfolding finished-of
   finished-passed a number place p q = rw (← q, p)
 
-  module _ (d : admit-of t (before .bits) ≡ Done) where
-    pub finished-yes : ended t (values-of t (before .bits)) ≡ true → Yes ≡ finished-of t before
-    unfolding finished-of
-    finished-yes y = rw (d, y)
-
-    pub finished-no : ended t (values-of t (before .bits)) ≡ false → No ≡ finished-of t before
-    unfolding finished-of
-    finished-no y = rw (d, y)
+  pub finished-as : (v : Bool) → admit-of t (before .bits) ≡ Done → ended t (values-of t (before .bits)) ≡ v → cond v Yes No ≡ finished-of t before
+  unfolding finished-of
+  finished-as v d y = rw (d, y)
 
 -- One more event of the offer.
-module _ (t : List ℕ) (ok : sound t ≡ true) (vs : List Bool) (e w : ℕ) (h : e < events t) (W : w ≡ event-word t e) (o : List ℕ) (O : o ≡ offered t (take (rows t) vs) e) where
-  pub gather-yes : (next : List ℕ) → getD vs (guard-of w) false ≡ true → next ≡ set-bit o e → next ≡ offered t (take (rows t) vs) (e + 1)
-  unfolding offered
-  gather-yes next y p = rw (add-one e, sym (guard-said t ok vs _ refl e w h W) ∙ y) (p ∙ ap (λ (x : List ℕ). set-bit x e) O)
-
-  pub gather-no : getD vs (guard-of w) false ≡ false → o ≡ offered t (take (rows t) vs) (e + 1)
-  unfolding offered
-  gather-no y = rw (add-one e, sym (guard-said t ok vs _ refl e w h W) ∙ y) O
+pub gathered : (t : List ℕ) (vs : List Bool) (e w : ℕ) (o : List ℕ) (v : Bool) → sound t ≡ true → e < events t → w ≡ event-word t e
+    → o ≡ offered t (take (rows t) vs) e → getD vs (guard-of w) false ≡ v → cond v (set-bit o e) o ≡ offered t (take (rows t) vs) (e + 1)
+unfolding offered
+gathered t vs e w o v ok h W O y = rw (add-one e, ← O, sym (guard-said t ok vs _ refl e w h W) ∙ y)
 
 module _ (t : List ℕ) (before : Record) (lent : List ℕ) where
   pub offer-1 : length lent < 64
@@ -125,7 +117,39 @@ module _ (t : List ℕ) (before : Record) (lent : List ℕ) where
     unfolding offer-of
     offer-ready d = (rw (le-ltb (length lent) 64 h, d), rw (le-ltb (length lent) 64 h, d))
 
-    pub offer-done : (a : Answer) (vs : List Bool) (o out : List ℕ) → a ≡ Done → a ≡ admit-of t (before .bits)
-        → take (rows t) vs ≡ values-of t (before .bits) → o ≡ offered t (take (rows t) vs) (events t) → out ≡ fill lent (bytes-of o)
-        → (a ≡ offer-of t before lent) × (out ≡ offer-left t before lent (offer-of t before lent))
-    offer-done a vs o out p q s O W = let r = offer-ready (sym q ∙ p) in (p ∙ sym (r .0), W ∙ rw (O, s) (sym (r .1)))
+-- After a first look that let the call go on: what `admit` promises, and that it answered done.
+module _ (t : List ℕ) (before : Record) (vs : List Bool) (a : Answer)
+    (looked : (a ≡ admit-of t (before .bits)) × (a ≡ Done → take (rows t) vs ≡ values-of t (before .bits))) (done : a ≡ Done) where
+  ready : admit-of t (before .bits) ≡ Done
+  ready = sym (looked .0) ∙ done
+
+  pub looked-sound : sound t ≡ true
+  looked-sound = done-sound t (before .bits) ready
+
+  pub looked-finished : (m : ℕ) (v : Bool) → m ≡ rows t → getD vs (m - 1) false ≡ v → cond v Yes No ≡ finished-of t before
+  looked-finished m v M y = finished-as t before v ready (sym (last-said t looked-sound vs _ (looked .1 done) m M) ∙ y)
+
+  pub looked-offer : (lent o out : List ℕ) → 64 ≤ length lent → o ≡ offered t (take (rows t) vs) (events t) → out ≡ fill lent (bytes-of o)
+      → (a ≡ offer-of t before lent) × (out ≡ offer-left t before lent (offer-of t before lent))
+  looked-offer lent o out h O W = let r = offer-ready t before lent h ready in (done ∙ sym (r .0), W ∙ rw (O, looked .1 done) (sym (r .1)))
+
+  module _ (e n : ℕ) (N : n ≡ events t) where
+    pub looked-14 : n ≤ e → refused before (Refused 14 0) ≡ step-of t before e
+    looked-14 h = step-14 t before e ready (rw (← N) h)
+
+    module _ (w : ℕ) (h : e < n) (W : w ≡ event-word t e) where
+      below : e < events t
+      below = rw (← N) h
+
+      pub looked-guard : guard-of w < 12288
+      looked-guard = guard-within t looked-sound e w below W
+
+      allowed : getD vs (guard-of w) false ≡ allows t (values-of t (before .bits)) e
+      allowed = guard-said t looked-sound vs _ (looked .1 done) e w below W
+
+      pub looked-15 : getD vs (guard-of w) false ≡ false → refused before (Refused 15 0) ≡ step-of t before e
+      looked-15 y = step-15 t before e ready below (sym allowed ∙ y)
+
+      pub looked-taken : (set cleared : List ℕ) → getD vs (guard-of w) false ≡ true → set ≡ set-bit (before .bits) e → cleared ≡ clear-bits set (first-of w) (count-of w)
+          → record { answer = Done; after = record { bits = cleared } } ≡ step-of t before e
+      looked-taken set cleared y S C = step-done t before e ready below w set cleared (sym allowed ∙ y) W S C

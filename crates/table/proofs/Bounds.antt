@@ -22,7 +22,7 @@ use Rattle.table.specs.declared.Finish.{Finish}
 use Rattle.table.specs.declared.Finish.the-variants.{No, Yes, Refused as Unasked}
 use Rattle.table.specs.declared.Answer.the-variants.{Done, Refused}
 use Rattle.table.specs.declared.Stepped.{Stepped}
-use Rattle.table.proofs.Answered.{checked, admit-12, admit-13, admit-done, step-passed, step-14, step-15, step-done, finished-passed, finished-yes, finished-no, offer-1, offer-passed, offer-ready}
+use Rattle.table.proofs.Answered.{checked, admit-12, admit-13, admit-done, step-passed, step-14, step-15, step-done, finished-passed, finished-as, offer-1, offer-passed, offer-ready}
 
 pub check-answered : (t : List ℕ) → Check-answer t (check-of t)
 unfolding check-of
@@ -63,8 +63,8 @@ pub finished-answered : (t : List ℕ) (before : Record) → Finish-answer t bef
 finished-answered t before =
     first-look t (before .bits)
     (λ r d. by-cases (ended t (values-of t (before .bits)))
-    (λ y. run-finished (sym (finished-yes t before d y)) record { ready = r; says-so = y })
-    (λ y. run-open (sym (finished-no t before d y)) r y))
+    (λ y. run-finished (sym (finished-as t before true d y)) record { ready = r; says-so = y })
+    (λ y. run-open (sym (finished-as t before false d y)) r y))
     (λ n q a. finished-not-ready (rw (← (finished-passed t before (Refused n 0) n 0 refl (sym q))) a))
 
 pub offer-answered : (t : List ℕ) (before : Record) (lent : List ℕ)
@@ -112,8 +112,8 @@ only-step t before e s (guard-says-no q kept r h y) =
     refused-step before s 15 (lit≤ tt) q kept ∙ step-15 t before e (ready-admitted t (before .bits) r) h y
 
 pub only-finish : (t : List ℕ) (before : Record) (f : Finish) → Finish-answer t before f → f ≡ finished-of t before
-only-finish t before f (run-finished q k) = q ∙ finished-yes t before (ready-admitted t (before .bits) (k .ready)) (k .says-so)
-only-finish t before f (run-open q r y) = q ∙ finished-no t before (ready-admitted t (before .bits) r) y
+only-finish t before f (run-finished q k) = q ∙ finished-as t before true (ready-admitted t (before .bits) (k .ready)) (k .says-so)
+only-finish t before f (run-open q r y) = q ∙ finished-as t before false (ready-admitted t (before .bits) r) y
 only-finish t before f (finished-not-ready (unsound q y)) =
     as-finish-as 12 (lit≤ tt) (lit< tt) f q ∙ finished-passed t before (Refused 12 0) 12 0 refl (admit-12 t (before .bits) y)
 only-finish t before f (finished-not-ready (bit-past q y p)) =

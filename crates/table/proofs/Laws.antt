@@ -29,7 +29,7 @@ use Rattle.layout.proofs.Sizes.{sound-shaped}
 use Rattle.layout.proofs.Events.{run-below, sound-event}
 use Rattle.table.specs.Bounds.{Ready, Takes, Ends, unsound, bit-past, Step-answer, event-taken, step-not-ready, past-events, guard-says-no}
 use Rattle.table.proofs.Bounds.{first-look, refused-step, ready-admitted, step-answered}
-use Rattle.table.proofs.Answered.{not-done, step-done, offer-1, finished-passed, finished-yes, finished-no}
+use Rattle.table.proofs.Answered.{not-done, step-done, offer-1, finished-passed, finished-as}
 
 -- The run of bits that event e clears: from the first on, up to the end and without it.
 abbrev pub run-first : List ℕ → ℕ → ℕ
@@ -219,7 +219,7 @@ pub finished-exactly : (t : List ℕ) (before : Record) → (finished-of t befor
 finished-exactly t before = (
   λ y. first-look t (before .bits)
       (λ r a. by-cases (ended t (values-of t (before .bits))) (λ g. record { ready = r; says-so = g })
-      (λ g. let q = finished-no t before a g in let z : _≡_ {A = ℕ} 0 1 = cc in absurd (omega arith)))
+      (λ g. let q = finished-as t before false a g in let z : _≡_ {A = ℕ} 0 1 = cc in absurd (omega arith)))
       (λ number a w. let q = finished-passed t before (Refused number 0) number 0 refl (sym a) in let z : _≡_ {A = ℕ} 0 1 = cc in absurd (omega arith)),
-  λ k. sym (finished-yes t before (ready-admitted t (before .bits) (k .ready)) (k .says-so)),
+  λ k. sym (finished-as t before true (ready-admitted t (before .bits) (k .ready)) (k .says-so)),
 )

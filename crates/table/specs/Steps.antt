@@ -49,11 +49,7 @@ step-admitted t before e (Refused number place) = refused before (Refused number
 unfoldable pub step-of : List ℕ → Record → ℕ → Stepped
 step-of t before e = step-admitted t before e (admit-of t (before .bits))
 
--- The refusal of a first look, as the answer to the question whether a run is finished.
-abbrev pub as-finish : Answer → Finish
-as-finish Done = No
-as-finish (Refused number place) = Unasked number place
-
+-- The same for the question whether a run is finished.
 abbrev pub finished-admitted : List ℕ → Record → Answer → Finish
 finished-admitted t before Done = cond (ended t (values-of t (before .bits))) Yes No
 finished-admitted t before (Refused number place) = Unasked number place

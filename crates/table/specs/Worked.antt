@@ -1,15 +1,15 @@
 -- One table in bytes, worked through by hand from document 01, "The run record and the table": the fields of an event record, the kinds of rows and what
 -- each call answers. Its runs: event 0, then rounds of event 1, of event 2 once or more, and of event 3, the reset, which clears bits 1 and 2.
 use mathlib.Core.Path.{_≡_}
-use mathlib.Core.Bool.{Bool, true, false}
 use mathlib.Core.List.{List, [], _∷_, _++_, map}
-use Prim.Native.Nat.{ℕ, _+_, _*_, _/_, _%_, _^_}
+use Prim.Native.Nat.{ℕ, _*_, _^_}
 use lib.ListN.{take, set, replicate}
 use Rattle.base.specs.Reports.{Report}
 use Rattle.record.specs.declared.Record.{Record}
-use Rattle.layout.specs.Sound.{sized}
 use Rattle.table.specs.Steps.{check-of, step-of, finished-of, offer-of, offer-left}
 use Rattle.table.specs.Reports.{report, finish-report}
+use Rattle.table.specs.declared.Answer.{Answer}
+use Rattle.table.specs.declared.Stepped.{Stepped}
 
 abbrev pub worked : List ℕ
 worked =
@@ -55,33 +55,33 @@ pub data Call : Type 0 where
   offer : Record → List ℕ → Call
 
 -- A line: the call on this table answers this number, and leaves this: step the record's words, offer the lent bytes.
-pub record Line : Type 0 where
+pub record Line (C : Type 0) : Type 0 where
   pub table : List ℕ
-  pub call : Call
+  pub call : C
   pub number : ℕ
   pub left : List ℕ
 
-abbrev on : List ℕ → Call → ℕ → List ℕ → Line
+abbrev pub on : {C : Type 0} → List ℕ → C → ℕ → List ℕ → Line C
 on table call number left = record { table = table; call = call; number = number; left = left }
 
 -- The lines of one record of the table above, by its first byte: a step with an event, finished, and an offer over 65 bytes, which leaves the last.
-abbrev takes : ℕ → ℕ → ℕ → Line
+abbrev takes : ℕ → ℕ → ℕ → Line Call
 takes before e after = on worked (step (holding before) e) 0 (holding after .bits)
 
-abbrev refuses : ℕ → ℕ → ℕ → Line
+abbrev refuses : ℕ → ℕ → ℕ → Line Call
 refuses before e number = on worked (step (holding before) e) number (holding before .bits)
 
-abbrev says : ℕ → ℕ → Line
+abbrev says : ℕ → ℕ → Line Call
 says before number = on worked (finished (holding before)) number []
 
-abbrev offers : ℕ → ℕ → Line
+abbrev offers : ℕ → ℕ → Line Call
 offers before byte = on worked (offer (holding before) (replicate 65 7)) 0 (byte ∷ (replicate 63 0 ++ (7 ∷ [])))
 
 -- The table above with another byte at one place is unsound.
-abbrev damaged : ℕ → ℕ → Line
+abbrev damaged : ℕ → ℕ → Line Call
 damaged at byte = on (set worked at byte) check 12 []
 
-abbrev pub lines : List Line
+abbrev pub lines : List (Line Call)
 lines =
     on worked check 0 []
     -- The blank record: rows 3 and 4 say yes.
@@ -117,43 +117,29 @@ lines =
     ∷ on (set worked 1 5) (offer (holding 8) (replicate 63 7)) 1 (replicate 63 7) ∷ []
 
 -- What a call answers, and what it leaves.
-abbrev pub answered : List ℕ → Call → Report
-answered t check = report (check-of t)
-answered t (step before e) = report (step-of t before e .answer)
-answered t (finished before) = finish-report (finished-of t before)
-answered t (offer before lent) = report (offer-of t before lent)
+pub record Shown (A : Type 0) : Type 0 where
+  pub answer : A
+  pub left : List ℕ
 
-abbrev pub leaves : List ℕ → Call → List ℕ
-leaves t check = []
-leaves t (step before e) = step-of t before e .after .bits
-leaves t (finished before) = []
-leaves t (offer before lent) = offer-left t before lent (offer-of t before lent)
+abbrev pub shown : {A : Type 0} → A → List ℕ → Shown A
+shown answer left = record { answer = answer; left = left }
+
+-- Every line holds, of what the calls do and what stands for a number.
+abbrev pub Each : {A C : Type 0} → (List ℕ → C → Shown A) → (ℕ → A) → List (Line C) → Type 0
+Each {C = C} does told ls = map (λ (l : Line C). does (l .table) (l .call)) ls ≡ map (λ (l : Line C). shown (told (l .number)) (l .left)) ls
+
+abbrev stepped : Stepped → Shown Report
+stepped s = shown (report (s .answer)) (s .after .bits)
+
+abbrev offered : List ℕ → Record → List ℕ → Answer → Shown Report
+offered t before lent a = shown (report a) (offer-left t before lent a)
+
+abbrev pub does : List ℕ → Call → Shown Report
+does t check = shown (report (check-of t)) []
+does t (step before e) = stepped (step-of t before e)
+does t (finished before) = shown (finish-report (finished-of t before)) []
+does t (offer before lent) = offered t before lent (offer-of t before lent)
 
 -- A number with place 0, and no values.
-abbrev told : ℕ → Report
+abbrev pub told : ℕ → Report
 told number = record { number = number; place = 0; values = [] }
-
--- Every line holds.
-abbrev pub Each : List Line → Type 0
-Each ls =
-    (map (λ (l : Line). answered (l .table) (l .call)) ls ≡ map (λ (l : Line). told (l .number)) ls)
-    × (map (λ (l : Line). leaves (l .table) (l .call)) ls ≡ map (λ (l : Line). l .left) ls)
-
--- "E 1 to 512, R 1 to 12,288", both sides of each limit: the size of a table of n events and m rows whose records and rows are all zeros.
-abbrev pub zeros : ℕ → ℕ → List ℕ
-zeros n m = n / 256 ∷ n % 256 ∷ m / 256 ∷ m % 256 ∷ replicate (4 * n + 4 * m) 0
-
-pub record Limit : Type 0 where
-  pub events : ℕ
-  pub rows : ℕ
-  pub fits : Bool
-
-abbrev limit : ℕ → ℕ → Bool → Limit
-limit n m fits = record { events = n; rows = m; fits = fits }
-
-abbrev pub limits : List Limit
-limits =
-    limit 0 1 false ∷ limit 1 0 false ∷ limit 1 1 true ∷ limit 512 1 true ∷ limit 513 1 false ∷ limit 1 12288 true ∷ limit 1 12289 false ∷ []
-
-abbrev pub Sizes : List Limit → Type 0
-Sizes ls = map (λ (l : Limit). sized (zeros (l .events) (l .rows))) ls ≡ map (λ (l : Limit). l .fits) ls

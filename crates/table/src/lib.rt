@@ -4,7 +4,7 @@ ghost use lib.ListN.{take};
 ghost use Rattle.layout.specs.Fields.{events, rows};
 ghost use Rattle.layout.specs.Sound.{sound};
 ghost use Rattle.layout.specs.Values.{values-of};
-ghost use Rattle.table.specs.Steps.{check-of, admit-of, step-of, as-finish, finished-of, offered, offer-of, offer-left};
+ghost use Rattle.table.specs.Steps.{check-of, admit-of, step-of, finished-of, offered, offer-of, offer-left};
 use record::Record;
 
 // Sound, done or offered; or the refusal with its number and place.
@@ -37,14 +37,15 @@ pub fn check(table: &[u8]) -> Answer
 }
 
 // What every call but `check` looks at first, numbers 12 and 13; where there is neither, `values` has what every row says.
-fn admit(t: &[u8], bits: &[u64; 8], values: &mut [bool; 12288]) -> Answer
-    ensures { λ r. ⌜ r ≡ admit-of (now (t .entry)) (now (bits .entry)) ⌝ }
-    ensures { λ r. ⌜ (r ≡ Answer.Done → take (rows (now (t .entry))) (now (values .exit)) ≡ values-of (now (t .entry)) (now (bits .entry))) ⌝ }
+fn admit(t: &[u8], before: Record, values: &mut [bool; 12288]) -> Answer
+    ensures { λ r. ⌜ r ≡ admit-of (now (t .entry)) (before .bits) ⌝ }
+    ensures { λ r. ⌜ (r ≡ Answer.Done → take (rows (now (t .entry))) (now (values .exit)) ≡ values-of (now (t .entry)) (before .bits)) ⌝ }
 {
-    if !layout::work_out(t, bits, values) {
+    let bits = before.bits;
+    if !layout::work_out(t, &bits, values) {
         return Answer::Refused(12, 0);
     }
-    if record::set_past(bits, base::half(t, 0)) {
+    if record::set_past(&bits, base::half(t, 0)) {
         return Answer::Refused(13, 0);
     }
     Answer::Done
@@ -54,9 +55,8 @@ fn admit(t: &[u8], bits: &[u64; 8], values: &mut [bool; 12288]) -> Answer
 pub fn step(table: &[u8], before: Record, event: u64) -> Stepped
     ensures { λ r. ⌜ r ≡ step-of (now (table .entry)) before event ⌝ }
 {
-    let bits = before.bits;
     let mut values = [false; 12288];
-    let answer = admit(table, &bits, &mut values);
+    let answer = admit(table, before, &mut values);
     let Answer::Done = answer else {
         return Stepped {
             answer,
@@ -73,6 +73,7 @@ pub fn step(table: &[u8], before: Record, event: u64) -> Stepped
     let w = base::word(table, 4 + 4 * e);
     let guard = w / layout::GUARD;
     if values[guard] {
+        let bits = before.bits;
         let set = record::set(bits, e);
         let cleared = record::clear(set, w / layout::RUN % layout::RUN, w % layout::RUN);
         return Stepped {
@@ -86,26 +87,15 @@ pub fn step(table: &[u8], before: Record, event: u64) -> Stepped
     }
 }
 
-// What a first look refuses, as the answer to the question whether a run is finished.
-fn as_finish(answer: Answer) -> Finish
-    ensures { λ r. ⌜ r ≡ as-finish answer ⌝ }
-{
-    match answer {
-        Answer::Done => Finish::No,
-        Answer::Refused(number, place) => Finish::Refused(number, place),
-    }
-}
-
 // Whether the last row says yes, of a sound table and a record with no set bit at or past E.
 pub fn finished(table: &[u8], before: Record) -> Finish
     ensures { λ r. ⌜ r ≡ finished-of (now (table .entry)) before ⌝ }
 {
-    let bits = before.bits;
     let mut values = [false; 12288];
-    let answer = admit(table, &bits, &mut values);
-    let Answer::Done = answer else {
-        return as_finish(answer);
-    };
+    let answer = admit(table, before, &mut values);
+    if let Answer::Refused(number, place) = answer {
+        return Finish::Refused(number, place);
+    }
     let last = base::half(table, 2) - 1;
     if values[last] {
         return Finish::Yes;
@@ -141,9 +131,8 @@ pub fn offer(table: &[u8], before: Record, out: &mut [u8]) -> Answer
     if out.len() < 64 {
         return Answer::Refused(1, 0);
     }
-    let bits = before.bits;
     let mut values = [false; 12288];
-    let answer = admit(table, &bits, &mut values);
+    let answer = admit(table, before, &mut values);
     let Answer::Done = answer else {
         return answer;
     };

@@ -1,5 +1,6 @@
 -- `table::gather` meets its contract: after e turns the bits are those of the events below e.
 use mathlib.Core.Path.{_≡_, refl, ap, _∙_}
+use mathlib.Core.Bool.{true, false}
 use mathlib.Core.Logic.{⊎-elim}
 use Prim.Native.Nat.{_≤_, _<_, _-_}
 use native.Mathlib.Omega.{arith}
@@ -7,7 +8,7 @@ use lib.ListN.{take}
 use borrow.Author.Needs.{needs}
 use Rattle.layout.specs.Fields.{events, rows}
 use Rattle.table.specs.Steps.{offered}
-use Rattle.table.proofs.Answered.{guard-within, gather-yes, gather-no}
+use Rattle.table.proofs.Answered.{guard-within, gathered}
 use Rattle.table.proofs.gather.Statement.{statement}
 use Rattle.table.proofs.gather.Tie as tie
 
@@ -38,7 +39,7 @@ loop-again c =
     let h = below l (word .before .loop-test .taken) in
     let W = word .word .ensures .0 in (
       omega arith,
-      ⊎-elim (λ y. y .2 ∙ gather-yes _ ok _ _ _ h W _ (l .loop .inv .1) _ (y .0 .taken) (y .1 .ensures)) (λ x. x .1 ∙ gather-no _ ok _ _ _ h W _ (l .loop .inv .1) (x .0 .left))
+      ⊎-elim (λ y. y .2 ∙ y .1 .ensures ∙ gathered _ _ _ _ _ true ok h W (l .loop .inv .1) (y .0 .taken)) (λ x. x .1 ∙ gathered _ _ _ _ _ false ok h W (l .loop .inv .1) (x .0 .left))
           (c .if1 .came),
     )
 
