@@ -1,7 +1,7 @@
 -- The number of a token says which token it is, and each token of the grammar has the number that the machine wants.
 use mathlib.Core.Path.{_≡_, refl, sym, _∙_, ap}
 use mathlib.Core.Logic.{_⊎_, inl, inr, ⊎-elim}
-use mathlib.Core.Bool.{Bool, true, false, not, _&&_, _||_, cond, false≢true}
+use mathlib.Core.Bool.{Bool, true, false, not, _&&_, _||_, cond, or-false, false≢true}
 use mathlib.Core.List.{List, [], _∷_}
 use Prim.Native.Nat.{ℕ, suc, _+_, _-_, _≤_, _<_}
 use Prim.Native.Char.{code as byte}
@@ -62,10 +62,6 @@ classes b =
 class-chain : (b : ℕ) → class-of b ≡ chain (classes b) 0
 unfolding class-of
 class-chain b = refl
-
-only-one : (b : Bool) → (b || false) ≡ true → b ≡ true
-only-one true e = refl
-only-one false e = e
 
 -- The signs, by the class of their byte.
 abbrev sign-byte : ℕ → ℕ → Bool
@@ -188,7 +184,7 @@ is-sign t h s a e = go (sort t h)
 sign-is : (s v : ℕ) → s ≤ 4 → ((b : ℕ) → sign-byte b s ≡ (eqb b v || false)) → (t : Name) → token t ≡ true → code t ≡ s → t ≡ v ∷ []
 sign-is s v l f t h e =
     let r = is-sign t h s l e in
-    r .1 ∙ ap (λ (b : ℕ). b ∷ []) (eqb-true (r .0) v (only-one (eqb (r .0) v) (sym (f (r .0)) ∙ class-hit (r .0) s (r .2))))
+    r .1 ∙ ap (λ (b : ℕ). b ∷ []) (eqb-true (r .0) v (sym (or-false (eqb (r .0) v)) ∙ (sym (f (r .0)) ∙ class-hit (r .0) s (r .2))))
 
 pub is-opening : (t : Name) → token t ≡ true → code t ≡ 1 → t ≡ opening
 is-opening = sign-is 1 (byte "(") (omega arith) (λ b. refl)

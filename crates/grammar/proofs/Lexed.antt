@@ -5,15 +5,14 @@ use mathlib.Core.Bool.{Bool, true, false, not, _&&_, _||_, false≢true}
 use mathlib.Core.List.{List, [], _∷_, _++_, map, flatten}
 use Prim.Native.Nat.{ℕ, zero, suc, _+_, _≤_}
 use native.Mathlib.Omega.{arith}
-use lib.Dec.{leb}
 use lib.ListN.{length, take, drop, length-append}
 use lib.Seq.{take-append-seam, drop-append-seam}
-use borrow.Author.Tests.{leb-true}
 use Rattle.diagram.specs.Tree.{Name}
-use Rattle.base.proofs.Truth.{and-l, and-r, and-i, is-false, cases, not-i, not-e, clash, or-e}
+use Rattle.base.proofs.Truth.{and-l, and-r, and-i, cases, not-i, not-e, clash, or-e}
 use Rattle.lexer.specs.Classes.{class-of, worded, blank}
 use Rattle.lexer.specs.Words.{front, blanks, every}
 use Rattle.lexer.proofs.Front.{front-every}
+use Rattle.lexer.proofs.Between.{in-range, between-low}
 use Rattle.lexer.specs.Spans.{Span, width, cut, spans, spans-of, tokens}
 use Rattle.grammar.proofs.Token.{token, all-tokens}
 
@@ -32,13 +31,8 @@ abbrev pub apart : List Name → Bool
 apart [] = true
 apart (t ∷ ts) = (not (wordy t) || clear ts) && apart ts
 
-pub classes-differ : (c : ℕ) → (leb 5 c && leb c 7) ≡ true → (leb 8 c && leb c 8) ≡ false
-classes-differ c p =
-    is-false (leb 8 c && leb c 8)
-    (λ q. let a : c ≤ 7 = leb-true c 7 (and-r (leb 5 c) (leb c 7) p) in let b : 8 ≤ c = leb-true 8 c (and-l (leb 8 c) (leb c 8) q) in omega arith)
-
 pub worded-no-blank : (b : ℕ) → worded b ≡ true → blank b ≡ false
-worded-no-blank b p = classes-differ (class-of b) p
+worded-no-blank b p = let r = in-range 5 7 (class-of b) p in between-low 8 8 (class-of b) (omega arith)
 
 -- The first byte, if there is one, does not pass the test.
 abbrev pub stops : (ℕ → Bool) → List ℕ → Bool

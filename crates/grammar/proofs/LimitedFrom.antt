@@ -9,10 +9,10 @@ use native.Mathlib.Omega.{arith}
 use lib.Dec.{eqb, leb}
 use lib.ListN.{length, getD, take, length-take}
 use lib.Seq.{getD-take, take-append-le, take-take}
-use borrow.Author.Tests.{ne-eqb, leb-true}
+use borrow.Author.Tests.{ne-eqb}
 use Rattle.diagram.specs.Tree.{Name}
-use Rattle.base.proofs.Truth.{is-false, and-l, and-r}
 use Rattle.lexer.specs.Words.{code}
+use Rattle.lexer.proofs.Between.{in-range, between-high}
 use Rattle.grammar.proofs.Limits.{count-of, nodes-in, over-limit}
 use Rattle.grammar.specs.Machine.{keyed}
 
@@ -39,10 +39,10 @@ flat c p h =
     rw (o, s)
 
 pub keyed-at-least : (c : ℕ) → keyed c ≡ true → 7 ≤ c
-keyed-at-least c k = leb-true 7 c (and-l (leb 7 c) (leb c 15) k)
+keyed-at-least c k = in-range 7 15 c k .0
 
 pub numeral-unkeyed : (c : ℕ) → 16 ≤ c → keyed c ≡ false
-numeral-unkeyed c h = is-false (keyed c) (λ k. let l = leb-true c 15 (and-r (leb 7 c) (leb c 15) k) in omega arith)
+numeral-unkeyed c h = between-high 7 15 c h
 
 -- The token c is the keyword of a node that is one too many or too deep, where n nodes and p open parentheses stand before it.
 abbrev pub big-at : ℕ → ℕ → ℕ → Bool

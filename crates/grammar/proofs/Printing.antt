@@ -14,6 +14,7 @@ use Rattle.lexer.specs.Spans.{Span, width, cut, spans, spans-of, tokens}
 use Rattle.grammar.proofs.Token.{token}
 use Rattle.grammar.specs.Printed.{printed}
 use Rattle.lexer.proofs.Between.{in-range}
+use Rattle.lexer.proofs.Steps.{width-some}
 use Rattle.grammar.proofs.Lexed.{stops, pieces, cut-is-token, front-stop, worded-no-blank}
 use Rattle.grammar.proofs.Rendered.{usual, usual-class, proper, all-proper}
 
@@ -35,15 +36,8 @@ printed-token (b ∷ []) r p = rw (not-e (blank b) p)
 printed-token (b ∷ c ∷ w) r p = printed-words (b ∷ c ∷ w) r p
 
 -- A token leaves less than there was.
-width-more : (b : ℕ) (bs : List ℕ) → (n : ℕ) × (width (b ∷ bs) ≡ suc n)
-unfolding width front
-width-more b bs = ⊎-elim (λ e. (front worded bs, rw e)) (λ e. (0, rw e)) (cases (worded b))
-
-drop-shortens : (n : ℕ) (bs : List ℕ) → length (drop n bs) ≤ length bs
-drop-shortens n bs = omega (arith, length-drop n bs)
-
 cut-shortens : (b : ℕ) (bs : List ℕ) → length (drop (width (b ∷ bs)) (b ∷ bs)) ≤ length bs
-cut-shortens b bs = let w = width-more b bs in rw (w .1) (drop-shortens (w .0) bs)
+cut-shortens b bs = omega (arith, width-some (b ∷ bs) (omega arith), length-drop (width (b ∷ bs)) (b ∷ bs))
 
 cut-printed : (rest : ℕ → List ℕ → List Span) (f : ℕ)
     → ((at : ℕ) (bs : List ℕ) → length bs ≤ f → flatten (map (λ (s : Span). s .bytes) (rest at bs)) ≡ printed bs)

@@ -52,22 +52,6 @@ word-more t p q s =
     record { taken = and-i (p .taken) (s .taken); proper = and-i (p .sound) (s .proper); spaced = and-i (or-r (not (wordy t)) q) (s .spaced) }
 
 -- The tokens of the grammar.
-fine-opening : Fine opening
-unfolding class-of
-fine-opening = record { taken = refl; sound = refl }
-
-fine-closing : Fine closing
-unfolding class-of
-fine-closing = record { taken = refl; sound = refl }
-
-fine-comma : Fine comma
-unfolding class-of
-fine-comma = record { taken = refl; sound = refl }
-
-fine-colon : Fine colon
-unfolding class-of
-fine-colon = record { taken = refl; sound = refl }
-
 fine-key : (i : ℕ) → i ≤ 8 → Fine (key i)
 unfolding class-of key keywords
 fine-key i h = record { taken = coded-key i h .taken; sound = at-below (λ k. proper (key k)) 9 refl i (omega arith) }
@@ -102,21 +86,27 @@ fine-name n h =
           (every-usual n (and-r (lettered n) (every worded n) (and-l (lettered n && every worded n) (short n && eqb (keyword n) 0) h)));
     }
 
+-- The signs, by a test of each.
+sign-tested : (t : Name) {ts : List Name} → (token t && (proper t && not (wordy t))) ≡ true → Sound ts → Sound (t ∷ ts)
+sign-tested t h =
+    let r = and-r (token t) (proper t && not (wordy t)) h in
+    sign-more t (record { taken = and-l (token t) (proper t && not (wordy t)) h; sound = and-l (proper t) (not (wordy t)) r }) (and-r (proper t) (not (wordy t)) r)
+
 opening-more : {ts : List Name} → Sound ts → Sound (opening ∷ ts)
 unfolding class-of
-opening-more = sign-more opening fine-opening refl
+opening-more = sign-tested opening refl
 
 closing-more : {ts : List Name} → Sound ts → Sound (closing ∷ ts)
 unfolding class-of
-closing-more = sign-more closing fine-closing refl
+closing-more = sign-tested closing refl
 
 comma-more : {ts : List Name} → Sound ts → Sound (comma ∷ ts)
 unfolding class-of
-comma-more = sign-more comma fine-comma refl
+comma-more = sign-tested comma refl
 
 colon-more : {ts : List Name} → Sound ts → Sound (colon ∷ ts)
 unfolding class-of
-colon-more = sign-more colon fine-colon refl
+colon-more = sign-tested colon refl
 
 -- A word and the sign after it.
 before-sign : (t s : Name) {ts : List Name} → not (wordy s) ≡ true → Fine t → Sound (s ∷ ts) → Sound (t ∷ s ∷ ts)
@@ -160,10 +150,10 @@ mutual
 
   flow-sound : (f : Flow) {ts : List Name} → flow-named f ≡ true → flow-sized f ≡ true → Sound ts → Sound (flow-tokens f ts)
   flow-sound (flow n ps sw c r cs) h z s =
-      let token-nodes = and-l (named n && all-named ps) (child-named c && children-named cs) h in
+      let names = and-l (named n && all-named ps) (child-named c && children-named cs) h in
       let parts = and-r (named n && all-named ps) (child-named c && children-named cs) h in
       keyed 0 (omega arith)
-      (pars-sound ps n (and-r (named n) (all-named ps) token-nodes) (fine-name n (and-l (named n) (all-named ps) token-nodes))
+      (pars-sound ps n (and-r (named n) (all-named ps) names) (fine-name n (and-l (named n) (all-named ps) names))
       (comma-more
       (closed (bit sw) (fine-bit sw)
       (opening-more

@@ -13,7 +13,7 @@ use Rattle.diagram.specs.Tree.{Name}
 use Rattle.diagram.specs.Names.{same}
 use Rattle.base.proofs.Truth.{and-l, and-r, is-false}
 use Rattle.lexer.specs.Classes.{between, class-of, letter, worded}
-use Rattle.lexer.specs.Words.{front, place-in, keyword, lettered, numeral, word-code, code}
+use Rattle.lexer.specs.Words.{front, place-in, keyword, short, lettered, numeral, word-code, code}
 use Rattle.lexer.specs.code.Cuts.{cuts, rising}
 use Rattle.lexer.specs.Spans.{width}
 use Rattle.lexer.proofs.Between.{between-in, in-range}
@@ -83,18 +83,20 @@ module _ (w : Name) {b c : ℕ} (B : b ≡ getD w 0 0) (C : c ≡ class-of b) wh
     unfolding word-code
     a-keyword h = rw (a-word, ← K, lt-ltb 0 k h)
 
-    module _ (none : k ≤ 0) where
-      pub a-numeral : {r : ℕ} → (c ≡ 5 → ⊥) → r ≡ numeral w → r ≡ code w
-      unfolding word-code
-      a-numeral f q = rw (a-word, ← K, le-ltb 0 k none, lettered-first, ← B, ← C, not-five c f) q
+    pub no-keyword : k ≤ 0 → code w ≡ cond (between 5 5 c) (cond (short w) 6 5) (numeral w)
+    unfolding word-code
+    no-keyword h = a-word ∙ rw (← K, le-ltb 0 k h, lettered-first, ← B, ← C)
 
-      pub a-long : c ≡ 5 → 24 < length w → 5 ≡ code w
-      unfolding word-code
-      a-long f h = rw (a-word, ← K, le-ltb 0 k none, lettered-first, ← B, ← C, f, lt-leb (length w) 24 h)
+-- What a word is that is no keyword.
+module _ (w : Name) {c : ℕ} (n : code w ≡ cond (between 5 5 c) (cond (short w) 6 5) (numeral w)) where
+  pub a-numeral : {r : ℕ} → (c ≡ 5 → ⊥) → r ≡ numeral w → r ≡ code w
+  a-numeral f q = rw (n, not-five c f) q
 
-      pub a-name : c ≡ 5 → length w ≤ 24 → 6 ≡ code w
-      unfolding word-code
-      a-name f h = rw (a-word, ← K, le-ltb 0 k none, lettered-first, ← B, ← C, f, le-leb (length w) 24 h)
+  pub a-long : c ≡ 5 → 24 < length w → 5 ≡ code w
+  a-long f h = rw (n, f, lt-leb (length w) 24 h)
+
+  pub a-name : c ≡ 5 → length w ≤ 24 → 6 ≡ code w
+  a-name f h = rw (n, f, le-leb (length w) 24 h)
 
 -- How wide the token at the front of a list is, by the run of a word there.
 width-if : (v : Bool) (n : ℕ) → 0 < cond v (suc n) 0 → cond v (cond v (suc n) 0) 1 ≡ cond v (suc n) 0

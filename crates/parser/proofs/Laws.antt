@@ -2,7 +2,7 @@
 -- Assumes nothing.
 use mathlib.Core.Path.{_≡_, refl, sym, ap, _∙_}
 use mathlib.Core.Logic.{⊎-elim}
-use mathlib.Core.Bool.{Bool, true, false, _&&_, _||_, cond}
+use mathlib.Core.Bool.{Bool, true, false, cond, and-false, or-true}
 use mathlib.Core.List.{List, [], _∷_, _++_, append-assoc, append-nil}
 use Prim.Native.Nat.{ℕ, suc, _+_, _-_, _≤_, _<_}
 use native.Mathlib.Nat.{add-zero}
@@ -19,18 +19,10 @@ use Rattle.parser.specs.declared.Step.{Step}
 use Rattle.parser.specs.declared.Step.the-variants.{Go, Stop}
 use Rattle.parser.specs.code.Reading.{from, Before, Reads}
 
-and-no : (b : Bool) → (b && false) ≡ false
-and-no true = refl
-and-no false = refl
-
-or-yes : (b : Bool) → (b || true) ≡ true
-or-yes true = refl
-or-yes false = refl
-
 -- No want takes the number 0, which stands past the end.
 none-takes : (w : Want) (n : ℕ) → expand w n 0 ≡ off
 unfolding expand begin
-none-takes (sign s) n = rw (and-no (eqb 0 s))
+none-takes (sign s) n = rw (and-false (eqb 0 s))
 none-takes (number a b) n = rw (lt-leb (16 + a) 0 (omega arith))
 none-takes params n = refl
 none-takes param n = refl
@@ -199,7 +191,7 @@ module _ (n c : ℕ) where
 
     pub number-above : 16 + b < c → expand (number a b) n c ≡ off
     unfolding expand
-    number-above h = rw (lt-leb c (16 + b) h, and-no (leb (16 + a) c))
+    number-above h = rw (lt-leb c (16 + b) h, and-false (leb (16 + a) c))
 
   pub comma-takes : c ≡ 3 → expand params n c ≡ push 0 (param ∷ [])
   unfolding expand
@@ -229,7 +221,7 @@ module _ (n c : ℕ) where
 
       pub node-above : top < c → expand (node top d) n c ≡ off
       unfolding expand begin
-      node-above h = rw (lt-leb c top h, and-no (leb 7 c))
+      node-above h = rw (lt-leb c top h, and-false (leb 7 c))
 
       module _ (l : 7 ≤ c) (h : c ≤ top) where
         pub node-deep : d ≡ 0 → expand (node top d) n c ≡ big
@@ -238,7 +230,7 @@ module _ (n c : ℕ) where
 
         pub node-many : 256 ≤ n → expand (node top d) n c ≡ big
         unfolding expand begin
-        node-many e = rw (le-leb 7 c l, le-leb c top h, le-leb 256 n e, or-yes (eqb d 0))
+        node-many e = rw (le-leb 7 c l, le-leb c top h, le-leb 256 n e, or-true (eqb d 0))
 
         pub node-opens : (d ≡ 0 → ⊥) → n < 256 → expand (node top d) n c ≡ push 1 (parts c (d - 1) ++ [])
         unfolding expand begin

@@ -1,6 +1,10 @@
 -- `lexer::code` meets its contract: one law for each way through it.
+use mathlib.Core.Path.{_≡_}
+use mathlib.Core.Bool.{cond}
+use Rattle.lexer.specs.Classes.{between}
+use Rattle.lexer.specs.Words.{short, numeral, code}
 use Rattle.lexer.proofs.Between.{between-low, between-high}
-use Rattle.lexer.proofs.Ways.{a-sign, a-keyword, a-numeral, a-long, a-name}
+use Rattle.lexer.proofs.Ways.{a-sign, a-keyword, no-keyword, a-numeral, a-long, a-name}
 use borrow.Author.Needs.{needs}
 use Rattle.lexer.proofs.code.Statement.{statement}
 use Rattle.lexer.proofs.code.Tie as tie
@@ -19,26 +23,21 @@ returns-3 c =
     let f = u .before .before in
     a-keyword _ (f .before .byte .ensures) (f .class .ensures) (u .before .if1 .left) (u .if2 .left) (c .before .keyword .ensures) (c .if3 .taken)
 
-returns-4 : tie.Need-returns-4
-returns-4 c =
-    let k = c .before .before .before in
-    let u = k .before in
+-- The token is a word, and no keyword.
+plain : (c : tie.Else3) → let a = c .before .before .before .before .before .before .before .args .token .now in let k = c .before .before .before .before .class .result in code a ≡ cond (between 5 5 k) (cond (short a) 6 5) (numeral a)
+plain c =
+    let u = c .before .before in
     let f = u .before .before in
-    a-numeral _ (f .before .byte .ensures) (f .class .ensures) (u .before .if1 .left) (u .if2 .left) (k .keyword .ensures) (c .before .before .if3 .left) (c .before .if4 .taken) (c .numeral .ensures)
+    no-keyword _ (f .before .byte .ensures) (f .class .ensures) (u .before .if1 .left) (u .if2 .left) (c .before .keyword .ensures) (c .if3 .left)
+
+returns-4 : tie.Need-returns-4
+returns-4 c = a-numeral _ (plain (c .before .before)) (c .before .if4 .taken) (c .numeral .ensures)
 
 returns-5 : tie.Need-returns-5
-returns-5 c =
-    let k = c .before .before .before in
-    let u = k .before in
-    let f = u .before .before in
-    a-long _ (f .before .byte .ensures) (f .class .ensures) (u .before .if1 .left) (u .if2 .left) (k .keyword .ensures) (c .before .before .if3 .left) (c .before .if4 .left) (c .if5 .taken)
+returns-5 c = a-long _ (plain (c .before .before)) (c .before .if4 .left) (c .if5 .taken)
 
 returns-6 : tie.Need-returns-6
-returns-6 c =
-    let k = c .before .before .before in
-    let u = k .before in
-    let f = u .before .before in
-    a-name _ (f .before .byte .ensures) (f .class .ensures) (u .before .if1 .left) (u .if2 .left) (k .keyword .ensures) (c .before .before .if3 .left) (c .before .if4 .left) (c .if5 .left)
+returns-6 c = a-name _ (plain (c .before .before)) (c .before .if4 .left) (c .if5 .left)
 
 pub code-spec : {M : Type 1} → statement M
 code-spec =
