@@ -41,7 +41,7 @@ module _ (ops : List ℕ) (events : ℕ) (lent : List ℕ) where
   pub none-written : cramped (length ops) events (length lent) ≡ true → TableWritten ops events lent 0 lent
   none-written t =
       let r : room ops events lent ≡ false = room-test (length ops) events (length lent) ∙ ap not t in
-      record { its-plan = λ d s o e y. absurd (clash y r); no-room = λ f. (refl, refl) }
+      record { its-plan = λ d s o e y. absurd (clash y r); any-numbers = λ y. absurd (clash y r); no-room = λ f. (refl, refl) }
 
   -- Where there is some the passes write the plan.
   pub plan-left : (size : ℕ) (left : List ℕ) → cramped (length ops) events (length lent) ≡ false → Passes ops events lent size left
@@ -52,5 +52,6 @@ module _ (ops : List ℕ) (events : ℕ) (lent : List ℕ) where
         its-plan = λ d s o e y.
             let laid = expand-laid d s in
             plan-written (expand d) events lent (laid .numbered) (omega (arith, laid .end, e)) (few (length ops) events (length lent) f .1) size left (rw o at h);
+        any-numbers = λ y. h;
         no-room = λ n. absurd (clash r n);
       }
