@@ -9,7 +9,7 @@ use lib.Dec.{eqb, ltb, leb}
 use borrow.Author.Tests.{eqb-true, eq-eqb, leb-true, leb-false, le-leb, lt-leb}
 use Rattle.base.proofs.Truth.{clash, is-false, and-l, and-r, and-i, or-l, or-r, or-e, or-map}
 use Rattle.lexer.specs.Classes.{between}
-use Rattle.grammar.specs.Machine.{Want, sign, number, params, param, node, more, others, Move, off, big, push, child, member, ref, parts, full, begin, expand, keyed}
+use Rattle.grammar.specs.Machine.{Want, sign, number, params, param, node, more, others, Move, off, big, push, child, member, ref, flow-parts, leaf-parts, group-parts, replicator-parts, loop-parts, parts, full, begin, expand, keyed}
 use Rattle.grammar.proofs.LimitedFrom.{keys, opens, closes, flat, keyed-at-least, numeral-unkeyed, big-at}
 use Rattle.grammar.proofs.Codes.{chosen}
 
@@ -37,23 +37,23 @@ turns-append (v ∷ vs) ws p q r t h = (t .0, t .1, turns-append vs ws (t .0) q 
 
 -- The parts of a node stand one deeper, and close what they open.
 module _ (d p : ℕ) (e : d + suc p ≡ 12) where
-  flow-turns : Turns (sign 1 ∷ sign 6 ∷ params ∷ sign 1 ∷ node child d ∷ ref ++ (more d ∷ [])) p p
+  flow-turns : Turns (flow-parts d) p p
   flow-turns =
       let q : ℕ = suc p in
       let o : Turn (sign 1) p q = omega arith in
       let c : Turn (node child d) q q = omega arith in
       (q, o, (q, omega arith, (p, refl, (q, o, (q, c, (suc q, omega arith, (suc q, refl, (q, omega arith, (p, omega arith, refl)))))))))
 
-  leaf-turns : Turns (sign 1 ∷ sign 6 ∷ sign 2 ∷ []) p p
+  leaf-turns : Turns leaf-parts p p
   leaf-turns = (suc p, omega arith, (suc p, omega arith, (p, omega arith, refl)))
 
-  group-turns : Turns (sign 1 ∷ node member d ∷ node member d ∷ others d ∷ []) p p
+  group-turns : Turns (group-parts d) p p
   group-turns = (suc p, omega arith, (suc p, omega arith, (suc p, omega arith, (p, omega arith, refl))))
 
-  loop-turns : Turns (sign 1 ∷ node member d ∷ sign 2 ∷ []) p p
+  loop-turns : Turns (loop-parts d) p p
   loop-turns = (suc p, omega arith, (suc p, omega arith, (p, omega arith, refl)))
 
-  replicator-turns : Turns (sign 1 ∷ sign 6 ∷ sign 4 ∷ number 1 16 ∷ sign 2 ∷ sign 1 ∷ node member d ∷ sign 2 ∷ []) p p
+  replicator-turns : Turns (replicator-parts d) p p
   replicator-turns = (suc p, omega arith, (suc p, omega arith, (suc p, omega arith, (suc p, refl, (p, omega arith, loop-turns)))))
 
   pub parts-turns : (c : ℕ) → Turns (parts c d) p p

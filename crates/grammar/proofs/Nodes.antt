@@ -12,18 +12,18 @@ use Rattle.lexer.specs.Classes.{between}
 use Rattle.lexer.specs.Words.{named}
 use Rattle.grammar.specs.Tokens.{opening, closing, colon, bit, digits, group-key, replicator-key, ref-tokens, flow-tokens, children-tokens, child-tokens, member-tokens}
 use Rattle.grammar.specs.Named.{all-named, flow-named, children-named, child-named, member-named, members-named}
-use Rattle.grammar.specs.Machine.{Want, sign, number, params, node, more, others, member, child, ref, parts}
+use Rattle.grammar.specs.Machine.{Want, more, member, child, ref, flow-parts, leaf-parts, group-parts, replicator-parts, loop-parts, parts}
 use Rattle.grammar.proofs.Codes.{Coded, coded-opening, coded-closing, coded-colon, coded-digits, coded-bit, coded-name, coded-key, bit-between}
 use Rattle.lexer.proofs.Between.{in-range, between-in}
 use Rattle.grammar.proofs.Stack.{Kind, flows, leaves, groups, replicators, loops, way-small, place, key-of, shape, One, Node, More, is-sign, SpellsAll, the-one, at-opening, at-closing, at-colon, at-name, at-bit, at-size, as-node, as-member}
 
 -- The parts of a node, by its kind.
 abbrev pub parts-of : Kind → ℕ → List Want
-parts-of flows d = sign 1 ∷ sign 6 ∷ params ∷ sign 1 ∷ node child d ∷ ref ++ (more d ∷ [])
-parts-of leaves d = sign 1 ∷ sign 6 ∷ sign 2 ∷ []
-parts-of (groups y) d = sign 1 ∷ node member d ∷ node member d ∷ others d ∷ []
-parts-of (replicators y) d = sign 1 ∷ sign 6 ∷ sign 4 ∷ number 1 16 ∷ sign 2 ∷ sign 1 ∷ node member d ∷ sign 2 ∷ []
-parts-of loops d = sign 1 ∷ node member d ∷ sign 2 ∷ []
+parts-of flows d = flow-parts d
+parts-of leaves d = leaf-parts
+parts-of (groups y) d = group-parts d
+parts-of (replicators y) d = replicator-parts d
+parts-of loops d = loop-parts d
 
 pub parts-kind : (k : Kind) (d : ℕ) → parts (7 + place k) d ≡ parts-of k d
 unfolding parts

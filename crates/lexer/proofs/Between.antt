@@ -2,6 +2,7 @@
 use mathlib.Core.Path.{_≡_, refl, ap, _∙_}
 use mathlib.Core.Bool.{Bool, true, false, not, _||_, cond}
 use mathlib.Core.List.{List}
+use Prim.Native.Char.{code as byte}
 use Prim.Native.Nat.{ℕ, zero, suc, _≤_, _<_}
 use native.Mathlib.Omega.{arith}
 use lib.Dec.{eqb, leb}
@@ -38,13 +39,13 @@ either-small false x y h l = l
 pub class-small : (b : ℕ) → class-of b ≤ 8
 unfolding class-of
 class-small b =
-    either-small (eqb b 40) 1 _ (omega arith)
-    (either-small (eqb b 41) 2 _ (omega arith)
-    (either-small (eqb b 44) 3 _ (omega arith)
-    (either-small (eqb b 58) 4 _ (omega arith)
-    (either-small (between 65 90 b || between 97 122 b) 5 _ (omega arith)
-    (either-small (between 48 57 b) 6 _ (omega arith)
-    (either-small (eqb b 95) 7 _ (omega arith)
+    either-small (eqb b (byte "(")) 1 _ (omega arith)
+    (either-small (eqb b (byte ")")) 2 _ (omega arith)
+    (either-small (eqb b (byte ",")) 3 _ (omega arith)
+    (either-small (eqb b (byte ":")) 4 _ (omega arith)
+    (either-small (between (byte "A") (byte "Z") b || between (byte "a") (byte "z") b) 5 _ (omega arith)
+    (either-small (between (byte "0") (byte "9") b) 6 _ (omega arith)
+    (either-small (eqb b (byte "_")) 7 _ (omega arith)
     (either-small (spacing b) 8 0 (omega arith) (omega arith))))))))
 
 -- Not foreign is one of the other classes.
