@@ -9,6 +9,7 @@ use lib.Dec.{leb}
 use borrow.Author.Tests.{leb-true, le-leb}
 use Rattle.base.proofs.Decided.{all-same-decides}
 use Rattle.base.proofs.Truth.{and-l, and-r}
+use Rattle.diagram.proofs.Ways.{by-way}
 use Rattle.diagram.specs.Tree.{Name, Way, all, some, one, Flow, flow, Children, none, next, Child, plain, loop, group, replicator, Member, leaf, inner, Members, end, also}
 use Rattle.diagram.specs.Names.{equal, same, new}
 use Rattle.diagram.specs.Parameters.{surrounded, flow-parameters, children-parameters, child-parameters, member-parameters, members-parameters}
@@ -56,14 +57,10 @@ kind-form (One size) = form-of 2 one size
 kind-form Loop = form-of 3 all 0
 
 group-form : (y : Way) → kind-form (group-kind y) ≡ form-of 1 y 0
-group-form all = refl
-group-form some = refl
-group-form one = refl
+group-form = by-way (λ y. kind-form (group-kind y)) (λ y. form-of 1 y 0) refl refl refl
 
 replicator-form : (y : Way) (size : ℕ) → kind-form (replicator-kind y size) ≡ form-of 2 y size
-replicator-form all size = refl
-replicator-form some size = refl
-replicator-form one size = refl
+replicator-form y size = by-way (λ y. kind-form (replicator-kind y size)) (λ y. form-of 2 y size) refl refl refl y
 
 group-once : (y z : Way) → group-kind y ≡ group-kind z → y ≡ z
 group-once y z e = ap (λ (f : Form). f .way) (sym (group-form y) ∙ (ap kind-form e ∙ group-form z))

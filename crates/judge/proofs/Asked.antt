@@ -12,7 +12,7 @@ use Rattle.rules.specs.Kept.{titled, one-of, solids-kept, strongs-kept}
 use Rattle.nodes.specs.code.Columns.{node, earlier, from}
 use Rattle.nodes.proofs.Numbered.{node-code, node-depth, titled-name, flow-strong}
 use Rattle.replicators.specs.code.Around.{parameters-at}
-use Rattle.judge.specs.code.Rules.{kept-at, unheard-at, solids-at}
+use Rattle.judge.specs.code.Rules.{kept-at, unused-at, solids-at}
 
 -- The rule r, of the node i whose keyword is k.
 module _ (nm : ℕ → Name) (cs ks ds : List ℕ) (i : ℕ) {k : ℕ} (w : k ≡ getD cs (getD ks i 0) 0) where
@@ -20,8 +20,8 @@ module _ (nm : ℕ → Name) (cs ks ds : List ℕ) (i : ℕ) {k : ℕ} (w : k �
   by-keyword = rw (node-code nm cs ks ds i, w)
 
   module _ {r : ℕ} where
-    pub kept-name : r ≡ 7 → (eqb k 7 || eqb k 8) ≡ true → unheard-at nm cs ks ds i ≡ kept-at r nm cs ks ds i
-    unfolding kept-at unheard-at
+    pub kept-name : r ≡ 7 → (eqb k 7 || eqb k 8) ≡ true → unused-at nm cs ks ds i ≡ kept-at r nm cs ks ds i
+    unfolding kept-at unused-at
     kept-name a e = let t = by-keyword ∙ e in rw (a, t, titled-name nm cs ks ds i t)
 
     pub kept-nameless : r ≡ 7 → (eqb k 7 || eqb k 8) ≡ false → true ≡ kept-at r nm cs ks ds i

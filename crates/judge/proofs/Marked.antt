@@ -18,7 +18,7 @@ use Rattle.rules.specs.TokenNodes.{name-in}
 use Rattle.rules.specs.Kept.{titled}
 use Rattle.nodes.specs.code.Columns.{node, name-at}
 use Rattle.judge.specs.code.Marks.{mark-on, mark-of, Marked, differing}
-use Rattle.judge.proofs.Names.{Unheard, unheard-none, unheard-other}
+use Rattle.judge.proofs.Names.{Unused, unused-none, unused-other}
 
 -- The mark of the word at a place: the bytes before i have the mark h.
 pub record Marking (text : List ℕ) (at h i : ℕ) : Type 0 where
@@ -88,6 +88,6 @@ module _ {text places ks ms : List ℕ} (all : Marked text places ks ms) (i j : 
       ∙ (ap (mark-on 7) (same-decides (name-at text places ks i) (name-at text places ks (j - 1)) .0 q)
       ∙ sym (all .each (j - 1) (omega arith) (omega arith)))))
 
-  pub unheard-marked : {cs ds : List ℕ} → Unheard (name-in text places) cs ks ds i j → Unheard (name-in text places) cs ks ds i (j - 1)
-  unheard-marked {cs} {ds} s =
-      by-cases (titled (node (name-in text places) cs ks ds (j - 1))) (λ e. unheard-other s up e names-differ) (λ e. unheard-none s up e)
+  pub unused-marked : {cs ds : List ℕ} → Unused (name-in text places) cs ks ds i j → Unused (name-in text places) cs ks ds i (j - 1)
+  unused-marked {cs} {ds} s =
+      by-cases (titled (node (name-in text places) cs ks ds (j - 1))) (λ e. unused-other s up e names-differ) (λ e. unused-none s up e)

@@ -12,7 +12,7 @@ ghost use Rattle.rules.specs.Judged.{refuse as refuse-of, verdict as verdict-of
 ghost use Rattle.rules.specs.declared.Verdict.the-variants.{Kept, Refused};
 ghost use Rattle.nodes.specs.code.Columns.{by-columns};
 ghost use Rattle.judge.specs.code.Marks.{mark-of, Marked, differing};
-ghost use Rattle.judge.specs.code.Rules.{rule-of, on-of, last-rules, kept-at, unheard-at, solids-at, NextSolid};
+ghost use Rattle.judge.specs.code.Rules.{rule-of, on-of, last-rules, kept-at, unused-at, solids-at, NextSolid};
 use rules::Verdict;
 
 // The mark of the word that starts at a place: words that have other marks are not the same.
@@ -53,7 +53,7 @@ fn differ(marks: &[usize], i: usize, j: usize) -> bool
 }
 
 // Whether no leaf or flow before the node i has its name.
-fn unheard(
+fn unused(
     text: &[u8],
     codes: &[u8],
     starts: &[u16],
@@ -63,7 +63,7 @@ fn unheard(
 ) -> bool
     requires { ⌜ i < length (now keys) ⌝ }
     requires { ⌜ Marked (now text) (now starts) (now keys) (now marks) ⌝ }
-    ensures { λ r. ⌜ ((ds : List ℕ) → r ≡ unheard-at (name-in (now (text .entry)) (now (starts .entry))) (now (codes .entry)) (now (keys .entry)) ds i) ⌝ }
+    ensures { λ r. ⌜ ((ds : List ℕ) → r ≡ unused-at (name-in (now (text .entry)) (now (starts .entry))) (now (codes .entry)) (now (keys .entry)) ds i) ⌝ }
 {
     let own = nodes::name(starts, keys, i);
     let mut j = i;
@@ -156,7 +156,7 @@ fn kept(
     let c = nodes::keyword(codes, keys, i);
     if rule == 7 {
         if nodes::either(c, 7, 8) {
-            return unheard(text, codes, starts, keys, marks, i);
+            return unused(text, codes, starts, keys, marks, i);
         }
         return true;
     }

@@ -10,7 +10,8 @@ use Rattle.reading.specs.Answers.{read-of}
 use Rattle.reading.specs.declared.Answer.{Answer}
 use Rattle.reading.specs.declared.Answer.the-variants.{Done, Refused as Unread}
 use Rattle.reading.specs.declared.ReadResult.{ReadResult}
-use Rattle.printer.specs.Prints.{passed-on, print-answer, print-of, left-by}
+use Rattle.printer.specs.Prints.{print-answer, print-of, left-by}
+use Rattle.printer.specs.code.PassedOn.{passed-on}
 use Rattle.printer.specs.declared.Printed.{Printed}
 use Rattle.printer.specs.declared.Printed.the-variants.{Bytes, Refused}
 

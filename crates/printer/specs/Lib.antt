@@ -2,3 +2,4 @@ pub mod Prints
 pub mod Bounds
 pub mod Reports
 pub mod Same
+pub mod code

@@ -12,11 +12,6 @@ use Rattle.reading.specs.declared.Answer.the-variants.{Done, Refused as Unread}
 use Rattle.printer.specs.declared.Printed.{Printed}
 use Rattle.printer.specs.declared.Printed.the-variants.{Bytes, Refused}
 
--- The refusal of a text that was not read, passed on; one that was read has none.
-abbrev pub passed-on : Answer → Printed
-passed-on Done = Bytes 0
-passed-on (Unread number place) = Refused number place
-
 -- The answer to a text by what reading it answers.
 abbrev pub print-answer : List ℕ → Answer → Printed
 print-answer text Done = Bytes (length (printed text))

@@ -2,7 +2,8 @@ ghost use mathlib.Core.Path.{_≡_};
 ghost use lib.ListN.{length};
 ghost use Rattle.base.specs.Fill.{fill};
 ghost use Rattle.grammar.specs.Printed.{printed};
-ghost use Rattle.printer.specs.Prints.{passed-on, print-answer, print-of, left-by};
+ghost use Rattle.printer.specs.Prints.{print-answer, print-of, left-by};
+ghost use Rattle.printer.specs.code.PassedOn.{passed-on};
 use reading::Answer;
 
 // How many bytes were written, or the refusal with its number and place.

@@ -1,7 +1,7 @@
 -- Property 1, for reading.
 use mathlib.Core.Path.{_≡_, sym, _∙_, ap, ap₂, subst}
 use mathlib.Core.Logic.{⊎-elim}
-use mathlib.Core.Bool.{true, false}
+use mathlib.Core.Bool.{Bool, true, false}
 use mathlib.Core.List.{List, [], _∷_, head-eq-of-cons-eq}
 use Prim.Native.Nat.{ℕ, _+_, _≤_, _<_}
 use native.Mathlib.Omega.{arith}
@@ -16,6 +16,7 @@ use Rattle.diagram.specs.declared.Diagram.{Diagram}
 use Rattle.base.proofs.Truth.{cases}
 use Rattle.lexer.specs.Spans.{places}
 use Rattle.lexer.proofs.Spans.{tokens-length, places-length, places-below}
+use Rattle.rules.specs.PlacedNodes.{PlacedNode}
 use Rattle.reading.specs.Accepted.{Accepted}
 use Rattle.reading.specs.Answers.{read-of}
 use Rattle.reading.specs.Reports.{report}
@@ -23,7 +24,7 @@ use Rattle.reading.specs.Shows.{Shows}
 use Rattle.reading.specs.declared.Answer.{Answer}
 use Rattle.reading.specs.declared.Answer.the-variants.{Done}
 use Rattle.reading.specs.declared.ReadResult.{ReadResult}
-use Rattle.reading.specs.Refused.{Derived, RefusedAt, by-size, by-byte, by-word, by-token, by-limit, by-name, by-parameter, by-solid, by-strong, by-count}
+use Rattle.reading.specs.Refused.{Derived, Breaks, RefusedAt, by-size, by-byte, by-word, by-token, by-limit, by-name, by-parameter, by-solid, by-strong, by-count}
 use Rattle.reading.specs.Bounds.{Bounded, result, refusal}
 use Rattle.reading.proofs.Exact.{accepted-read, refused-at-read, Fate, taken, refused-at, fate}
 use Rattle.reading.proofs.Shown.{accepted-shown}
@@ -58,6 +59,9 @@ near text c at n e l h k = record { low = omega arith; high = omega arith; close
 derived-near : (text : List ℕ) (d : Flow) (at k : ℕ) → Derived text d → at ≡ getD (places text) k 0 → at ≤ 16384
 derived-near text d at k g e = omega (arith, g .size, place-near text k 0 (omega arith))
 
+broken-near : (text : List ℕ) (d : Flow) (at : ℕ) {kept : PlacedNode → Bool} → Breaks text at d kept → at ≤ 16384
+broken-near text d at b = derived-near text d at (b .token) (b .derived) (b .place)
+
 refused-at-near : (text : List ℕ) (c at : ℕ) → RefusedAt text c at → Near text c at
 refused-at-near text c at (by-size e h) = near text c at 2 e (omega arith) (omega arith) (omega (arith, h .place))
 refused-at-near text c at (by-byte e h) = near text c at 3 e (omega arith) (omega arith) (omega (arith, h .inside, h .size))
@@ -68,9 +72,9 @@ refused-at-near text c at (by-token e h) =
 refused-at-near text c at (by-limit e h) =
     near text c at 6 e (omega arith) (omega arith) (omega (arith, h .place, h .clean .size, place-near text (h .token) (length text) (omega arith)))
 refused-at-near text c at (by-name e d h) = near text c at 7 e (omega arith) (omega arith) (derived-near text d at (h .token + 2) (h .derived) (h .place))
-refused-at-near text c at (by-parameter e d h) = near text c at 8 e (omega arith) (omega arith) (derived-near text d at (h .token) (h .derived) (h .place))
-refused-at-near text c at (by-solid e d h) = near text c at 9 e (omega arith) (omega arith) (derived-near text d at (h .token) (h .derived) (h .place))
-refused-at-near text c at (by-strong e d h) = near text c at 10 e (omega arith) (omega arith) (derived-near text d at (h .token) (h .derived) (h .place))
+refused-at-near text c at (by-parameter e d h) = near text c at 8 e (omega arith) (omega arith) (broken-near text d at (h .broken))
+refused-at-near text c at (by-solid e d h) = near text c at 9 e (omega arith) (omega arith) (broken-near text d at (h .broken))
+refused-at-near text c at (by-strong e d h) = near text c at 10 e (omega arith) (omega arith) (broken-near text d at (h .broken))
 refused-at-near text c at (by-count e d h) = near text c at 11 e (omega arith) (omega arith) (omega (arith, h .place))
 
 -- "Every answer is a result within the limits or one numbered refusal with its place."

@@ -28,7 +28,7 @@ use Rattle.grammar.proofs.Lexed.{text-tokens}
 use Rattle.grammar.proofs.Grammar.{Answered, read, strayed, outgrown, answered, off-viable, off-token, off-end, off-only, big-viable, shorter, derived-once}
 use Rattle.grammar.proofs.LimitedFrom.{over-limit-begun}
 use Rattle.grammar.proofs.Limited.{big-over-limit, off-none-big, whole-none-big}
-use Rattle.rules.specs.PlacedNodes.{flow-placed-nodes, too-big}
+use Rattle.rules.specs.PlacedNodes.{PlacedNode, flow-placed-nodes, too-big}
 use Rattle.rules.specs.Found.{Found, At, Nothing}
 use Rattle.rules.specs.declared.Verdict.{Verdict}
 use Rattle.rules.specs.declared.Verdict.the-variants.{Kept, Refused as Unkept}
@@ -41,7 +41,7 @@ use Rattle.rules.proofs.StrongsKept.{strongs-kept-iff}
 use Rattle.reading.specs.Nodes.{stored}
 use Rattle.reading.specs.Answers.{refused, place-of, judged, scanned, read-of}
 use Rattle.reading.specs.Accepted.{Accepted}
-use Rattle.reading.specs.Refused.{Clean, Off, Big, Derived, RefusedAt, by-size, by-byte, by-word, by-token, by-limit, by-name, by-parameter, by-solid, by-strong, by-count}
+use Rattle.reading.specs.Refused.{Clean, Off, Big, Derived, Breaks, RefusedAt, by-size, by-byte, by-word, by-token, by-limit, by-name, by-parameter, by-solid, by-strong, by-count}
 use Rattle.reading.specs.declared.Answer.{Answer}
 use Rattle.reading.specs.declared.Answer.the-variants.{Done, Refused}
 use Rattle.reading.specs.declared.ReadResult.{ReadResult}
@@ -135,6 +135,11 @@ big-stops text at b = go (answered ts tk)
 numbered : (text : List ℕ) {c at : ℕ} (n p : ℕ) → c ≡ n → at ≡ p → read-of text ≡ refused n p → read-of text ≡ refused c at
 numbered text n p e q r = rw (e, q) r
 
+broken-read : (text : List ℕ) (c at n : ℕ) (d : Flow) {kept : PlacedNode → Bool} (b : Breaks text at d kept) → c ≡ n
+    → tree-verdict (places text) d ≡ Unkept n (getD (places text) (b .token) 0) → read-of text ≡ refused c at
+broken-read text c at n d b e v =
+    numbered text n (getD (places text) (b .token) 0) e (b .place) (by-verdict text d (Unkept n (getD (places text) (b .token) 0)) (b .derived) v)
+
 pub refused-at-read : (text : List ℕ) (c at : ℕ) → RefusedAt text c at → read-of text ≡ refused c at
 refused-at-read text c at (by-size e h) = numbered text 2 at e refl (scanned-as text (Unscanned 2 at) (long-scan text at h))
 refused-at-read text c at (by-byte e h) = numbered text 3 at e refl (scanned-as text (Unscanned 3 at) (foreign-scan text at h))
@@ -147,16 +152,19 @@ refused-at-read text c at (by-name e d h) =
     numbered text 7 (getD (places text) (h .token + 2) 0) e (h .place)
     (by-verdict text d (Unkept 7 (getD (places text) (h .token + 2) 0)) (h .derived) (rw (h .here)))
 refused-at-read text c at (by-parameter e d h) =
-    numbered text 8 (getD (places text) (h .token) 0) e (h .place)
-    (by-verdict text d (Unkept 8 (getD (places text) (h .token) 0)) (h .derived) (rw (names-kept-iff d .1 (h .names), h .here, add-zero (h .token))))
+    broken-read text c at 8 d (h .broken) e (rw (names-kept-iff d .1 (h .names), h .broken .here, add-zero (h .broken .token)))
 refused-at-read text c at (by-solid e d h) =
-    numbered text 9 (getD (places text) (h .token) 0) e (h .place)
-    (by-verdict text d (Unkept 9 (getD (places text) (h .token) 0)) (h .derived)
-    (rw (names-kept-iff d .1 (h .names), parameters-kept-iff d .1 (h .parameters), h .here, add-zero (h .token))))
+    broken-read text c at 9 d (h .broken) e
+    (rw (names-kept-iff d .1 (h .names), parameters-kept-iff d .1 (h .parameters), h .broken .here, add-zero (h .broken .token)))
 refused-at-read text c at (by-strong e d h) =
-    numbered text 10 (getD (places text) (h .token) 0) e (h .place)
-    (by-verdict text d (Unkept 10 (getD (places text) (h .token) 0)) (h .derived)
-    (rw (names-kept-iff d .1 (h .names), parameters-kept-iff d .1 (h .parameters), solids-kept-iff d .1 (h .solids), h .here, add-zero (h .token))))
+    broken-read text c at 10 d (h .broken) e
+    (rw (
+      names-kept-iff d .1 (h .names),
+      parameters-kept-iff d .1 (h .parameters),
+      solids-kept-iff d .1 (h .solids),
+      h .broken .here,
+      add-zero (h .broken .token),
+    ))
 refused-at-read text c at (by-count e d h) =
     numbered text 11 0 e (h .place)
     (by-verdict text d (Unkept 11 0) (h .derived)
@@ -197,15 +205,15 @@ derived-fate text d g = names (twice d) refl
 
     strongs : differ (flow-names d []) ≡ true → flow-parameters d [] ≡ true → each-flow d solid ≡ true → (f : Found) → weak d ≡ f → Fate text
     strongs a b c (At k) e =
-        refused-at 10 (getD ps k 0) (by-strong refl d record { derived = g; names = a; parameters = b; solids = c; token = k; here = e; place = refl })
+        refused-at 10 (getD ps k 0) (by-strong refl d record { names = a; parameters = b; solids = c; broken = record { derived = g; token = k; here = e; place = refl } })
     strongs a b c Nothing e = counts a b c (strongs-kept-iff d .0 e) (few-or-many (flow-copies d) (flow-events d))
 
     solids : differ (flow-names d []) ≡ true → flow-parameters d [] ≡ true → (f : Found) → unsolid d ≡ f → Fate text
-    solids a b (At k) e = refused-at 9 (getD ps k 0) (by-solid refl d record { derived = g; names = a; parameters = b; token = k; here = e; place = refl })
+    solids a b (At k) e = refused-at 9 (getD ps k 0) (by-solid refl d record { names = a; parameters = b; broken = record { derived = g; token = k; here = e; place = refl } })
     solids a b Nothing e = strongs a b (solids-kept-iff d .0 e) (weak d) refl
 
     parameters : differ (flow-names d []) ≡ true → (f : Found) → misplaced d ≡ f → Fate text
-    parameters a (At k) e = refused-at 8 (getD ps k 0) (by-parameter refl d record { derived = g; names = a; token = k; here = e; place = refl })
+    parameters a (At k) e = refused-at 8 (getD ps k 0) (by-parameter refl d record { names = a; broken = record { derived = g; token = k; here = e; place = refl } })
     parameters a Nothing e = solids a (parameters-kept-iff d .0 e) (unsolid d) refl
 
     names : (f : Found) → twice d ≡ f → Fate text

@@ -31,7 +31,7 @@ ats ns = map (λ (n : Node). n .at) ns
 abbrev names : List Node → List ℕ
 names ns = map (λ (n : Node). n .name) ns
 
--- Of nodes and sites with the same keywords.
+-- Of token nodes and placed nodes with the same keywords.
 keywords-along : (text : List ℕ) (hs : List TokenNode) (ss : List PlacedNode) → token-node-keys hs ≡ placed-node-keys ss
     → ats (map (node-of (places text)) hs) ≡ map (keyword-at text) ss
 unfolding node-of keyword-at
@@ -71,7 +71,7 @@ accepted-placed text d a =
       blank = drop-at ns more (length hs) l;
     }
 
--- Nodes with the same views and the same places are the same.
+-- Nodes that are shown alike and have the same places are the same.
 same-node : (text : List ℕ) (m n : Node) → shown-node text m ≡ shown-node text n → m .at ≡ n .at → m .name ≡ n .name → m ≡ n
 unfolding shown-node
 same-node text m n e p q =

@@ -13,6 +13,7 @@ use Rattle.diagram.specs.Tree.{Name, Way, all, some, one, Flow, flow, Children,
 use Rattle.diagram.specs.Count.{flow-nodes, flow-copies, flow-events}
 use Rattle.diagram.specs.Stored.{blank-node}
 use Rattle.diagram.specs.declared.Kind.the-variants.{Flow as FlowKind, Leaf, Loop}
+use Rattle.diagram.proofs.Ways.{by-way}
 use Rattle.diagram.proofs.OneTree.{one-tree}
 use Rattle.base.proofs.Truth.{cases, is-false}
 use Rattle.lexer.specs.Words.{word-at, code}
@@ -65,7 +66,7 @@ kind-named c s =
 unfoldable pub token-node-shown-node : TokenNode → TreeNode
 token-node-shown-node h = tree-node (kind-of (h .code) (h .size)) (h .solid) (h .strong) (h .depth) (h .name)
 
--- A node is told by its place as its tokens have it.
+-- A node shows the name that stands at its place, which its tokens have.
 name-shown : (text ps : List ℕ) (c s k : ℕ) (b : Bool) → titled c ≡ b → has-name (kind-of c s) ≡ b
     → cond (has-name (kind-of c s)) (word-at text (cond (titled c) (getD ps (k + 2) 0) 0)) [] ≡ cond (titled c) (word-at text (getD ps (k + 2) 0)) []
 name-shown text ps c s k true e f = rw (e, f)
@@ -97,9 +98,8 @@ before h v p q = record { law = rw (p, q .law) }
 
 group-shown : (y : Way) (b : Bool) (d k : ℕ) → token-node-shown-node (simple k d (group-code y) [] b) ≡ tree-node (group-kind y) b false d []
 unfolding token-node-shown-node kind-of
-group-shown all b d k = refl
-group-shown some b d k = refl
-group-shown one b d k = refl
+group-shown y b d k =
+    by-way (λ y. token-node-shown-node (simple k d (group-code y) [] b)) (λ y. tree-node (group-kind y) b false d []) refl refl refl y
 
 replicator-shown : (y : Way) (b : Bool) (d k : ℕ) (par : Name) (size : ℕ)
     → token-node-shown-node (record { key = k; depth = d; code = replicator-code y; name = par; size = size; pars = []; strong = false; solid = b })

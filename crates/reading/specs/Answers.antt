@@ -1,6 +1,6 @@
 -- What reading answers, stage by stage: the checks of document 01, "Numbers for what is turned away", in their order. What it means stands in
--- Accepted.antt (`Accepted`) and Refused.antt (`Turned`): a text is read exactly if some diagram is `Accepted` for it, and is refused with a number
--- at a place exactly if it is `Turned` so. This file only says how the stages lead there; the two theorems are
+-- Accepted.antt (`Accepted`) and Refused.antt (`RefusedAt`): a text is read exactly if some diagram is `Accepted` for it, and is refused with a number
+-- at a place exactly if it is `RefusedAt` so. This file only says how the stages lead there; the two theorems are
 -- `reading.proofs.Exact.accepted-exactly` and `reading.proofs.Exact.refused-exactly`.
 use mathlib.Core.List.{List}
 use Prim.Native.Nat.{ℕ}

@@ -1,4 +1,4 @@
--- Where the nodes of a diagram stand in the text, told on its tree.
+-- Where the nodes of a diagram stand in the text, by its tree.
 use mathlib.Core.Path.{_≡_}
 use mathlib.Core.Bool.{false, cond}
 use mathlib.Core.List.{List, [], _∷_, map}
@@ -20,7 +20,7 @@ keyword-at text s = getD (places text) (s .key) 0
 unfoldable pub name-at : List ℕ → TreeNode → PlacedNode → ℕ
 name-at text v s = cond (has-name (v .kind)) (getD (places text) (s .key + 2) 0) 0
 
--- Those of all nodes, each by its view and its site.
+-- Those of all nodes, each by its tree node and its placed node.
 unfoldable pub names-at : List ℕ → List TreeNode → List PlacedNode → List ℕ
 names-at text [] ss = []
 names-at text (v ∷ vs) [] = []

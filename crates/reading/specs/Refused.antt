@@ -1,7 +1,7 @@
 -- Document 01, "Numbers for what is turned away", numbers 2 to 11: the condition of each, with its place, where none before it holds.
 use mathlib.Core.Path.{_≡_}
 use mathlib.Core.Logic.{_⊎_}
-use mathlib.Core.Bool.{true, false}
+use mathlib.Core.Bool.{Bool, true, false}
 use mathlib.Core.List.{List, [], _++_}
 use Prim.Native.Nat.{ℕ, suc, _+_, _≤_, _<_}
 use lib.ListN.{length, getD, take}
@@ -14,7 +14,7 @@ use Rattle.diagram.specs.Flows.{each-flow, solid, strong}
 use Rattle.lexer.specs.Classes.{foreign}
 use Rattle.lexer.specs.Spans.{tokens, places}
 use Rattle.grammar.specs.Derives.{Derives, Viable}
-use Rattle.rules.specs.PlacedNodes.{flow-placed-nodes, too-big, first-twice, first-broken}
+use Rattle.rules.specs.PlacedNodes.{PlacedNode, flow-placed-nodes, too-big, first-twice, first-broken}
 use Rattle.rules.specs.Found.{At}
 use Rattle.reading.specs.Answers.{place-of}
 
@@ -91,32 +91,30 @@ pub record Twice (text : List ℕ) (at : ℕ) (d : Flow) : Type 0 where
   pub here : first-twice [] (flow-placed-nodes d [] 1 0 []) ≡ At token
   pub place : at ≡ getD (places text) (token + 2) 0
 
+-- The first node that does not pass stands at this place, that of its keyword.
+pub record Breaks (text : List ℕ) (at : ℕ) (d : Flow) (kept : PlacedNode → Bool) : Type 0 where
+  pub derived : Derived text d
+  pub token : ℕ
+  pub here : first-broken kept (flow-placed-nodes d [] 1 0 []) ≡ At token
+  pub place : at ≡ getD (places text) token 0
+
 -- 8: "a parameter rule broken", at the "keyword of the first such node".
 pub record Misplaced (text : List ℕ) (at : ℕ) (d : Flow) : Type 0 where
-  pub derived : Derived text d
   pub names : differ (flow-names d []) ≡ true
-  pub token : ℕ
-  pub here : first-broken (λ s. s .parameters) (flow-placed-nodes d [] 1 0 []) ≡ At token
-  pub place : at ≡ getD (places text) token 0
+  pub broken : Breaks text at d (λ s. s .parameters)
 
 -- 9: "solid child rule broken", at the "keyword of the first such flow".
 pub record Unsolid (text : List ℕ) (at : ℕ) (d : Flow) : Type 0 where
-  pub derived : Derived text d
   pub names : differ (flow-names d []) ≡ true
   pub parameters : flow-parameters d [] ≡ true
-  pub token : ℕ
-  pub here : first-broken (λ s. s .solids) (flow-placed-nodes d [] 1 0 []) ≡ At token
-  pub place : at ≡ getD (places text) token 0
+  pub broken : Breaks text at d (λ s. s .solids)
 
 -- 10: "sw 0", at the "keyword of the first such flow".
 pub record Weak (text : List ℕ) (at : ℕ) (d : Flow) : Type 0 where
-  pub derived : Derived text d
   pub names : differ (flow-names d []) ≡ true
   pub parameters : flow-parameters d [] ≡ true
   pub solids : each-flow d solid ≡ true
-  pub token : ℕ
-  pub here : first-broken (λ s. s .strongs) (flow-placed-nodes d [] 1 0 []) ≡ At token
-  pub place : at ≡ getD (places text) token 0
+  pub broken : Breaks text at d (λ s. s .strongs)
 
 -- 11: "over 768 node copies or 512 events", at 0.
 pub record Many (text : List ℕ) (at : ℕ) (d : Flow) : Type 0 where

@@ -8,6 +8,7 @@ use native.Mathlib.Omega.{arith}
 use lib.Dec.{ltb}
 use borrow.Author.Tests.{lt-ltb, le-ltb}
 use Rattle.diagram.specs.Tree.{Way, all, some, one}
+use Rattle.diagram.proofs.Ways.{by-way}
 use Rattle.rules.specs.TokenNodes.{TokenNode, flowing, copying}
 use Rattle.rules.specs.Kept.{around}
 use Rattle.rules.specs.Counted.{times}
@@ -61,21 +62,13 @@ module _ {X : Type 0} {g : ℕ → List TokenNode → X} {add : TokenNode → X 
 
 -- The keywords of a constructor and of a replicator.
 pub group-copies : (y : Way) → copying (group-code y) ≡ false
-group-copies all = refl
-group-copies some = refl
-group-copies one = refl
+group-copies = by-way (λ y. copying (group-code y)) (λ y. false) refl refl refl
 
 pub group-flows : (y : Way) → flowing (group-code y) ≡ false
-group-flows all = refl
-group-flows some = refl
-group-flows one = refl
+group-flows = by-way (λ y. flowing (group-code y)) (λ y. false) refl refl refl
 
 pub replicator-copies : (y : Way) → copying (replicator-code y) ≡ true
-replicator-copies all = refl
-replicator-copies some = refl
-replicator-copies one = refl
+replicator-copies = by-way (λ y. copying (replicator-code y)) (λ y. true) refl refl refl
 
 pub replicator-flows : (y : Way) → flowing (replicator-code y) ≡ false
-replicator-flows all = refl
-replicator-flows some = refl
-replicator-flows one = refl
+replicator-flows = by-way (λ y. flowing (replicator-code y)) (λ y. false) refl refl refl

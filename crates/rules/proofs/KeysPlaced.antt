@@ -1,4 +1,4 @@
--- The keywords of a tree's nodes are the same tokens by the heads and by the sites.
+-- The keywords of a tree's nodes are the same tokens in its token nodes and in its placed nodes.
 use mathlib.Core.Path.{_≡_, refl, ap₂}
 use mathlib.Core.Bool.{false}
 use mathlib.Core.List.{List, [], _∷_, map}

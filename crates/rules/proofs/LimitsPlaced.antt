@@ -21,9 +21,9 @@ use Rattle.grammar.specs.Machine.{keyed}
 use Rattle.grammar.proofs.LimitedFrom.{keys, opens, closes, flat, keyed-at-least, Balanced, big-in, big-here, big-later, big-nil, over-limit-in}
 use Rattle.grammar.proofs.LimitedTrees.{tree-level}
 use Rattle.rules.specs.TokenNodes.{TokenNode, token-node, token-nodes, opened}
-use Rattle.rules.specs.PlacedNodes.{PlacedNode, too-big, flow-placed-nodes}
+use Rattle.rules.specs.PlacedNodes.{PlacedNode, too-big, flow-placed-nodes, flow-placed-node}
 use Rattle.rules.proofs.NodesRead.{tree-token-nodes}
-use Rattle.rules.proofs.NamesAlong.{flow-token-node, flow-placed-node, flow-key, Kinds, along}
+use Rattle.rules.proofs.NamesAlong.{flow-token-node, flow-key, Kinds, along}
 
 -- The same along the nodes as the tokens tell them.
 abbrev big-token-node : ℕ → List TokenNode → ℕ → Bool
@@ -90,7 +90,7 @@ module _ (nm : ℕ → Name) where
       same-level : keyed c ≡ true → Balanced p cs
       same-level q = let l = keyed-at-least c q in let f = flat c p (omega arith) in let z : b .0 ≡ p = omega arith in rw z at (b .2)
 
--- The nodes and the sites of a tree stand at the same tokens and depths.
+-- The nodes of a tree by its tokens and its placed nodes stand at the same tokens and depths.
 Placed : List TokenNode → List PlacedNode → Type 0
 Placed hs ss = (n t : ℕ) → big-token-node n hs t ≡ too-big n ss t
 

@@ -1,4 +1,4 @@
--- The nodes of a tree as heads and as sites, side by side: a law on the two lists that is kept by a node of each kind is kept by the tree.
+-- The nodes of a tree by its tokens and its placed nodes, side by side: a law on the two lists that is kept by a node of each kind is kept by the tree.
 use mathlib.Core.Path.{_≡_, refl}
 use mathlib.Core.Bool.{Bool, true, false, _&&_}
 use mathlib.Core.List.{List, [], _∷_, reverse}
@@ -13,7 +13,7 @@ use Rattle.diagram.specs.Parameters.{surrounded}
 use Rattle.diagram.specs.Flows.{solid}
 use Rattle.rules.specs.TokenNodes.{TokenNode}
 use Rattle.rules.specs.Kept.{titled}
-use Rattle.rules.specs.PlacedNodes.{PlacedNode, placed-node, flow-placed-nodes, children-placed-nodes, child-placed-nodes, member-placed-nodes, members-placed-nodes}
+use Rattle.rules.specs.PlacedNodes.{PlacedNode, placed-node, flow-placed-node, flow-placed-nodes, children-placed-nodes, child-placed-nodes, member-placed-nodes, members-placed-nodes}
 use Rattle.rules.proofs.Trees.{group-code, replicator-code, simple, flow-token-nodes, children-token-nodes, child-token-nodes, member-token-nodes, members-token-nodes}
 
 -- The first node of a flow, and those inside it with those that follow.
@@ -23,17 +23,6 @@ flow-token-node (flow n ps sw c r cs) b d k =
 
 abbrev pub token-nodes-inside : Flow → ℕ → ℕ → List TokenNode → List TokenNode
 token-nodes-inside (flow n ps sw c r cs) d k hs = children-token-nodes (next c r cs) (suc d) (k + (7 + 2 * length ps)) hs
-
-abbrev pub flow-placed-node : Flow → List Name → ℕ → ℕ → PlacedNode
-flow-placed-node (flow n ps sw c r cs) around d k =
-    record {
-      key = k;
-      depth = d;
-      names = n ∷ [];
-      parameters = surrounded around && equal same ps around;
-      solids = solid (flow n ps sw c r cs);
-      strongs = sw;
-    }
 
 pub flow-key : (f : Flow) (b : Bool) (d k : ℕ) (around : List Name) → flow-token-node f b d k .key ≡ flow-placed-node f around d k .key
 flow-key (flow n ps sw c r cs) b d k around = refl
@@ -91,7 +80,7 @@ replicator-untitled all par size b d k = refl
 replicator-untitled some par size b d k = refl
 replicator-untitled one par size b d k = refl
 
--- A law of the heads and the sites from a node on.
+-- A law of both from a node on.
 pub record Kinds (P : List TokenNode → List PlacedNode → Type 0) : Type 0 where
   pub empty : P [] []
   pub at-leaf : (n : Name) (b ok : Bool) (d k : ℕ) (hs : List TokenNode) (ss : List PlacedNode) → P hs ss → P (simple k d 8 n b ∷ hs) (placed-node k d (n ∷ []) ok ∷ ss)

@@ -14,7 +14,7 @@ use Rattle.rules.specs.PlacedNodes.{all-new, first-twice, flow-placed-no
 use Rattle.rules.specs.Found.{Found, At, Nothing}
 use Rattle.rules.proofs.Trees.{group-code, simple, flow-token-nodes, children-token-nodes, child-token-nodes, member-token-nodes, members-token-nodes}
 use Rattle.rules.proofs.NamesAlong.{flow-token-node, group-untitled, replicator-token-node, replicator-untitled}
-use Rattle.rules.proofs.NamesPlaced.{heard, passes, names-placed}
+use Rattle.rules.proofs.NamesPlaced.{used, passes, names-placed}
 
 -- Whether no node breaks a rule, as a test.
 abbrev clean : Found → Bool
@@ -63,16 +63,16 @@ clean-step true n ns seen =
     (sym (and-assoc (new n seen) (all-new ns seen) (new n ns && differ ns)))
 clean-step false n ns seen = refl
 
-clean-names : (hs before : List TokenNode) → clean (fault names-kept before hs) ≡ (all-new (heard hs) (heard before) && differ (heard hs))
+clean-names : (hs before : List TokenNode) → clean (fault names-kept before hs) ≡ (all-new (used hs) (used before) && differ (used hs))
 unfolding fault
 clean-names [] before = refl
 clean-names (h ∷ hs) before =
     rw (clean-cond (names-kept before h hs) (fault names-kept (h ∷ before) hs) (h .key), passes (h .name) (titled h) before, clean-names hs (h ∷ before))
-    (clean-step (titled h) (h .name) (heard hs) (heard before))
+    (clean-step (titled h) (h .name) (used hs) (used before))
 
 -- The nodes' names are the tree's.
 record Says (hs : List TokenNode) (ns : List Name) : Type 0 where
-  told : heard hs ≡ ns
+  told : used hs ≡ ns
 
 says-own : (h : TokenNode) {hs : List TokenNode} {ns : List Name} → titled h ≡ true → Says hs ns → Says (h ∷ hs) (h .name ∷ ns)
 says-own h e s = record { told = rw (e, s .told) }
@@ -110,7 +110,7 @@ mutual
 
 clean-flow : (d : Flow) → clean (fault names-kept [] (flow-token-nodes d false 1 0 [])) ≡ differ (flow-names d [])
 clean-flow d =
-    let s : heard (flow-token-nodes d false 1 0 []) ≡ flow-names d [] = flow-says d false 1 0 (record { told = refl }) .told in
+    let s : used (flow-token-nodes d false 1 0 []) ≡ flow-names d [] = flow-says d false 1 0 (record { told = refl }) .told in
     rw (clean-names (flow-token-nodes d false 1 0 []) [], s, all-new-first (flow-names d []))
 
 pub names-kept-iff : (d : Flow) → (first-twice [] (flow-placed-nodes d [] 1 0 []) ≡ Nothing) ↔ (differ (flow-names d []) ≡ true)

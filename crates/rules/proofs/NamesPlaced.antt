@@ -6,38 +6,38 @@ use Prim.Native.Nat.{ℕ}
 use Rattle.diagram.specs.Tree.{Name, Flow, flow}
 use Rattle.diagram.specs.Names.{same, new}
 use Rattle.rules.specs.TokenNodes.{TokenNode}
-use Rattle.rules.specs.Kept.{titled, unheard, names-kept, fault}
-use Rattle.rules.specs.PlacedNodes.{PlacedNode, all-new, first-twice, flow-placed-nodes}
+use Rattle.rules.specs.Kept.{titled, unused, names-kept, fault}
+use Rattle.rules.specs.PlacedNodes.{PlacedNode, all-new, first-twice, flow-placed-nodes, flow-placed-node}
 use Rattle.rules.proofs.Trees.{flow-token-nodes}
-use Rattle.rules.proofs.NamesAlong.{flow-token-node, flow-placed-node, flow-key, Kinds, along}
+use Rattle.rules.proofs.NamesAlong.{flow-token-node, flow-key, Kinds, along}
 
 -- The names that nodes have, a leaf or flow one and any other node none.
 abbrev pub own : TokenNode → List Name
 own h = cond (titled h) (h .name ∷ []) []
 
-abbrev pub heard : List TokenNode → List Name
-heard [] = []
-heard (h ∷ hs) = own h ++ heard hs
+abbrev pub used : List TokenNode → List Name
+used [] = []
+used (h ∷ hs) = own h ++ used hs
 
 untitled-own : (h : TokenNode) → titled h ≡ false → own h ≡ []
 untitled-own h e = rw e
 
--- A node passes, and a name is unheard, where the names of those before it lack it.
+-- A node passes, and a name is unused, where the names of those before it lack it.
 module _ (n : Name) where
-  unheard-step : (t : Bool) (m : Name) (ns : List Name) → (not (t && same n m) && new n ns) ≡ new n (cond t (m ∷ []) [] ++ ns)
-  unheard-step true m ns = refl
-  unheard-step false m ns = refl
+  unused-step : (t : Bool) (m : Name) (ns : List Name) → (not (t && same n m) && new n ns) ≡ new n (cond t (m ∷ []) [] ++ ns)
+  unused-step true m ns = refl
+  unused-step false m ns = refl
 
-  unheard-new : (before : List TokenNode) → unheard n before ≡ new n (heard before)
-  unheard-new [] = refl
-  unheard-new (h ∷ before) = rw (unheard-new before) (unheard-step (titled h) (h .name) (heard before))
+  unused-new : (before : List TokenNode) → unused n before ≡ new n (used before)
+  unused-new [] = refl
+  unused-new (h ∷ before) = rw (unused-new before) (unused-step (titled h) (h .name) (used before))
 
-  pub passes : (t : Bool) (before : List TokenNode) → cond t (unheard n before) true ≡ all-new (cond t (n ∷ []) []) (heard before)
-  passes true before = rw and-true (unheard-new before)
+  pub passes : (t : Bool) (before : List TokenNode) → cond t (unused n before) true ≡ all-new (cond t (n ∷ []) []) (used before)
+  passes true before = rw and-true (unused-new before)
   passes false before = refl
 
 Placed : List TokenNode → List PlacedNode → Type 0
-Placed hs ss = (before : List TokenNode) → fault names-kept before hs ≡ first-twice (heard before) ss
+Placed hs ss = (before : List TokenNode) → fault names-kept before hs ≡ first-twice (used before) ss
 
 placed-node : (h : TokenNode) (s : PlacedNode) (hs : List TokenNode) (ss : List PlacedNode) → h .key ≡ s .key → own h ≡ s .names → Placed hs ss
     → Placed (h ∷ hs) (s ∷ ss)

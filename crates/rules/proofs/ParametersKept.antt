@@ -31,7 +31,7 @@ unfolding first-broken
 none-broken pass [] = (λ h. refl, λ h. refl)
 none-broken pass (s ∷ ss) = one-and-rest (pass s) (every pass ss) (first-broken pass ss) (s .key) (none-broken pass ss)
 
--- The sites all pass just where `ok` is true, whatever comes after them.
+-- The placed nodes all pass just where `ok` is true, whatever comes after them.
 pub record Passes (pass : PlacedNode → Bool) (ss : List PlacedNode → List PlacedNode) (ok : Bool) : Type 0 where
   pub law : (rest : List PlacedNode) → every pass (ss rest) ≡ (ok && every pass rest)
 

@@ -46,7 +46,7 @@ equal-back l m =
     (λ h. all-same-decides l m .1 (sym (reverse-reverse l) ∙ ap reverse (all-same-decides (reverse l) (reverse m) .0 h) ∙ reverse-reverse m))
     (λ h. all-same-decides (reverse l) (reverse m) .1 (ap reverse (all-same-decides l m .0 h)))
 
--- The test of a node is the site's, for each kind of node. It does not look at the nodes after.
+-- The test of a node by its tokens is that of the placed node, for each kind of node. It does not look at the nodes after.
 module _ (before : List TokenNode) (h : TokenNode) (A : List Name) (e : around (h .depth) before ≡ reverse A) where
   kept-simple : copying (h .code) ≡ false → flowing (h .code) ≡ false → parameters-kept before h [] ≡ surrounded A
   kept-simple p q = rw (e, p, q, length-back A) (and-true (surrounded A))
@@ -58,7 +58,7 @@ module _ (before : List TokenNode) (h : TokenNode) (A : List Name) (e : around (
       → parameters-kept before h [] ≡ (surrounded A && equal same ps A)
   kept-flow ps p q r = rw (e, p, q, r, length-back A, equal-back ps A)
 
--- A node and its site.
+-- A node by its tokens and the placed node.
 pub step : (kept : List TokenNode → TokenNode → List TokenNode → Bool) (pass : PlacedNode → Bool) (before : List TokenNode) (h : TokenNode) (after : List TokenNode) (s : PlacedNode) (rest : List PlacedNode)
     → h .key ≡ s .key → kept before h after ≡ pass s → fault kept (h ∷ before) after ≡ first-broken pass rest
     → fault kept before (h ∷ after) ≡ first-broken pass (s ∷ rest)
@@ -82,7 +82,7 @@ W = record {
   answer = first-broken whole;
 }
 
--- A node with its site, for each kind of node.
+-- A node by its tokens with the placed node, for each kind of node.
 module _ (h : TokenNode) (after : List TokenNode) where
   own-simple : (ns : List Name) → copying (h .code) ≡ false → flowing (h .code) ≡ false
       → Own W h (λ A rest. placed-node (h .key) (h .depth) ns (surrounded A) ∷ rest) after

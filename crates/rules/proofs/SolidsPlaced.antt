@@ -9,9 +9,9 @@ use Rattle.diagram.specs.Tree.{Name, all, some, one, Flow, flow, Children, none
 use Rattle.diagram.specs.Flows as flows
 use Rattle.rules.specs.TokenNodes.{TokenNode}
 use Rattle.rules.specs.Kept.{may-be-solid, solids, one-of, solids-kept, fault}
-use Rattle.rules.specs.PlacedNodes.{first-broken, flow-placed-nodes}
+use Rattle.rules.specs.PlacedNodes.{first-broken, flow-placed-nodes, flow-placed-node}
 use Rattle.rules.proofs.Trees.{group-code, replicator-code, simple, flow-token-nodes, children-token-nodes, child-token-nodes, member-token-nodes, members-token-nodes}
-use Rattle.rules.proofs.NamesAlong.{flow-token-node, token-nodes-inside, flow-placed-node, replicator-token-node, shallow}
+use Rattle.rules.proofs.NamesAlong.{flow-token-node, token-nodes-inside, replicator-token-node, shallow}
 use Rattle.rules.proofs.SolidsStrongs.{Rule, placed}
 
 -- What a child's keyword is, and those of the solid children.

@@ -10,10 +10,10 @@ use Rattle.diagram.specs.Flows.{each-flow, children-flows, child-flows, member-
 use Rattle.base.proofs.Truth.{clash, is-false, or-l}
 use Rattle.rules.specs.TokenNodes.{TokenNode, flowing, leafy}
 use Rattle.rules.specs.Kept.{titled, fault}
-use Rattle.rules.specs.PlacedNodes.{PlacedNode, placed-node, first-broken, flow-placed-nodes, children-placed-nodes, child-placed-nodes, member-placed-nodes, members-placed-nodes}
+use Rattle.rules.specs.PlacedNodes.{PlacedNode, placed-node, first-broken, flow-placed-nodes, children-placed-nodes, child-placed-nodes, member-placed-nodes, members-placed-nodes, flow-placed-node}
 use Rattle.rules.specs.Found.{Nothing}
 use Rattle.rules.proofs.Trees.{simple, flow-token-nodes}
-use Rattle.rules.proofs.NamesAlong.{flow-token-node, token-nodes-inside, flow-placed-node, flow-key, shallow, Kinds, along}
+use Rattle.rules.proofs.NamesAlong.{flow-token-node, token-nodes-inside, flow-key, shallow, Kinds, along}
 use Rattle.rules.proofs.ParametersPlaced.{step}
 use Rattle.rules.proofs.ParametersKept.{none-broken, Passes, passes-none, passes-one, passes-then}
 
@@ -21,7 +21,7 @@ use Rattle.rules.proofs.ParametersKept.{none-broken, Passes, passes-non
 abbrev pub flow-kept : (TokenNode → List TokenNode → Bool) → List TokenNode → TokenNode → List TokenNode → Bool
 flow-kept test before h after = cond (flowing (h .code)) (test h after) true
 
--- The rule by a flow's first node, by its site and by the flow itself.
+-- The rule by a flow's first node, by its placed node and by the flow itself.
 pub record Rule (test : TokenNode → List TokenNode → Bool) (ask : PlacedNode → Bool) (ok : Flow → Bool) : Type 0 where
   pub by-token-nodes : (f : Flow) (b : Bool) (d k : ℕ) (hs : List TokenNode) → shallow d hs ≡ true → test (flow-token-node f b d k) (token-nodes-inside f d k hs) ≡ ok f
   pub by-placed-node : (f : Flow) (around : List Name) (d k : ℕ) → ask (flow-placed-node f around d k) ≡ ok f

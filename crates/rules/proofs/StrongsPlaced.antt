@@ -6,9 +6,9 @@ use Prim.Native.Nat.{ℕ}
 use Rattle.diagram.specs.Tree.{Name, Flow, flow}
 use Rattle.diagram.specs.Flows.{strong}
 use Rattle.rules.specs.Kept.{strongs-kept, fault}
-use Rattle.rules.specs.PlacedNodes.{first-broken, flow-placed-nodes}
+use Rattle.rules.specs.PlacedNodes.{first-broken, flow-placed-nodes, flow-placed-node}
 use Rattle.rules.proofs.Trees.{flow-token-nodes}
-use Rattle.rules.proofs.NamesAlong.{flow-token-node, flow-placed-node}
+use Rattle.rules.proofs.NamesAlong.{flow-token-node}
 use Rattle.rules.proofs.SolidsStrongs.{Rule, placed}
 
 strong-token-node : (f : Flow) (b : Bool) (d k : ℕ) → flow-token-node f b d k .strong ≡ strong f

@@ -14,12 +14,13 @@ use Rattle.rules.specs.Found.{Found, At, Nothing}
 abbrev pub titled : TokenNode → Bool
 titled h = flowing (h .code) || leafy (h .code)
 
-abbrev pub unheard : Name → List TokenNode → Bool
-unheard m [] = true
-unheard m (h ∷ before) = not (titled h && same m (h .name)) && unheard m before
+-- No leaf or flow among those before has this name.
+abbrev pub unused : Name → List TokenNode → Bool
+unused m [] = true
+unused m (h ∷ before) = not (titled h && same m (h .name)) && unused m before
 
 abbrev pub names-kept : List TokenNode → TokenNode → List TokenNode → Bool
-names-kept before h after = cond (titled h) (unheard (h .name) before) true
+names-kept before h after = cond (titled h) (unused (h .name) before) true
 
 -- The pars of the replicators around a node of depth d, the nearest first: a node before it that is less deep is around it, and so on
 -- from that one.

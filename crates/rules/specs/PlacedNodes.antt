@@ -26,19 +26,23 @@ pub record PlacedNode : Type 0 where
 abbrev pub placed-node : ℕ → ℕ → List Name → Bool → PlacedNode
 placed-node k d ns ok = record { key = k; depth = d; names = ns; parameters = ok; solids = true; strongs = true }
 
+-- A flow inside the replicators whose pars are `around`, outermost first.
+abbrev pub flow-placed-node : Flow → List Name → ℕ → ℕ → PlacedNode
+flow-placed-node (flow n ps sw c r cs) around d k = record {
+  key = k;
+  depth = d;
+  names = n ∷ [];
+  parameters = surrounded around && equal same ps around;
+  solids = solid (flow n ps sw c r cs);
+  strongs = sw;
+}
+
 -- The nodes, of which the first is at depth d with its keyword at the token k, inside the replicators whose pars are `around`, outermost
 -- first; and then those given.
 unfoldable mutual
   pub flow-placed-nodes : Flow → List Name → ℕ → ℕ → List PlacedNode → List PlacedNode
   flow-placed-nodes (flow n ps sw c r cs) around d k more =
-      record {
-        key = k;
-        depth = d;
-        names = n ∷ [];
-        parameters = surrounded around && equal same ps around;
-        solids = solid (flow n ps sw c r cs);
-        strongs = sw;
-      }
+      flow-placed-node (flow n ps sw c r cs) around d k
       ∷ child-placed-nodes c around (suc d) (k + (7 + 2 * length ps))
       (children-placed-nodes cs around (suc d) (k + (7 + 2 * length ps) + (length (child-tokens c []) + 3)) more)
 

@@ -6,7 +6,7 @@ use Rattle.judge.proofs.kept.Tie as tie
 
 returns : tie.Need-returns
 returns c =
-    c .unheard .ensures _
+    c .unused .ensures _
     ∙ kept-name _ _ _ _ _ (c .before .before .before .before .keyword .ensures) (c .before .before .before .if1 .taken)
     (sym (c .before .before .either .ensures) ∙ c .before .if2 .taken)
 

@@ -7,7 +7,7 @@ use lib.Dec.{eqb}
 use lib.ListN.{getD}
 use Rattle.diagram.specs.Tree.{Name}
 use Rattle.rules.specs.TokenNodes.{TokenNode}
-use Rattle.rules.specs.Kept.{unheard, solids, names-kept, parameters-kept, solids-kept, strongs-kept, fault}
+use Rattle.rules.specs.Kept.{unused, solids, names-kept, parameters-kept, solids-kept, strongs-kept, fault}
 use Rattle.rules.specs.Judged.{refuse}
 use Rattle.rules.specs.declared.Verdict.{Verdict}
 use Rattle.nodes.specs.code.Columns.{node, earlier, from}
@@ -28,8 +28,8 @@ last-rules (suc n) places hs next = refuse (10 - n) (on-of (10 - n)) places (fau
 unfoldable pub kept-at : ℕ → (ℕ → Name) → List ℕ → List ℕ → List ℕ → ℕ → Bool
 kept-at r nm cs ks ds i = rule-of r (earlier nm cs ks ds i) (node nm cs ks ds i) (from nm cs ks ds (i + 1))
 
-unfoldable pub unheard-at : (ℕ → Name) → List ℕ → List ℕ → List ℕ → ℕ → Bool
-unheard-at nm cs ks ds i = unheard (nm (getD ks i 0 + 2)) (earlier nm cs ks ds i)
+unfoldable pub unused-at : (ℕ → Name) → List ℕ → List ℕ → List ℕ → ℕ → Bool
+unused-at nm cs ks ds i = unused (nm (getD ks i 0 + 2)) (earlier nm cs ks ds i)
 
 -- The keywords of the solid children that a flow of depth d has from the number i on; and those of the node at the front and of the solid
 -- children after it.

@@ -1,5 +1,5 @@
 use mathlib.Core.Path.{ap, sym}
-use Rattle.printer.specs.Prints.{passed-on}
+use Rattle.printer.specs.code.PassedOn.{passed-on}
 use borrow.Author.Needs.{needs}
 use Rattle.printer.proofs.passed_on.Statement.{statement}
 use Rattle.printer.proofs.passed_on.Tie as tie
