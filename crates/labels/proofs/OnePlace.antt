@@ -16,7 +16,7 @@ use Rattle.lexer.specs.Words.{word-at}
 use Rattle.lexer.specs.Spans.{codes, places}
 use Rattle.grammar.specs.Machine.{keyed}
 use Rattle.rules.specs.TokenNodes.{TokenNode, flowing, leafy, copying, token-node, token-nodes, name-in, opened}
-use Rattle.rules.specs.Kept.{unheard, names-kept, fault}
+use Rattle.rules.specs.Kept.{unused, names-kept, fault}
 use Rattle.rules.specs.Found.{Found, At, Nothing}
 use Rattle.rules.proofs.NamesPlaced.{names-placed}
 use Rattle.rules.proofs.NamesKept.{names-kept-iff}
@@ -49,22 +49,22 @@ nodes-past : (before after : List TokenNode) (h : TokenNode) → fault names-kep
 unfolding fault
 nodes-past before after h f = passed (names-kept before h after) (fault names-kept (h ∷ before) after) (h .key) f
 
--- A name that was heard before a node was heard before the next.
+-- A name that was used before a node was used before the next.
 and-false : (x y : Bool) → y ≡ false → (x && y) ≡ false
 and-false true y h = h
 and-false false y h = refl
 
-still-heard : (m : Name) (before : List TokenNode) (h : TokenNode) → unheard m before ≡ false → unheard m (h ∷ before) ≡ false
-still-heard m before h u = and-false (not ((flowing (h .code) || leafy (h .code)) && same m (h .name))) (unheard m before) u
+still-used : (m : Name) (before : List TokenNode) (h : TokenNode) → unused m before ≡ false → unused m (h ∷ before) ≡ false
+still-used m before h u = and-false (not ((flowing (h .code) || leafy (h .code)) && same m (h .name))) (unused m before) u
 
 module _ (nm : ℕ → Name) where
   -- The first of some tokens, which begins a leaf or flow: its node has the name two tokens on.
-  own-heard : (p k c : ℕ) (cs : List ℕ) (before : List TokenNode) → Titled c → unheard (nm (k + 2)) (token-node nm (suc p) k (c ∷ cs) ∷ before) ≡ false
+  own-used : (p k c : ℕ) (cs : List ℕ) (before : List TokenNode) → Titled c → unused (nm (k + 2)) (token-node nm (suc p) k (c ∷ cs) ∷ before) ≡ false
   unfolding token-node
-  own-heard p k c cs before t = rw (t, titled (flowing c) (leafy c) (copying c) t, same-decides (nm (k + 2)) (nm (k + 2)) .1 refl)
+  own-used p k c cs before t = rw (t, titled (flowing c) (leafy c) (copying c) t, same-decides (nm (k + 2)) (nm (k + 2)) .1 refl)
 
   own-kept : (p k c : ℕ) (cs : List ℕ) (before after : List TokenNode) → Titled c → names-kept before (token-node nm (suc p) k (c ∷ cs)) after ≡ true
-      → unheard (nm (k + 2)) before ≡ true
+      → unused (nm (k + 2)) before ≡ true
   unfolding token-node
   own-kept p k c cs before after t h = rw (t, titled (flowing c) (leafy c) (copying c) t) at h
 
@@ -80,18 +80,18 @@ module _ (nm : ℕ → Name) where
   unfolding token-nodes
   none-past p k c cs before e h = rw e at h
 
-  -- A name that was heard is not that of a later leaf or flow, the one at the token j.
-  later : (m : Name) (before : List TokenNode) (p k i j : ℕ) (cs : List ℕ) → unheard m before ≡ false → fault names-kept before (token-nodes nm p k cs) ≡ Nothing
+  -- A name that was used is not that of a later leaf or flow, the one at the token j.
+  later : (m : Name) (before : List TokenNode) (p k i j : ℕ) (cs : List ℕ) → unused m before ≡ false → fault names-kept before (token-nodes nm p k cs) ≡ Nothing
       → Titled (getD cs i 0) → j ≡ k + i → nm (j + 2) ≡ m → ⊥
   later m before p k i j [] u f t e q = false≢true t
   later m before p k zero j (c ∷ cs) u f t e q =
       let here : j ≡ k = omega arith in
       let new = own-kept p k c cs before (token-nodes nm p (suc k) cs) t (first-past p k c cs before (titled-keyed c t) f .0) in
       let name : nm (k + 2) ≡ m = ap (λ (x : ℕ). nm (x + 2)) (sym here) ∙ q in
-      false≢true (sym u ∙ (ap (λ (x : Name). unheard x before) (sym name) ∙ new))
+      false≢true (sym u ∙ (ap (λ (x : Name). unused x before) (sym name) ∙ new))
   later m before p k (suc i) j (c ∷ cs) u f t e q =
       ⊎-elim
-      (λ y. later m (token-node nm (suc p) k (c ∷ cs) ∷ before) p (suc k) i j cs (still-heard m before (token-node nm (suc p) k (c ∷ cs)) u) (first-past p k c cs before y f .1) t (omega arith) q)
+      (λ y. later m (token-node nm (suc p) k (c ∷ cs) ∷ before) p (suc k) i j cs (still-used m before (token-node nm (suc p) k (c ∷ cs)) u) (first-past p k c cs before y f .1) t (omega arith) q)
       (λ y. later m before (opened p c) (suc k) i j cs u (none-past p k c cs before y f) t (omega arith) q)
       (cases (keyed c))
 
@@ -99,7 +99,7 @@ module _ (nm : ℕ → Name) where
   first-later : (before : List TokenNode) (p k i j c : ℕ) (cs : List ℕ) → fault names-kept before (token-nodes nm p k (c ∷ cs)) ≡ Nothing → Titled c
       → Titled (getD cs i 0) → j ≡ suc k + i → nm (j + 2) ≡ nm (k + 2) → ⊥
   first-later before p k i j c cs f s t e q =
-      later (nm (k + 2)) (token-node nm (suc p) k (c ∷ cs) ∷ before) p (suc k) i j cs (own-heard p k c cs before s)
+      later (nm (k + 2)) (token-node nm (suc p) k (c ∷ cs) ∷ before) p (suc k) i j cs (own-used p k c cs before s)
       (first-past p k c cs before (titled-keyed c s) f .1) t e q
 
   -- Two leaves or flows of one name are one.
