@@ -1,11 +1,11 @@
 ghost use mathlib.Core.Path.{_≡_};
-ghost use mathlib.Core.List.{List, [], _∷_};
-ghost use Prim.Native.Nat.{ℕ, _+_, _-_, _*_, _≤_, _<_};
+ghost use mathlib.Core.List.{[], _∷_, _++_};
+ghost use Prim.Native.Nat.{_+_, _-_, _*_, _≤_, _<_};
 ghost use lib.ListN.{length};
 ghost use Rattle.layout.specs.Fields.{bit-row, not-row, both-row, either-row, event-record};
-ghost use Rattle.plan.specs.Pieces.{leaf-piece, rounds-piece, pair-piece, settling, settled-row, after-words, settled-piece, some-piece};
+ghost use Rattle.plan.specs.Pieces.{constants as constants-of, leaf-piece, rounds-piece, pair-piece, settling, settled-row, some-piece};
 ghost use Rattle.guards.specs.Table.{TableWritten};
-ghost use Rattle.guards.specs.code.Rows.{put-rows, listed, Lists, Appends, Adds};
+ghost use Rattle.guards.specs.code.Rows.{put-rows, listed, Lists, Adds};
 ghost use Rattle.guards.specs.code.Passes.{coupled as coupled-of, piece-of, event-count as event-count-of, moved as moved-of, second-count as second-count-of};
 ghost use Rattle.guards.specs.code.Passes.{second-words as second-words-of, gate-row, record-of, put-record, no-rows, first-start, first-pass as first-pass-of, FirstEnds};
 ghost use Rattle.guards.specs.code.Passes.{second-start, second-pass as second-pass-of, SecondEnds, Passes};
@@ -139,47 +139,60 @@ fn join_pair(k: u16, p: PartRows, q: PartRows, done: usize, later: u16) -> Added
     Added { words, part, needs }
 }
 
-// A list with one row more.
-fn add(list: Words, w: usize) -> Words
-    requires { ⌜ list .count < 6 ⌝ }
-    ensures { λ r. ⌜ Appends list r (w ∷ []) ⌝ }
+// How many rows it takes to say that a part is complete or not begun: one, where none says so yet.
+fn unsettled(m: PartRows) -> u16
+    ensures { λ r. ⌜ (r ≡ length (settling m)) × (r ≤ 1) ⌝ }
 {
-    let n = base::wide_short(list.count);
-    let mut words = list.words;
-    words[n] = w;
-    Words {
-        words,
-        count: list.count + 1,
-    }
+    if m.settled == 0 { 1 } else { 0 }
 }
 
-// A list with the row that a part is complete or not begun, where there is none yet.
-fn settle(list: Words, m: PartRows) -> Words
-    requires { ⌜ list .count < 6 ⌝ }
-    ensures { λ r. ⌜ Appends list r (settling m) ⌝ }
-{
-    if m.settled == 0 {
-        return add(list, either_row(m.done, m.idle));
-    }
-    list
-}
-
-// The number of that row, where the next free one is k.
+// The row that says so, where the next free one is k.
 fn settled(k: u16, m: PartRows) -> u16
     ensures { λ r. ⌜ r ≡ settled-row k m ⌝ }
 {
     if m.settled == 0 { k } else { m.settled }
 }
 
-// Either part or both, after the rows that settle the parts: a and b say that the parts are complete or not begun, and j is the next free row.
-fn join_settled(front: Words, j: u16, p: PartRows, q: PartRows, a: u16, b: u16) -> Added
-    requires { ⌜ (front .count ≤ 2) × (j < 12010) ⌝ }
-    ensures { λ r. ⌜ ((ws : List ℕ) → Lists front ws → Adds (after-words ws (settled-piece j p q a b)) r) ⌝ }
+// Four rows, after those that it takes to say of p and of q that they are complete or not begun.
+fn after_settling(p: PartRows, q: PartRows, a: usize, b: usize, c: usize, d: usize) -> Words
+    ensures { λ r. ⌜ Lists r ((settling p ++ settling q) ++ (a ∷ b ∷ c ∷ d ∷ [])) × (r .count ≤ 6) ⌝ }
 {
-    let first = add(front, either_row(p.begun, q.begun));
-    let second = add(first, not_row(j));
-    let third = add(second, both_row(a, b));
-    let words = add(third, both_row(j, j + 2));
+    let s = either_row(p.done, p.idle);
+    let t = either_row(q.done, q.idle);
+    if p.settled == 0 {
+        if q.settled == 0 {
+            return Words {
+                words: [s, t, a, b, c, d],
+                count: 6,
+            };
+        }
+        return Words {
+            words: [s, a, b, c, d, 0],
+            count: 5,
+        };
+    }
+    if q.settled == 0 {
+        return Words {
+            words: [t, a, b, c, d, 0],
+            count: 5,
+        };
+    }
+    Words {
+        words: [a, b, c, d, 0, 0],
+        count: 4,
+    }
+}
+
+// Either part or both: begun, and each part complete or not begun.
+fn join_some(k: u16, p: PartRows, q: PartRows) -> Added
+    requires { ⌜ k < 12000 ⌝ }
+    ensures { λ r. ⌜ Adds (some-piece k p q) r ⌝ }
+{
+    let i = k + unsettled(p);
+    let j = i + unsettled(q);
+    let begun = either_row(p.begun, q.begun);
+    let both = both_row(settled(k, p), settled(i, q));
+    let words = after_settling(p, q, begun, not_row(j), both, both_row(j, j + 2));
     let part = PartRows {
         begun: j,
         idle: j + 1,
@@ -192,27 +205,6 @@ fn join_settled(front: Words, j: u16, p: PartRows, q: PartRows, a: u16, b: u16) 
         earlier: 0,
     };
     Added { words, part, needs }
-}
-
-// Either part or both.
-fn join_some(k: u16, p: PartRows, q: PartRows) -> Added
-    requires { ⌜ k < 12000 ⌝ }
-    ensures { λ r. ⌜ Adds (some-piece k p q) r ⌝ }
-{
-    let none = Words {
-        words: [0usize; 6],
-        count: 0,
-    };
-    let first = settle(none, p);
-    let front = settle(first, q);
-    join_settled(
-        front,
-        k + front.count,
-        p,
-        q,
-        settled(k, p),
-        settled(k + first.count, q),
-    )
 }
 
 // What the part of a number in postfix order adds, by the latest two parts, q and before it p.
@@ -432,17 +424,23 @@ fn second_pass(ops: &[u8], base: usize, first: FirstResult, out: &mut [u8]) -> u
     rows
 }
 
-// Three rows before all others, the two passes, the row that says finished, E and R; answers how many bytes that is.
+// Three rows before all others, of which the third, row 2, says yes always.
+fn constants() -> Words
+    ensures { λ r. ⌜ Lists r constants-of × (r .count ≤ 6) ⌝ }
+{
+    Words {
+        words: [bit_row(0), not_row(0), either_row(0, 1), 0, 0, 0],
+        count: 3,
+    }
+}
+
+// Those rows, the two passes, the row that says finished, E and R; answers how many bytes that is.
 fn both_passes(ops: &[u8], events: usize, out: &mut [u8]) -> usize
     requires { ⌜ (length (now ops) ≤ 1024) × (events ≤ 512) ⌝ }
     ensures { λ r. ⌜ Passes (now (ops .entry)) events (now (out .entry)) r (now (out .exit)) ⌝ }
 {
     let base = 4 + 4 * events;
-    let constants = Words {
-        words: [bit_row(0), not_row(0), either_row(0, 1), 0, 0, 0],
-        count: 3,
-    };
-    write_rows(out, base, 0, constants);
+    write_rows(out, base, 0, constants());
     let first = first_pass(ops, base, out);
     let finished = both_row(first.done, first.done);
     let rows = second_pass(ops, base, first, out);

@@ -12,7 +12,7 @@ use Rattle.guards.proofs.both_passes.Tie as tie
 
 -- Places on the way: the start, after the three rows, after each pass, after the last row.
 abbrev start-of : tie.After-write-rows → tie.Start
-start-of c = c .before .before .before .before .before .before .before
+start-of c = c .before .before .before .before .before
 
 abbrev begun-of : tie.After-first-pass → tie.After-write-rows
 begun-of c = c .before .before .before .before
@@ -28,12 +28,10 @@ last-of c = c .before .before .before
 
 -- The three rows before all others.
 begun : (c : tie.After-write-rows) → c .write-rows .last .0 ≡ put-rows (base-of (start-of c .args .events)) 0 constants (start-of c .args .out .now)
-begun c =
-    let rows = c .before .before in
-    rw (rows .before .before .bit-row .ensures, rows .before .not-row .ensures, rows .either-row .ensures) at (c .write-rows .ensures)
+begun c = rw (c .before .constants .ensures .0 .its-words) at (c .write-rows .ensures)
 
 write-rows-requires : tie.Need-write-rows-requires
-write-rows-requires c κs = let s = c .before .before .before .before .before .before in (omega (arith, s .pre .1), omega arith)
+write-rows-requires c κs = let s = c .before .before .before .before in (omega (arith, s .pre .1), c .constants .ensures .1)
 
 first-pass-requires : tie.Need-first-pass-requires
 first-pass-requires c κs = let s = start-of (c .before .before .before) in (omega (arith, s .pre .1), s .pre .0)
@@ -92,6 +90,6 @@ returns c =
 pub both-passes-spec : {M : Type 1} → statement M
 both-passes-spec =
     tie.close
-    (tie.spec (λ c. search needs) (λ c. search needs) (λ c κs. search needs) (λ c κs. search needs) (λ c κs. search needs) write-rows-requires
+    (tie.spec (λ c. search needs) (λ c. search needs) (λ c κs. search needs) write-rows-requires
     first-pass-requires (λ c κs. search needs) second-pass-requires write-rows-requires-2 (λ c κs. search needs) add-count mul-put-word
     add-put-word (λ c κs. search needs) mul-result add-result same-length returns)

@@ -1,6 +1,6 @@
 -- Rows as the code holds and writes them: for the contracts of private functions.
 use mathlib.Core.Path.{_≡_}
-use mathlib.Core.List.{List, [], _∷_, _++_}
+use mathlib.Core.List.{List, [], _∷_}
 use Prim.Native.Nat.{ℕ, suc, _+_, _*_, _≤_}
 use lib.ListN.{length, take}
 use Rattle.base.specs.Packed.{put-word}
@@ -20,11 +20,6 @@ listed r = take (r .count) (r .words)
 pub record Lists (r : Words) (ws : List ℕ) : Type 0 where
   pub its-count : r .count ≡ length ws
   pub its-words : listed r ≡ ws
-
--- One lists those of another and then these, of which there is one at most.
-pub record Appends (list r : Words) (ws : List ℕ) : Type 0 where
-  pub few : r .count ≤ list .count + 1
-  pub its-list : (vs : List ℕ) → Lists list vs → Lists r (vs ++ ws)
 
 -- The value of a piece.
 pub record Adds (p : Piece) (r : Added) : Type 0 where

@@ -1,0 +1,15 @@
+-- `unsettled` meets its contract.
+use mathlib.Core.Path.{refl}
+use native.Mathlib.Omega.{arith}
+use borrow.Author.Tests.{ne-eqb}
+use Rattle.guards.proofs.unsettled.Statement.{statement}
+use Rattle.guards.proofs.unsettled.Tie as tie
+
+returns : tie.Need-returns
+returns c = rw (c .if1 .taken) (refl, omega arith)
+
+returns-2 : tie.Need-returns-2
+returns-2 c = rw (ne-eqb _ _ (c .if1 .left)) (refl, omega arith)
+
+pub unsettled-spec : {M : Type 1} → statement M
+unsettled-spec = tie.close (tie.spec returns returns-2)
