@@ -60,7 +60,7 @@ use Rattle.table.proofs.step as callee
 use Rattle.table.proofs.step.Symbol as callee-def
 use Rattle.table.proofs.step.Symbol.{name as #table·step}
 use Rattle.table.proofs.step.Met as callee-thm
-use Rattle.inplace.proofs.step.Key.{name as #update·step}
+use Rattle.inplace.proofs.step.Key.{name as #inplace·step}
 use Rattle.inplace.proofs.step as f
 use Rattle.inplace.proofs.step.Statement as stated
 use Rattle.inplace.proofs.step.Code as code
@@ -238,7 +238,7 @@ pub step-spec : {M : Type 1} → stated.statement M
 unfolding code.routine tablesOf
 step-spec 𝓤 H 𝓜 𝓖 𝓡 =
     entered 𝓤 H (tripleOf 𝓤 H (𝓖 .A) f.signature (f.spec 𝓤 H (𝓖 .A) (𝓜 .mem) (𝓡 .run)))
-    (tables 𝓤 H 𝓜 𝓡 code.env .C) (tables 𝓤 H 𝓜 𝓡 code.env .Λ) #update·step code.function (code.unfolded 𝓤 H 𝓜 𝓡)
+    (tables 𝓤 H 𝓜 𝓡 code.env .C) (tables 𝓤 H 𝓜 𝓡 code.env .Λ) #inplace·step code.function (code.unfolded 𝓤 H 𝓜 𝓡)
     (meets 𝓤 H (𝓖 .A) (givenOf 𝓤 H 𝓜 𝓖) (𝓜 .mem) (𝓡 .run) (tablesOf 𝓤 H 𝓜 (tables 𝓤 H 𝓜 𝓡 code.env))
     (cited 𝓤 H (TableStep 𝓤 H (𝓖 .A) (𝓜 .mem) (𝓡 .run)) 𝓜 𝓡 code.env #table·step callee-def.routine code.calls-table·step
     (callee-thm.met 𝓤 H 𝓜 𝓖 𝓡)))
