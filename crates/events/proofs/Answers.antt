@@ -146,11 +146,11 @@ valued-drawn text o e r q h g =
 abbrev refused-at-reading : (text : List ℕ) (o : ReadResult) (number place : ℕ) → o ≡ read-of text → o .answer ≡ Unread number place → Reading text
 refused-at-reading text o number place q h = no-drawing number place (refused-exactly text number place .0 (sym (ap (λ (x : ReadResult). x .answer) q) ∙ h))
 
-pub valued-refused : (text : List ℕ) (o : ReadResult) (e number place : ℕ) (r : Label) → o ≡ read-of text → o .answer ≡ Unread number place → r ≡ passed-on (o .answer)
+pub valued-refused : (text : List ℕ) (o : ReadResult) (e number place : ℕ) (r : Label) → o ≡ read-of text → o .answer ≡ Unread number place → r ≡ Refused number place
     → Valued text e r
 unfolding label-of
 valued-refused text o e number place r q h g =
-    record { reading = refused-at-reading text o number place q h; its-label = g ∙ ap passed-on h }
+    record { reading = refused-at-reading text o number place q h; its-label = g }
 
 -- The name call. A name is not empty, so it stands inside the text.
 pub short-at : (text : List ℕ) (d : Flow) → Accepted text d → (e : ℕ) → e < flow-events d → Short (event-of (expand d) e)

@@ -76,11 +76,10 @@ pub fn values(text: &[u8], event: u64) -> Label
 {
     let o = reader::read(text);
     let answer = o.answer;
-    let Answer::Done = answer else {
-        return passed_on(answer);
-    };
-    let d = o.diagram;
-    labelled(d, event)
+    match answer {
+        Answer::Done => labelled(o.diagram, event),
+        Answer::Refused(number, place) => Label::Refused(number, place),
+    }
 }
 
 // `reset` and a space, or nothing.

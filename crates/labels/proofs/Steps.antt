@@ -19,10 +19,6 @@ use Rattle.labels.specs.Seeks.{next, entered, inside, turn, onward, nowh
 use Rattle.labels.specs.code.Columns.{node-at, nodes-from, weighed}
 use Rattle.labels.proofs.Columns.{nodes-some, nodes-none}
 
--- What was found.
-pub result-none : (t : Step) (s : Search) (p : Spot) → t ≡ Go s → p ≡ nowhere → p ≡ onward t (λ u. nowhere)
-result-none t s p e q = rw e q
-
 module _ (r q : SearchNode) (s : Search) where
   -- One node further, by its depth and how many events it has.
   pub turn-other : (r .depth ≡ suc (s .above) → ⊥) → turn r q s ≡ Go s

@@ -3,9 +3,9 @@ ghost use mathlib.Core.List.{List};
 ghost use Prim.Native.Nat.{ℕ, _+_, _-_, _<_};
 ghost use lib.ListN.{getD, replicate};
 ghost use Rattle.diagram.specs.declared.Nodes.{Nodes};
-ghost use Rattle.labels.specs.Values.{values, push as pushed};
+ghost use Rattle.labels.specs.Values.{push as pushed};
 ghost use Rattle.labels.specs.Weights.{parts as parts-of, resets as resets-of, weight-by};
-ghost use Rattle.labels.specs.Seeks.{next, entered as entered-of, found as found-of, inside as inside-of, turn as turn-of, onward, nowhere, seek as seek-of, begin, spot-of};
+ghost use Rattle.labels.specs.Seeks.{next, entered as entered-of, inside as inside-of, turn as turn-of, seek as seek-of, begin, spot-of};
 ghost use Rattle.labels.specs.code.Columns.{lent, nodes-from, weighed};
 use diagram::Diagram;
 use diagram::Nodes;
@@ -168,28 +168,27 @@ fn entered(depth: usize, size: u8, inner: usize, s: Search) -> Search
     }
 }
 
-fn found(reset: bool, place: usize, s: Search) -> Step
-    ensures { λ r. ⌜ r ≡ found-of reset place s ⌝ }
-{
-    let values = s.values;
-    let spot = Spot {
-        reset,
-        place,
-        values,
-    };
-    Step::Found(spot)
-}
-
 // The event is one of node r's, and q is the node after it.
 fn inside(r: SearchNode, q: SearchNode, s: Search) -> Step
     ensures { λ t. ⌜ t ≡ inside-of r q s ⌝ }
 {
+    let values = s.values;
     if r.kind == postfix::LEAF {
-        return found(false, r.place, s);
+        let spot = Spot {
+            reset: false,
+            place: r.place,
+            values,
+        };
+        return Step::Found(spot);
     }
     if r.kind == diagram::LOOP {
         if q.weight <= s.rest {
-            return found(true, q.place, s);
+            let spot = Spot {
+                reset: true,
+                place: q.place,
+                values,
+            };
+            return Step::Found(spot);
         }
     }
     Step::Go(entered(r.depth, r.size, q.weight, s))
@@ -215,31 +214,6 @@ fn turn(r: SearchNode, q: SearchNode, s: Search) -> Step
         return Step::Go(further);
     }
     inside(r, q, s)
-}
-
-fn none() -> Values
-    ensures { λ r. ⌜ r ≡ values 0 0 0 0 ⌝ }
-{
-    Values {
-        count: 0,
-        first: 0,
-        second: 0,
-        third: 0,
-    }
-}
-
-// What a search has found.
-fn result(t: Step) -> Spot
-    ensures { λ r. ⌜ r ≡ onward t (λ s. nowhere) ⌝ }
-{
-    let Step::Found(p) = t else {
-        return Spot {
-            reset: false,
-            place: 0,
-            values: none(),
-        };
-    };
-    p
 }
 
 // Node i of those that count; past them there is none.
@@ -284,10 +258,16 @@ pub fn seek<'a>(
 ) -> Spot
     ensures { λ r. ⌜ r ≡ seek-of (nodes-from (lent (now (kinds .entry)) (now (sizes .entry)) (now (depths .entry)) (now (names .entry)) count) (now (weights .entry)) 0 count) (begin event) ⌝ }
 {
+    let none = Values {
+        count: 0,
+        first: 0,
+        second: 0,
+        third: 0,
+    };
     let mut s = Search {
         above: 0,
         rest: event,
-        values: none(),
+        values: none,
     };
     let mut r = node(kinds, sizes, depths, names, weights, count, 0);
     let mut i = 0;
@@ -295,13 +275,21 @@ pub fn seek<'a>(
         i += 1;
         let q = node(kinds, sizes, depths, names, weights, count, i);
         let t = turn(r, q, s);
-        let Step::Go(next) = t else {
-            return result(t);
-        };
-        s = next;
+        match t {
+            Step::Found(spot) => {
+                return spot;
+            }
+            Step::Go(next) => {
+                s = next;
+            }
+        }
         r = q;
     }
-    result(Step::Go(s))
+    Spot {
+        reset: false,
+        place: 0,
+        values: none,
+    }
 }
 
 // What an event number of a diagram stands for.
