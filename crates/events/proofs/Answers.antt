@@ -1,7 +1,7 @@
 -- What the calls answer for a drawing, by what each event number stands for.
 use mathlib.Core.Path.{_≡_, refl, sym, ap, ap₂, _∙_, subst}
 use mathlib.Core.Bool.{true, false, cond}
-use mathlib.Core.List.{List, [], _∷_, _++_, append-nil}
+use mathlib.Core.List.{List, [], _∷_, _++_, append-nil, append-assoc}
 use Prim.Native.Nat.{ℕ, zero, suc, _+_, _-_, _≤_, _<_}
 use native.Mathlib.Omega.{arith}
 use denote.Ref.{RefT, now}
@@ -27,6 +27,7 @@ use Rattle.process.specs.Process.{Event, event-of, events}
 use Rattle.process.specs.Expand.{expand}
 use Rattle.process.proofs.Events.{events-counted, event-in-order}
 use Rattle.output.specs.Decimal.{decimal}
+use Rattle.output.specs.Lines.{refused-line}
 use Rattle.output.specs.Buffer.{Buffer, buffer, put-all}
 use Rattle.output.proofs.Buffers.{put-all-fill}
 use Rattle.labels.specs.Values.{packed}
@@ -39,7 +40,7 @@ use Rattle.reading.specs.Reading.{Reading, drawing, no-drawing}
 use Rattle.events.specs.Labels.{label, label-of, Valued}
 use Rattle.events.specs.Names.{name-of, Placed, Part, Named}
 use Rattle.events.specs.Listing.{first-line, spaced, line, lines, listing, Listed}
-use Rattle.events.specs.code.Spots.{Word, passed-on, refusal-line, spot-label, spaced-values, spot-line, spot-lines, spot-listing}
+use Rattle.events.specs.code.Spots.{Word, spot-label, spot-head, spaced-values, spot-line, spot-lines, spot-listing}
 use Rattle.events.specs.declared.Label.{Label}
 use Rattle.events.specs.declared.Label.the-variants.{Leaf, Reset, Refused}
 use Rattle.events.proofs.Short.{Short, each-at, events-short}
@@ -216,8 +217,8 @@ spaced-packed (a ∷ b ∷ c ∷ []) h = rw (append-nil (decimal c))
 spaced-packed (a ∷ b ∷ c ∷ x ∷ vs) h = let z : ⊥ = omega arith in absurd z
 
 spot-line-is : (text : List ℕ) (e : ℕ) (l : Event) (s : Spot) → Labels (Stands text) l s → length (l .values) ≤ 3 → spot-line text e s ≡ line e l
-unfolding spot-line line
-spot-line-is text e l s g h = rw (g .mark, g .its-values, g .named .its-name, spaced-packed (l .values) h)
+unfolding spot-line spot-head line
+spot-line-is text e l s g h = rw (g .mark, g .its-values, g .named .its-name, spaced-packed (l .values) h) (append-assoc (decimal e) _ _)
 
 -- From event e on, of n.
 spot-lines-are : (text : List ℕ) (g : Diagram) (ls : List Event) (e n : ℕ) → e + n ≡ length ls
@@ -260,7 +261,7 @@ listed-drawn text lent left o r q h m w =
     listed text lent left (drawing (d .tree) (d .its-limits)) (spot-listing text (o .diagram)) r (spot-listing-is text o d) m w
 
 pub listed-refused : (text lent left : List ℕ) (o : ReadResult) (number place r : ℕ) → o ≡ read-of text → o .answer ≡ Unread number place → length lent ≡ 32768
-    → buffer r left ≡ put-all (refusal-line (o .answer)) (buffer 0 lent) → Listed text lent r left
+    → buffer r left ≡ put-all (refused-line number place) (buffer 0 lent) → Listed text lent r left
 unfolding listing
 listed-refused text lent left o number place r q h m w =
-    listed text lent left (refused-at-reading text o number place q h) (refusal-line (o .answer)) r (ap refusal-line h) m w
+    listed text lent left (refused-at-reading text o number place q h) (refused-line number place) r refl m w

@@ -2,8 +2,8 @@ ghost use mathlib.Core.Path.{_≡_};
 ghost use Rattle.output.specs.Buffer.{buffer, put-all};
 ghost use Rattle.events.specs.Names.{Named};
 ghost use Rattle.events.specs.Labels.{Valued};
-ghost use Rattle.events.specs.Listing.{mark as mark-of, Listed};
-ghost use Rattle.events.specs.code.Spots.{Word, passed-on, refusal-line, spot-label, spaced-value, spaced-values, spot-line, spot-lines, spot-listing};
+ghost use Rattle.events.specs.Listing.{Listed};
+ghost use Rattle.events.specs.code.Spots.{Word, spot-label, spot-head, spaced-value, spaced-values, spot-line, spot-lines, spot-listing};
 use diagram::Diagram;
 use labels::Spot;
 use labels::Values;
@@ -60,16 +60,6 @@ fn labelled(d: Diagram, event: u64) -> Label
     Label::Leaf(values)
 }
 
-// The refusal of a text that was not read, passed on.
-fn passed_on(answer: Answer) -> Label
-    ensures { λ r. ⌜ r ≡ passed-on answer ⌝ }
-{
-    match answer {
-        Answer::Done => Label::Refused(0, 0),
-        Answer::Refused(number, place) => Label::Refused(number, place),
-    }
-}
-
 // The values of an event, with a mark that tells a reset from a leaf, or the refusal: 2 to 11 for the text, 14 for a number at or past E.
 pub fn values(text: &[u8], event: u64) -> Label
     ensures { λ r. ⌜ Valued (now (text .entry)) event r ⌝ }
@@ -82,14 +72,15 @@ pub fn values(text: &[u8], event: u64) -> Label
     }
 }
 
-// `reset` and a space, or nothing.
-fn mark(out: &mut [u8], at: usize, reset: bool) -> usize
-    ensures { λ r. ⌜ buffer r (now (out .exit)) ≡ put-all (mark-of reset) (buffer at (now (out .entry))) ⌝ }
+// The number of an event, and `reset` for a reset, a space after each.
+fn head(out: &mut [u8], at: usize, e: usize, reset: bool) -> usize
+    ensures { λ r. ⌜ buffer r (now (out .exit)) ≡ put-all (spot-head e reset) (buffer at (now (out .entry))) ⌝ }
 {
+    let a = output::number(out, at, e);
     if reset {
-        return output::bytes(out, at, b"reset ");
+        return output::bytes(out, a, b" reset ");
     }
-    at
+    output::bytes(out, a, b" ")
 }
 
 // A value after a space, if it is there.
@@ -116,12 +107,10 @@ fn line(text: &[u8], out: &mut [u8], at: usize, e: usize, s: Spot) -> usize
     ensures { λ r. ⌜ buffer r (now (out .exit)) ≡ put-all (spot-line (now (text .entry)) e s) (buffer at (now (out .entry))) ⌝ }
 {
     let values = s.values;
-    let a = output::number(out, at, e);
-    let b = output::bytes(out, a, b" ");
-    let c = mark(out, b, s.reset);
-    let d = output::bytes(out, c, word(text, s.place));
-    let f = spaced(out, d, values);
-    output::bytes(out, f, b"\n")
+    let a = head(out, at, e, s.reset);
+    let b = output::bytes(out, a, word(text, s.place));
+    let c = spaced(out, b, values);
+    output::bytes(out, c, b"\n")
 }
 
 // The lines of all events.
@@ -156,16 +145,6 @@ fn drawn(text: &[u8], d: Diagram, out: &mut [u8]) -> usize
     lines(text, out, at, d)
 }
 
-// The line of a text that was not read.
-fn write_refusal(answer: Answer, out: &mut [u8]) -> usize
-    ensures { λ r. ⌜ buffer r (now (out .exit)) ≡ put-all (refusal-line answer) (buffer 0 (now (out .entry))) ⌝ }
-{
-    match answer {
-        Answer::Done => 0,
-        Answer::Refused(number, place) => output::refused(out, 0, number, place),
-    }
-}
-
 // The listing of a text: events and node copies, then each event with its number, name and values, `reset` before a reset's; or `refused`, number and place. Answers
 // how many bytes there are; those past them stay.
 pub fn list(text: &[u8], out: &mut [u8; 32768]) -> usize
@@ -173,9 +152,8 @@ pub fn list(text: &[u8], out: &mut [u8; 32768]) -> usize
 {
     let o = reader::read(text);
     let answer = o.answer;
-    let Answer::Done = answer else {
-        return write_refusal(answer, out);
-    };
-    let d = o.diagram;
-    drawn(text, d, out)
+    match answer {
+        Answer::Done => drawn(text, o.diagram, out),
+        Answer::Refused(number, place) => output::refused(out, 0, number, place),
+    }
 }

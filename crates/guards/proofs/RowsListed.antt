@@ -5,7 +5,7 @@ use Prim.Native.Nat.{ℕ, _+_, _≤_}
 use native.Mathlib.Omega.{arith}
 use lib.ListN.{length, take}
 use lib.Seq.{take-append-le, length-take-le}
-use Rattle.table.specs.Fields.{not-row, both-row, either-row}
+use Rattle.layout.specs.Fields.{not-row, both-row, either-row}
 use Rattle.plan.specs.declared.PartRows.{PartRows}
 use Rattle.plan.specs.Pieces.{part-rows, settling, settled-row, some-piece}
 use Rattle.guards.specs.code.Rows.{Lists, Adds}

@@ -8,15 +8,16 @@ use Rattle.events.proofs.line.Tie as tie
 returns : tie.Need-returns
 unfolding spot-line
 returns c =
-    let w = same-put _ _ _ (c .before .before .before .before .before .before .before .before .before .before .before .bytes2 .ensures) (c .before .before .before .before .before .before .before .before .before .before .before .before .word .ensures .its-word) in
-    before _ _ _ (c .before .before .before .before .before .before .before .before .before .before .before .before .before .before .before .before .before .before .before .before .before .before .before .before .before .number .ensures)
-    (before _ _ _ (c .before .before .before .before .before .before .before .before .before .before .before .before .before .before .before .before .before .before .before .before .bytes .ensures)
-    (before _ _ _ (c .before .before .before .before .before .before .before .before .before .before .before .before .before .before .before .before .mark .ensures)
-    (before _ _ _ w
-    (before _ _ _ (c .before .before .before .before .before .before .before .spaced .ensures) (c .before .before .bytes3 .ensures)))))
+    let end = c .before .before in
+    let values = end .before .before .before .before .before in
+    let name = values .before .before .before .before in
+    let head = name .before .before .before .before .before in
+    before _ _ _ (head .head .ensures)
+    (before _ _ _ (same-put _ _ _ (name .bytes .ensures) (name .before .word .ensures .its-word))
+    (before _ _ _ (values .spaced .ensures) (end .bytes2 .ensures)))
 
 pub line-spec : {M : Type 1} → statement M
 line-spec =
     tie.close
-    (tie.spec (λ c κs. search needs) (λ c. search needs) (λ c κs. search needs) (λ c κs. search needs) (λ c κs. search needs)
-    (λ c κs. search needs) (λ c κs. search needs) (λ c. search needs) (λ c κs. search needs) (λ c. search needs) returns)
+    (tie.spec (λ c κs. search needs) (λ c κs. search needs) (λ c κs. search needs) (λ c κs. search needs) (λ c. search needs)
+    (λ c κs. search needs) (λ c. search needs) returns)
