@@ -1,11 +1,11 @@
 -- What each rule asks of a node, by its keyword. Assumes nothing.
-use mathlib.Core.Path.{_≡_, refl, sym, _∙_}
+use mathlib.Core.Path.{_≡_, sym, _∙_}
 use mathlib.Core.Bool.{Bool, true, false, _||_, cond}
 use mathlib.Core.List.{List}
 use Prim.Native.Nat.{ℕ, _+_}
 use lib.Dec.{eqb}
 use lib.ListN.{drop, getD}
-use borrow.Author.Tests.{eq-eqb, ne-eqb}
+use borrow.Author.Tests.{ne-eqb}
 use Rattle.diagram.specs.Tree.{Name}
 use Rattle.rules.specs.TokenNodes.{strong-of}
 use Rattle.rules.specs.Kept.{titled, one-of, solids-kept, strongs-kept}

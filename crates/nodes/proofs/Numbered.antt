@@ -9,7 +9,7 @@ use lib.ListN.{length, drop, getD}
 use lib.Seq.{drop-nil, getD-drop}
 use Rattle.diagram.specs.Tree.{Name}
 use Rattle.base.proofs.Truth.{or-l, or-r, or-e, or-map}
-use Rattle.rules.specs.TokenNodes.{TokenNode, flowing, leafy, copying, solid-of, par-count, strong-of, pars-back, token-node}
+use Rattle.rules.specs.TokenNodes.{flowing, leafy, copying, solid-of, par-count, strong-of, pars-back, token-node}
 use Rattle.rules.specs.Kept.{titled}
 use Rattle.nodes.specs.code.Columns.{by-columns, node, earlier, from}
 use Rattle.nodes.proofs.Tokens.{first-token}

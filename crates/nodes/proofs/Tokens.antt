@@ -1,43 +1,70 @@
 -- What the tokens of a node say: the end of its parentheses, whether it is a solid child, a flow's pars. Assumes nothing.
 use mathlib.Core.Path.{_≡_, refl, sym, _∙_}
-use mathlib.Core.Bool.{Bool, true, false, _&&_, _||_}
+use mathlib.Core.Bool.{Bool, true, false, _&&_, _||_, cond}
 use mathlib.Core.List.{List, [], _∷_}
 use Prim.Native.Nat.{ℕ, suc, _+_, _-_, _≤_, _<_}
-use native.Mathlib.Nat.{add-zero, add-suc, suc-add}
+use native.Mathlib.Nat.{add-zero, zero-add, add-suc, suc-add}
 use native.Mathlib.Numerals.{add-one}
 use native.Mathlib.Omega.{arith}
-use lib.Dec.{eqb}
-use lib.ListN.{length, drop, getD, drop-of-length-le, length-drop, List·getD-eq-default}
+use lib.Dec.{eqb, ltb, leb}
+use lib.ListN.{length, drop, getD, drop-of-length-le, List·getD-eq-default}
 use lib.Seq.{drop-cons, drop-drop, getD-drop}
-use borrow.Author.Tests.{ne-eqb, le-leb, lt-leb}
-use Rattle.rules.specs.TokenNodes.{flowing, copying, reach, extent, solid-of, par-count, strong-of}
+use borrow.Author.Tests.{ne-eqb, le-leb, lt-leb, ltb-true, ltb-false}
+use Rattle.base.proofs.Truth.{by-cases}
+use Rattle.rules.specs.TokenNodes.{flowing, copying, reach, extent, solid-of, par-count, strong-of, opened}
 
 -- Past the end of a column there is 0 wherever one looks.
 pub past-end : (l : List ℕ) (m n : ℕ) → length l ≤ m → length l ≤ n → getD l m 0 ≡ getD l n 0
 past-end l m n h k = List·getD-eq-default l 0 h ∙ sym (List·getD-eq-default l 0 k)
 
--- Along the parentheses, of which l are open before the token i.
-module _ (cs : List ℕ) (i l : ℕ) where
-  pub reach-end : length cs ≤ i → i + reach l (drop i cs) ≡ i
+pub opened-le : (p c : ℕ) → opened p c ≤ suc p
+opened-le p c = go (eqb c 1) (eqb c 2)
+  where
+    go : (a b : Bool) → cond a (suc p) (cond b (p - 1) p) ≤ suc p
+    go true b = omega arith
+    go false true = omega arith
+    go false false = omega arith
+
+-- Along the parentheses from the token `at` on, of which l are open before the token i.
+pub record Reaching (cs : List ℕ) (at l i : ℕ) : Type 0 where
+  pub few : l ≤ i
+  pub is : i + reach l (drop i cs) ≡ at + reach 0 (drop at cs)
+
+pub reach-start : (cs : List ℕ) (at : ℕ) → Reaching cs at 0 at
+reach-start cs at = record { few = omega arith; is = refl }
+
+module _ {cs : List ℕ} {at l i : ℕ} (s : Reaching cs at l i) where
+  pub reach-end : length cs ≤ i → i ≡ at + reach 0 (drop at cs)
   unfolding reach
-  reach-end h = rw (drop-of-length-le cs h) (add-zero i)
+  reach-end h = sym (sym (s .is) ∙ rw (drop-of-length-le cs h) (add-zero i))
 
-  module _ (h : i < length cs) where
-    pub reach-open : getD cs i 0 ≡ 1 → i + reach l (drop i cs) ≡ i + 1 + reach (l + 1) (drop (i + 1) cs)
+  -- The token is c, and m are open after it.
+  module _ (h : i < length cs) {c m : ℕ} (w : c ≡ getD cs i 0) (o : m ≡ opened l c) where
+    one-on : i + reach l (drop i cs) ≡ i + 1 + cond (eqb c 1) (reach (suc l) (drop (i + 1) cs)) (cond (eqb c 2) (cond (leb l 1) 0 (reach (l - 1) (drop (i + 1) cs))) (reach l (drop (i + 1) cs)))
     unfolding reach
-    reach-open e = rw (drop-cons cs i 0 h, e, add-one i, add-one l) (add-suc _ _ ∙ sym (suc-add _ _))
+    one-on = rw (drop-cons cs i 0 h, ← w, add-one i) (add-suc _ _ ∙ sym (suc-add _ _))
 
-    pub reach-close : getD cs i 0 ≡ 2 → 1 < l → i + reach l (drop i cs) ≡ i + 1 + reach (l - 1) (drop (i + 1) cs)
-    unfolding reach
-    reach-close e g = rw (drop-cons cs i 0 h, e, lt-leb l 1 g, add-one i) (add-suc _ _ ∙ sym (suc-add _ _))
+    closed : c ≡ 2 → m ≡ l - 1
+    closed e = rw e at o
 
-    pub reach-last : getD cs i 0 ≡ 2 → l ≤ 1 → i + reach l (drop i cs) ≡ i + 1
-    unfolding reach
-    reach-last e g = rw (drop-cons cs i 0 h, e, le-leb l 1 g)
+    pub reach-last : c ≡ 2 → m ≡ 0 → i + 1 ≡ at + reach 0 (drop at cs)
+    reach-last e z = let p = closed e in (rw (e, le-leb l 1 (omega arith), add-zero (i + 1)) at (sym one-on)) ∙ s .is
 
-    pub reach-other : (getD cs i 0 ≡ 1 → ⊥) → (getD cs i 0 ≡ 2 → ⊥) → i + reach l (drop i cs) ≡ i + 1 + reach l (drop (i + 1) cs)
-    unfolding reach
-    reach-other e f = rw (drop-cons cs i 0 h, ne-eqb (getD cs i 0) 1 e, ne-eqb (getD cs i 0) 2 f, add-one i) (add-suc _ _ ∙ sym (suc-add _ _))
+    pub reach-close : c ≡ 2 → (m ≡ 0 → ⊥) → Reaching cs at m (i + 1)
+    reach-close e f =
+        let p = closed e in
+        let g : 1 < l = omega arith in
+        record { few = omega (arith, s .few); is = rw p ((rw (e, lt-leb l 1 g) at (sym one-on)) ∙ s .is) }
+
+    pub reach-other : (c ≡ 2 → ⊥) → Reaching cs at m (i + 1)
+    reach-other f =
+        let ne = ne-eqb c 2 f in
+        record {
+          few = omega (arith, s .few, o, opened-le l c);
+          is =
+              by-cases (eqb c 1) (λ t. rw (rw t at o) ((rw t at (sym one-on)) ∙ s .is)) (λ t.
+              rw (rw (t, ne) at o) ((rw (t, ne) at (sym one-on)) ∙ s .is));
+        }
 
 -- The end of a node, by the ends of its one or two pairs of parentheses.
 module _ (cs : List ℕ) (k : ℕ) where
@@ -68,34 +95,56 @@ module _ (cs : List ℕ) (k : ℕ) where
   unfolding solid-of extent reach
   solid-none h = rw (drop-of-length-le cs h)
 
--- Along a flow's pars.
-module _ (cs : List ℕ) (i : ℕ) where
-  pub pars-end : length cs ≤ i + 1 → par-count (drop i cs) ≡ 0
-  pars-end h = short (drop i cs) (rw (length-drop i cs) (omega arith))
-    where
-      short : (l : List ℕ) → length l ≤ 1 → par-count l ≡ 0
-      short [] h = unfold par-count in refl
-      short (x ∷ []) h = unfold par-count in refl
-      short (x ∷ y ∷ l) h = let z : ⊥ = omega arith in absurd z
+-- Along a flow's pars, of which n are passed.
+pub record Pars (cs : List ℕ) (k n : ℕ) : Type 0 where
+  pub few : n + n ≤ length cs - 3
+  pub is : n + par-count (drop (n + n) (drop 3 (drop k cs))) ≡ par-count (drop 3 (drop k cs))
 
-  module _ (h : i + 1 < length cs) where
-    pars-two : drop i cs ≡ getD cs i 0 ∷ getD cs (i + 1) 0 ∷ drop (i + 2) cs
-    pars-two =
-        let a : i < length cs = omega arith in
-        let b : suc i < length cs = omega arith in
-        let e : suc (suc i) ≡ i + 2 = omega arith in
-        rw (drop-cons cs i 0 a, drop-cons cs (suc i) 0 b, add-one i, e)
+pub pars-start : (cs : List ℕ) (k : ℕ) → Pars cs k 0
+pars-start cs k = record { few = omega arith; is = zero-add _ }
 
-    pub pars-stop : (getD cs (i + 1) 0 ≡ 6 → ⊥) → par-count (drop i cs) ≡ 0
-    unfolding par-count
-    pars-stop f = rw (pars-two, ne-eqb (getD cs (i + 1) 0) 6 f)
+par-more : (l : List ℕ) → getD l 1 0 ≡ 6 → par-count l ≡ suc (par-count (drop 2 l))
+unfolding par-count
+par-more [] e = let z : ⊥ = omega arith in absurd z
+par-more (s ∷ []) e = let z : ⊥ = omega arith in absurd z
+par-more (s ∷ c ∷ cs) e = rw e
 
-    pub pars-more : getD cs (i + 1) 0 ≡ 6 → par-count (drop i cs) ≡ suc (par-count (drop (i + 2) cs))
-    unfolding par-count
-    pars-more e = rw (pars-two, e)
+par-stop : (l : List ℕ) → (getD l 1 0 ≡ 6 → ⊥) → par-count l ≡ 0
+unfolding par-count
+par-stop [] f = refl
+par-stop (s ∷ []) f = refl
+par-stop (s ∷ c ∷ cs) f = rw (ne-eqb c 6 f)
 
-pub pars-none : (cs : List ℕ) (k : ℕ) → length cs ≤ k + 3 → 0 ≡ par-count (drop 3 (drop k cs))
-pars-none cs k h = rw (drop-drop 3 k cs) (sym (pars-end cs (k + 3) (omega arith)))
+-- A token that is not 0 stands before the end.
+inside : (l : List ℕ) (j : ℕ) → getD l j 0 ≡ 6 → j < length l
+inside l j e =
+    by-cases (ltb j (length l)) (λ t. ltb-true j (length l) t) (λ f.
+    let z : ⊥ = omega (arith, e, List·getD-eq-default l 0 (ltb-false j (length l) f)) in absurd z)
+
+-- What stands after the next comma is c.
+module _ {cs : List ℕ} {k n c : ℕ} (s : Pars cs k n) (w : c ≡ getD cs (k + (3 + (n + n + 1))) 0) where
+  next : getD (drop (n + n) (drop 3 (drop k cs))) 1 0 ≡ c
+  next = rw (getD-drop (n + n) (drop 3 (drop k cs)) 1 0, getD-drop 3 (drop k cs) (n + n + 1) 0, getD-drop k cs (3 + (n + n + 1)) 0) (sym w)
+
+  pub pars-end : (c ≡ 6 → ⊥) → (n ≡ par-count (drop 3 (drop k cs))) × (n + n ≤ length cs - 3)
+  pars-end f = (
+    let z = par-stop (drop (n + n) (drop 3 (drop k cs))) (λ e. f (sym next ∙ e)) in omega (arith, s .is, z),
+    s .few,
+  )
+
+  module _ (e : c ≡ 6) where
+    pub pars-inside : k + (3 + (n + n + 1)) < length cs
+    pars-inside = inside cs (k + (3 + (n + n + 1))) (sym w ∙ e)
+
+    pub pars-more : Pars cs k (n + 1)
+    pars-more =
+        let l = drop 3 (drop k cs) in
+        let j : n + n + 2 ≡ n + 1 + (n + 1) = omega arith in
+        let t : drop 2 (drop (n + n) l) ≡ drop (n + 1 + (n + 1)) l = rw (drop-drop 2 (n + n) l, j) in
+        record {
+          few = omega (arith, pars-inside);
+          is = omega (arith, s .is, rw t at (par-more (drop (n + n) l) (next ∙ e)));
+        }
 
 pub strong-at : (cs : List ℕ) (k m : ℕ) → m ≡ par-count (drop 3 (drop k cs)) → eqb (getD cs (k + (3 + (m + m + 1))) 0) 17 ≡ strong-of (drop 3 (drop k cs))
 unfolding strong-of

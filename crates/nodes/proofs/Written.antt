@@ -1,11 +1,10 @@
 -- The columns of keywords and depths while they are written. Assumes nothing.
 use mathlib.Core.Path.{_≡_, refl, sym, ap, _∙_}
-use mathlib.Core.Bool.{Bool, true, false, cond}
+use mathlib.Core.Bool.{true, false}
 use mathlib.Core.List.{List, [], _∷_, _++_, append-assoc, append-nil}
-use Prim.Native.Nat.{ℕ, suc, _+_, _-_, _≤_, _<_}
+use Prim.Native.Nat.{ℕ, _+_, _-_, _≤_, _<_}
 use native.Mathlib.Numerals.{add-one}
 use native.Mathlib.Omega.{arith}
-use lib.Dec.{eqb}
 use lib.ListN.{length, drop, getD, set, drop-of-length-le, length-append, length-set}
 use lib.Seq.{drop-cons}
 use Rattle.lexer.specs.Classes.{between}
@@ -13,6 +12,7 @@ use Rattle.base.specs.Fill.{fill}
 use Rattle.base.proofs.Filled.{fill-none, fill-next}
 use Rattle.rules.specs.TokenNodes.{opened}
 use Rattle.nodes.specs.code.Columns.{keys, depths}
+use Rattle.nodes.proofs.Tokens.{opened-le}
 
 -- A lent column over whose front n of the values `all` are written, so that it is `held`; `left` are those that are not.
 pub record Column (lent held all left : List ℕ) (n : ℕ) : Type 0 where
@@ -56,50 +56,47 @@ pub along-start : (cs ks ds : List ℕ) → Along cs ks ds ks ds 0 0 0
 along-start cs ks ds =
     record { few = omega arith; inside = omega arith; first = column-none ks (keys 0 cs); second = column-none ds (depths 0 cs) }
 
-opened-le : (p c : ℕ) (a b : Bool) → cond a (suc p) (cond b (p - 1) p) ≤ suc p
-opened-le p c true b = omega arith
-opened-le p c false true = omega arith
-opened-le p c false false = omega arith
-
-module _ (cs : List ℕ) (k : ℕ) (h : k < length cs) where
-  keys-more : between 7 15 (getD cs k 0) ≡ true → keys k (drop k cs) ≡ k ∷ keys (k + 1) (drop (k + 1) cs)
+-- One more token, c.
+module _ (cs : List ℕ) (k c : ℕ) (h : k < length cs) (w : c ≡ getD cs k 0) where
+  keys-more : between 7 15 c ≡ true → keys k (drop k cs) ≡ k ∷ keys (k + 1) (drop (k + 1) cs)
   unfolding keys
-  keys-more e = rw (drop-cons cs k 0 h, e, add-one k)
+  keys-more e = rw (drop-cons cs k 0 h, ← w, e, add-one k)
 
-  keys-same : between 7 15 (getD cs k 0) ≡ false → keys k (drop k cs) ≡ keys (k + 1) (drop (k + 1) cs)
+  keys-same : between 7 15 c ≡ false → keys k (drop k cs) ≡ keys (k + 1) (drop (k + 1) cs)
   unfolding keys
-  keys-same e = rw (drop-cons cs k 0 h, e, add-one k)
+  keys-same e = rw (drop-cons cs k 0 h, ← w, e, add-one k)
 
-  depths-more : (p : ℕ) → between 7 15 (getD cs k 0) ≡ true → depths p (drop k cs) ≡ (p + 1) ∷ depths p (drop (k + 1) cs)
+  depths-more : (p : ℕ) → between 7 15 c ≡ true → depths p (drop k cs) ≡ (p + 1) ∷ depths p (drop (k + 1) cs)
   unfolding depths
-  depths-more p e = rw (drop-cons cs k 0 h, e, add-one k, add-one p)
+  depths-more p e = rw (drop-cons cs k 0 h, ← w, e, add-one k, add-one p)
 
-  depths-same : (p : ℕ) → between 7 15 (getD cs k 0) ≡ false → depths p (drop k cs) ≡ depths (opened p (getD cs k 0)) (drop (k + 1) cs)
+  depths-same : (p : ℕ) → between 7 15 c ≡ false → depths p (drop k cs) ≡ depths (opened p c) (drop (k + 1) cs)
   unfolding depths
-  depths-same p e = rw (drop-cons cs k 0 h, e, add-one k)
+  depths-same p e = rw (drop-cons cs k 0 h, ← w, e, add-one k)
 
-  pub along-node : {ks₀ ds₀ ks ds : List ℕ} {n p : ℕ} → between 7 15 (getD cs k 0) ≡ true → Along cs ks₀ ds₀ ks ds n p k
-      → Along cs ks₀ ds₀ (set ks n k) (set ds n (p + 1)) (n + 1) p (k + 1)
-  along-node {p = p} e a =
-      record {
+module _ {cs ks₀ ds₀ ks ds : List ℕ} {n p k c : ℕ} (a : Along cs ks₀ ds₀ ks ds n p k) (h : k < length cs) (w : c ≡ getD cs k 0) where
+  pub along-node : {ks₁ ds₁ : List ℕ} → between 7 15 c ≡ true → ks₁ ≡ set ks n k → ds₁ ≡ set ds n (p + 1) → Along cs ks₀ ds₀ ks₁ ds₁ (n + 1) p (k + 1)
+  along-node e x y =
+      rw (x, y)
+      (record {
         few = omega (arith, a .few);
         inside = omega (arith, a .inside);
-        first = column-next k (rw (keys-more e) at (a .first));
-        second = column-next (p + 1) (rw (depths-more p e) at (a .second));
-      }
+        first = column-next k (rw (keys-more cs k c h w e) at (a .first));
+        second = column-next (p + 1) (rw (depths-more cs k c h w p e) at (a .second));
+      })
 
-  pub along-other : {ks₀ ds₀ ks ds : List ℕ} {n p : ℕ} → between 7 15 (getD cs k 0) ≡ false → Along cs ks₀ ds₀ ks ds n p k
-      → Along cs ks₀ ds₀ ks ds n (opened p (getD cs k 0)) (k + 1)
-  along-other {p = p} e a =
-      record {
+  pub along-other : {q : ℕ} → between 7 15 c ≡ false → q ≡ opened p c → Along cs ks₀ ds₀ ks ds n q (k + 1)
+  along-other e o =
+      rw o
+      (record {
         few = omega (arith, a .few);
-        inside = omega (arith, a .inside, opened-le p (getD cs k 0) (eqb (getD cs k 0) 1) (eqb (getD cs k 0) 2));
-        first = rw (keys-same e) at (a .first);
-        second = rw (depths-same p e) at (a .second);
-      }
+        inside = omega (arith, a .inside, opened-le p c);
+        first = rw (keys-same cs k c h w e) at (a .first);
+        second = rw (depths-same cs k c h w p e) at (a .second);
+      })
 
 -- At the end of the tokens the columns are as they are to be.
-module _ (cs : List ℕ) (k : ℕ) (h : length cs ≤ k) {ks₀ ds₀ ks ds : List ℕ} {n p : ℕ} (a : Along cs ks₀ ds₀ ks ds n p k) where
+module _ {cs ks₀ ds₀ ks ds : List ℕ} {n p k : ℕ} (h : length cs ≤ k) (a : Along cs ks₀ ds₀ ks ds n p k) where
   no-keys : keys k (drop k cs) ≡ []
   unfolding keys
   no-keys = rw (drop-of-length-le cs h)

@@ -10,7 +10,7 @@ ghost use Rattle.lexer.specs.Classes.{between};
 ghost use Rattle.rules.specs.TokenNodes.{reach as reach-of, extent, solid-of, par-count, strong-of, opened as opened-of};
 ghost use Rattle.nodes.specs.code.Columns.{keys as keys-of, depths as depths-of, by-columns};
 
-// The number k + on; where a column of this length ends before it, the length: there is 0 in both places.
+// The number k + on, or the end of a column where it ends before that: past its end there is 0 in either place.
 fn ahead(end: usize, k: usize, on: usize) -> usize
     ensures { λ r. ⌜ ((xs : List ℕ) → length xs ≡ end → getD xs r 0 ≡ getD xs (k + on) 0) ⌝ }
 {
@@ -37,6 +37,7 @@ pub fn place(starts: &[u16], k: usize, on: usize) -> usize
     base::wide_short(base::short(starts, ahead(starts.len(), k, on)))
 }
 
+// Whether a number is one of a range, or one of two.
 pub fn within(low: u8, high: u8, c: u8) -> bool
     ensures { λ r. ⌜ r ≡ between low high c ⌝ }
 {
@@ -84,7 +85,7 @@ pub fn columns(codes: &[u8], keys: &mut [usize], depths: &mut [usize]) -> usize
     while k < codes.len() {
         let at = k;
         k += 1;
-        let c = codes[at];
+        let c = base::byte(codes, at);
         if within(7, 15, c) {
             base::put_number(keys, n, at);
             base::put_number(depths, n, p + 1);
@@ -100,18 +101,16 @@ pub fn columns(codes: &[u8], keys: &mut [usize], depths: &mut [usize]) -> usize
 fn reach(codes: &[u8], at: usize) -> usize
     ensures { λ r. ⌜ r ≡ at + reach-of 0 (drop at (now (codes .entry))) ⌝ }
 {
-    let mut l: usize = 0;
+    let mut l = 0;
     let mut i = at;
     while i < codes.len() {
-        let c = codes[i];
+        let c = base::byte(codes, i);
         i += 1;
-        if c == 1 {
-            l += 1;
-        } else if c == 2 {
-            if l <= 1 {
+        l = opened(l, c);
+        if c == 2 {
+            if l == 0 {
                 return i;
             }
-            l -= 1;
         }
     }
     i
@@ -147,39 +146,16 @@ pub fn solid(codes: &[u8], k: usize) -> bool
     token(codes, e, 1) == 17
 }
 
-// How many pars stand from the token `at` on, each after a comma.
-fn par_count(codes: &[u8], at: usize) -> usize
-    requires { ⌜ at ≤ length (now codes) ⌝ }
-    ensures { λ r. ⌜ r ≡ par-count (drop at (now (codes .entry))) ⌝ }
-    ensures { λ r. ⌜ at + (r + r) ≤ length (now (codes .entry)) ⌝ }
-{
-    let mut n = 0;
-    let mut i = at;
-    while i < codes.len() {
-        if codes.len() - i < 2 {
-            return n;
-        }
-        if codes[i + 1] != 6 {
-            return n;
-        }
-        n += 1;
-        i += 2;
-    }
-    n
-}
-
-// How many pars the flow has whose keyword is the token k.
+// How many pars the flow has whose keyword is the token k: each stands after a comma.
 pub fn pars(codes: &[u8], k: usize) -> usize
     ensures { λ r. ⌜ r ≡ par-count (drop 3 (drop k (now (codes .entry)))) ⌝ }
     ensures { λ r. ⌜ r + r ≤ length (now (codes .entry)) - 3 ⌝ }
 {
-    if codes.len() <= k {
-        return 0;
+    let mut n = 0;
+    while token(codes, k, 3 + (n + n + 1)) == 6 {
+        n += 1;
     }
-    if codes.len() - k < 3 {
-        return 0;
-    }
-    par_count(codes, k + 3)
+    n
 }
 
 // Whether the flow whose keyword is the token k has sw 1.

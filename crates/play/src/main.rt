@@ -10,7 +10,10 @@ use translator::Translated;
 // How many bytes, and how many lines, are read at the most: more than any input has.
 const MOST: u64 = 1152921504606846976;
 
-// What was read of a line, and whether the input ended with it.
+// How many bytes are shown at a time at the most.
+const SHOWN: usize = 262144;
+
+// How many bytes there are with those of a line, and whether the input ended with it.
 struct Line {
     count: usize,
     last: bool,
@@ -22,60 +25,31 @@ struct Step {
     after: Record,
 }
 
-fn wide(x: u8) -> usize {
-    x as usize
-}
-
 // The next byte of the input, or 256 at its end. One at a time, so that each line is answered when it is there.
 fn read_byte() -> usize {
     let mut one = [0u8; 1];
     if io::read_full(STDIN_FILENO, &mut one) == 0 {
         return 256;
     }
-    wide(one[0])
+    base::wide(one[0])
 }
 
-// Reads up to an empty line; what there is no room for is left out.
-fn read_drawing(text: &mut [u8]) -> usize
-    ensures { λ r. ⌜ r ≤ length (now (text .exit)) ⌝ }
+// Reads a line to the `at` bytes that are there; what there is no room for is left out.
+fn read_line(bytes: &mut [u8], at: usize) -> Line
+    requires { ⌜ at ≤ length (now bytes) ⌝ }
+    ensures { λ r. ⌜ r .count ≤ length (now (bytes .exit)) ⌝ }
 {
-    let mut n = 0;
-    let mut ended = false;
+    let mut n = at;
     let mut left = MOST;
     while left > 0 {
         let b = read_byte();
-        let ends = b == 10;
-        if (b == 256) | (ends & ended) {
-            return n;
-        }
-        ended = ends;
-        n = output::byte(text, n, (b % 256) as u8);
-        left -= 1;
-    }
-    n
-}
-
-// Reads a line; what there is no room for is left out.
-fn read_line(line: &mut [u8]) -> Line
-    ensures { λ r. ⌜ r .count ≤ length (now (line .exit)) ⌝ }
-{
-    let mut n = 0;
-    let mut left = MOST;
-    while left > 0 {
-        let b = read_byte();
-        if b == 10 {
+        if (b == 10) | (b == 256) {
             return Line {
                 count: n,
-                last: false,
+                last: b == 256,
             };
         }
-        if b == 256 {
-            return Line {
-                count: n,
-                last: true,
-            };
-        }
-        n = output::byte(line, n, (b % 256) as u8);
+        n = output::byte(bytes, n, (b % 256) as u8);
         left -= 1;
     }
     Line {
@@ -84,30 +58,52 @@ fn read_line(line: &mut [u8]) -> Line
     }
 }
 
-fn begin(listing: &[u8], table: &[u8]) {
-    let mut out = [0u8; 262144];
-    let n = player::opening(listing, table, &mut out);
-    io::write_all(STDOUT_FILENO, &out[..n]);
+// Reads up to an empty line after the first.
+fn read_drawing(text: &mut [u8; 16385]) -> usize
+    ensures { λ r. ⌜ r ≤ length (now (text .exit)) ⌝ }
+{
+    let mut n = 0;
+    let mut left = MOST;
+    while left > 0 {
+        let l = read_line(text, n);
+        let empty = (n > 0) & (l.count == n);
+        if l.last | empty {
+            return l.count;
+        }
+        n = output::byte(text, l.count, b'\n');
+        left -= 1;
+    }
+    n
 }
 
-fn answer(listing: &[u8], table: &[u8], before: Record, said: &[u8]) -> Record {
-    let mut out = [0u8; 262144];
-    let p = player::turn(listing, table, before, said, &mut out);
-    let n = p.count;
-    io::write_all(STDOUT_FILENO, &out[..n]);
+// The first `count` bytes of what was written.
+fn show(out: &[u8], count: usize) {
+    if out.len() < count {
+        return;
+    }
+    io::write_all(STDOUT_FILENO, &out[..count]);
+}
+
+fn begin(listing: &[u8], table: &[u8], out: &mut [u8; SHOWN]) {
+    let n = player::opening(listing, table, out);
+    show(out, n);
+}
+
+fn answer(listing: &[u8], table: &[u8], before: Record, said: &[u8], out: &mut [u8; SHOWN]) -> Record {
+    let p = player::turn(listing, table, before, said, out);
+    show(out, p.count);
     p.after
 }
 
-fn end(table: &[u8], r: Record) {
-    let mut out = [0u8; 64];
-    let n = player::closing(table, r, &mut out);
-    io::write_all(STDOUT_FILENO, &out[..n]);
+fn end(table: &[u8], r: Record, out: &mut [u8; SHOWN]) {
+    let n = player::closing(table, r, out);
+    show(out, n);
 }
 
 // The next line. No event has a name of 64 bytes with its values, so a longer line is none; an empty one is passed over.
-fn next(listing: &[u8], table: &[u8], before: Record) -> Step {
+fn next(listing: &[u8], table: &[u8], before: Record, out: &mut [u8; SHOWN]) -> Step {
     let mut line = [0u8; 64];
-    let l = read_line(&mut line);
+    let l = read_line(&mut line, 0);
     let n = l.count;
     let more = !l.last;
     if n == 0 {
@@ -116,34 +112,40 @@ fn next(listing: &[u8], table: &[u8], before: Record) -> Step {
             after: before,
         };
     }
-    let after = answer(listing, table, before, &line[..n]);
+    let after = answer(listing, table, before, &line[..n], out);
     Step { more, after }
 }
 
 fn run(listing: &[u8], table: &[u8]) {
-    begin(listing, table);
+    let mut out = [0u8; SHOWN];
+    begin(listing, table, &mut out);
     let mut r = record::blank();
     let mut left = MOST;
     while left > 0 {
-        let t = next(listing, table, r);
+        let t = next(listing, table, r, &mut out);
         let after = t.after;
         r = after;
         left = if t.more { left - 1 } else { 0 };
     }
-    end(table, r);
+    end(table, r, &mut out);
+}
+
+// Lists and translates a drawing, and plays its run; of a text that is turned away there is its refusal to show.
+fn play(text: &[u8]) {
+    let mut listing = [0u8; 32768];
+    let count = events::list(text, &mut listing);
+    let mut table = [0u8; 51204];
+    let t = translator::translate(text, &mut table);
+    let Translated::Bytes(length) = t else {
+        show(&listing, count);
+        return;
+    };
+    run(&listing[..count], &table[..length]);
 }
 
 fn main() {
     // One byte more than a text may have: a longer text is refused, and not cut.
     let mut text = [0u8; 16385];
     let n = read_drawing(&mut text);
-    let mut listing = [0u8; 32768];
-    let count = events::list(&text[..n], &mut listing);
-    let mut table = [0u8; 51204];
-    let t = translator::translate(&text[..n], &mut table);
-    let Translated::Bytes(length) = t else {
-        io::write_all(STDOUT_FILENO, &listing[..count]);
-        return;
-    };
-    run(&listing[..count], &table[..length]);
+    play(&text[..n]);
 }

@@ -1,5 +1,5 @@
 ghost use mathlib.Core.Path.{_≡_};
-ghost use mathlib.Core.List.{List, []};
+ghost use mathlib.Core.List.{[]};
 ghost use Prim.Native.Nat.{ℕ, _≤_, _<_};
 ghost use lib.ListN.{length};
 ghost use Rattle.diagram.specs.Tree.{Name};
@@ -119,7 +119,7 @@ pub fn parameters(
     true
 }
 
-// As far as a count matters.
+// A count as far as it matters: 769 stands for every number over 768.
 fn cap(n: usize) -> usize
     ensures { λ r. ⌜ r ≡ capped n ⌝ }
     ensures { λ r. ⌜ r ≤ 769 ⌝ }

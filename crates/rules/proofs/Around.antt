@@ -7,7 +7,7 @@ use Prim.Native.Nat.{ℕ, suc, _*_, _≤_}
 use native.Mathlib.Omega.{arith}
 use lib.Dec.{ltb}
 use borrow.Author.Tests.{lt-ltb, le-ltb}
-use Rattle.diagram.specs.Tree.{Way, all, some, one}
+use Rattle.diagram.specs.Tree.{Way}
 use Rattle.diagram.proofs.Ways.{by-way}
 use Rattle.rules.specs.TokenNodes.{TokenNode, flowing, copying}
 use Rattle.rules.specs.Kept.{around}

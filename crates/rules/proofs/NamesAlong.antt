@@ -1,6 +1,6 @@
 -- The nodes of a tree by its tokens and its placed nodes, side by side: a law on the two lists that is kept by a node of each kind is kept by the tree.
 use mathlib.Core.Path.{_≡_, refl}
-use mathlib.Core.Bool.{Bool, true, false, _&&_}
+use mathlib.Core.Bool.{Bool, true, false}
 use mathlib.Core.List.{List, [], _∷_, reverse}
 use Prim.Native.Nat.{ℕ, suc, _+_, _*_}
 use native.Mathlib.Omega.{arith}
@@ -8,8 +8,6 @@ use lib.Dec.{leb}
 use lib.ListN.{length}
 use borrow.Author.Tests.{leb-true, le-leb}
 use Rattle.diagram.specs.Tree.{Name, Way, all, some, one, Flow, flow, Children, none, next, Child, plain, loop, group, replicator, Member, leaf, inner, Members, end, also}
-use Rattle.diagram.specs.Names.{equal, same}
-use Rattle.diagram.specs.Parameters.{surrounded}
 use Rattle.diagram.specs.Flows.{solid}
 use Rattle.rules.specs.TokenNodes.{TokenNode}
 use Rattle.rules.specs.Kept.{titled}

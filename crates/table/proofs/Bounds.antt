@@ -83,10 +83,10 @@ pub refused-as : (n : ℕ) → 1 ≤ n → (a : Answer) → report a ≡ refusal
 refused-as n h Done q = absurd (omega (arith, ap number q))
 refused-as n h (Refused m place) q = ap₂ Refused (ap number q) (ap (λ (r : Report). r .place) q)
 
-as-finish-as : (n : ℕ) → 1 ≤ n → n < 255 → (f : Finish) → finish-report f ≡ refusal n 0 → f ≡ Unasked n 0
-as-finish-as n h l No q = absurd (omega (arith, ap number q))
-as-finish-as n h l Yes q = absurd (omega (arith, ap number q))
-as-finish-as n h l (Unasked m place) q = ap₂ Unasked (ap number q) (ap (λ (r : Report). r .place) q)
+unasked-as : (n : ℕ) → 1 ≤ n → n < 255 → (f : Finish) → finish-report f ≡ refusal n 0 → f ≡ Unasked n 0
+unasked-as n h l No q = absurd (omega (arith, ap number q))
+unasked-as n h l Yes q = absurd (omega (arith, ap number q))
+unasked-as n h l (Unasked m place) q = ap₂ Unasked (ap number q) (ap (λ (r : Report). r .place) q)
 
 pub refused-step : (before : Record) (s : Stepped) (n : ℕ) → 1 ≤ n → report (s .answer) ≡ refusal n 0 → s .after ≡ before → s ≡ refused before (Refused n 0)
 refused-step before s n h q kept = rw (← kept, ← (refused-as n h (s .answer) q))
@@ -115,9 +115,9 @@ pub only-finish : (t : List ℕ) (before : Record) (f : Finish) → Finish-answe
 only-finish t before f (run-finished q k) = q ∙ finished-as t before true (ready-admitted t (before .bits) (k .ready)) (k .says-so)
 only-finish t before f (run-open q r y) = q ∙ finished-as t before false (ready-admitted t (before .bits) r) y
 only-finish t before f (finished-not-ready (unsound q y)) =
-    as-finish-as 12 (lit≤ tt) (lit< tt) f q ∙ finished-passed t before (Refused 12 0) 12 0 refl (admit-12 t (before .bits) y)
+    unasked-as 12 (lit≤ tt) (lit< tt) f q ∙ finished-passed t before (Refused 12 0) 12 0 refl (admit-12 t (before .bits) y)
 only-finish t before f (finished-not-ready (bit-past q y p)) =
-    as-finish-as 13 (lit≤ tt) (lit< tt) f q ∙ finished-passed t before (Refused 13 0) 13 0 refl (admit-13 t (before .bits) y p)
+    unasked-as 13 (lit≤ tt) (lit< tt) f q ∙ finished-passed t before (Refused 13 0) 13 0 refl (admit-13 t (before .bits) y p)
 
 pub only-offer : (t : List ℕ) (before : Record) (lent : List ℕ) (a : Answer) (left : List ℕ) → Offer-answer t before lent a left
     → (a ≡ offer-of t before lent) × (left ≡ offer-left t before lent (offer-of t before lent))

@@ -17,13 +17,20 @@ loop-holds : tie.Need-loop-holds Inv-loop μ-loop
 loop-holds c = along-start _ _ _
 
 loop-again : tie.Need-loop-again Inv-loop μ-loop
-loop-again c = rw (c .before .before .before .before .before .before .put-number .ensures, c .before .before .put-number2 .ensures) (along-node _ _ (c .before .before .before .before .before .before .before .before .before .before .before .loop-test .taken) (sym (c .before .before .before .before .before .before .before .before .before .within .ensures) ∙ c .before .before .before .before .before .before .before .before .if1 .taken) (c .before .before .before .before .before .before .before .before .before .before .before .before .loop .inv))
+loop-again c =
+    along-node (c .before .before .before .before .before .before .before .before .before .before .before .before .loop .inv)
+    (c .before .before .before .before .before .before .before .before .before .before .before .loop-test .taken)
+    (c .before .before .before .before .before .before .before .before .before .before .byte .ensures)
+    (sym (c .before .before .before .before .before .before .before .before .before .within .ensures) ∙ c .before .before .before .before .before .before .before .before .if1 .taken)
+    (c .before .before .before .before .before .before .put-number .ensures) (c .before .before .put-number2 .ensures)
 
 loop-again-2 : tie.Need-loop-again-2 Inv-loop μ-loop
-loop-again-2 c = rw (c .opened .ensures) (along-other _ _ (c .before .before .before .before .loop-test .taken) (sym (c .before .before .within .ensures) ∙ c .before .if1 .left) (c .before .before .before .before .before .loop .inv))
+loop-again-2 c =
+    along-other (c .before .before .before .before .before .loop .inv) (c .before .before .before .before .loop-test .taken) (c .before .before .before .byte .ensures)
+    (sym (c .before .before .within .ensures) ∙ c .before .if1 .left) (c .opened .ensures)
 
 returns : tie.Need-returns Inv-loop μ-loop
-returns c = let h = c .loop-test .left in let a = c .before .loop .inv in (along-count _ _ h a, (along-keys _ _ h a, along-depths _ _ h a))
+returns c = let h = c .loop-test .left in let a = c .before .loop .inv in (along-count h a, (along-keys h a, along-depths h a))
 
 pub columns-spec : {M : Type 1} → statement M
 columns-spec =

@@ -1,7 +1,6 @@
 -- `play::read_line` ends, and answers no more than its buffer holds. The loop's measure is how many bytes may still be read. Assumes nothing.
 use mathlib.Core.Path.{_≡_, refl, _∙_}
 use Prim.Native.Nat.{_≤_}
-use native.Mathlib.Omega.{arith}
 use lib.ListN.{length}
 use Rattle.output.proofs.Buffers.{one-written}
 use borrow.Author.Needs.{needs}
@@ -9,37 +8,19 @@ use Rattle.play.proofs.read_line.Statement.{statement}
 use Rattle.play.proofs.read_line.Tie as tie
 
 abbrev Inv-loop : tie.InvT-loop
-Inv-loop line₀ n₀ left₀ line n left = (n ≤ length line) × (length line ≡ length line₀)
+Inv-loop bytes₀ at n₀ left₀ bytes n left = (n ≤ length bytes) × (length bytes ≡ length bytes₀)
 
 abbrev μ-loop : tie.MeasureT-loop
-μ-loop line₀ n₀ left₀ line n left = left
+μ-loop bytes₀ at n₀ left₀ bytes n left = left
 
 loop-holds : tie.Need-loop-holds Inv-loop μ-loop
-loop-holds c = (omega arith, refl)
-
-same-length : tie.Need-same-length Inv-loop μ-loop
-same-length c = c .before .before .before .loop .inv .1
-
-returns : tie.Need-returns Inv-loop μ-loop
-returns c = c .before .before .before .loop .inv .0
-
-same-length-2 : tie.Need-same-length-2 Inv-loop μ-loop
-same-length-2 c = c .before .before .before .before .loop .inv .1
-
-returns-2 : tie.Need-returns-2 Inv-loop μ-loop
-returns-2 c = c .before .before .before .before .loop .inv .0
+loop-holds c = (c .before .pre, refl)
 
 loop-again : tie.Need-loop-again Inv-loop μ-loop
-loop-again c = let l = c .before .before .before .before .before .before .before .before .loop in (one-written _ _ _ _ _ (c .before .before .byte .ensures) (l .inv .0), c .before .before .byte .kept .0 ∙ l .inv .1)
-
-same-length-3 : tie.Need-same-length-3 Inv-loop μ-loop
-same-length-3 c = c .before .loop .inv .1
-
-returns-3 : tie.Need-returns-3 Inv-loop μ-loop
-returns-3 c = c .before .loop .inv .0
+loop-again c = let l = c .before .before .before .before .before .before .before .loop in let w = c .before .before .byte in (one-written _ _ _ _ _ (w .ensures) (l .inv .0), w .kept .0 ∙ l .inv .1)
 
 pub read-line-spec : {M : Type 1} → statement M
 read-line-spec =
     tie.close
-    (tie.spec Inv-loop μ-loop loop-holds (λ c κs. search needs) same-length returns same-length-2 returns-2 (λ c. search needs)
-    (λ c κs. search needs) (λ c. search needs) (λ c. search needs) loop-again same-length-3 returns-3)
+    (tie.spec Inv-loop μ-loop loop-holds (λ c κs. search needs) (λ c. c .before .before .before .loop .inv .1) (λ c. c .before .before .before .loop .inv .0) (λ c. search needs)
+    (λ c κs. search needs) (λ c. search needs) (λ c. search needs) loop-again (λ c. c .before .loop .inv .1) (λ c. c .before .loop .inv .0))

@@ -1,4 +1,4 @@
-use mathlib.Core.Path.{sym, _∙_}
+use mathlib.Core.Path.{sym}
 use borrow.Author.Needs.{needs}
 use Rattle.replicators.proofs.Asked.{flow-none, flow-here}
 use Rattle.replicators.proofs.flow.Statement.{statement}
