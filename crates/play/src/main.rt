@@ -89,7 +89,13 @@ fn begin(listing: &[u8], table: &[u8], out: &mut [u8; SHOWN]) {
     show(out, n);
 }
 
-fn answer(listing: &[u8], table: &[u8], before: Record, said: &[u8], out: &mut [u8; SHOWN]) -> Record {
+fn answer(
+    listing: &[u8],
+    table: &[u8],
+    before: Record,
+    said: &[u8],
+    out: &mut [u8; SHOWN],
+) -> Record {
     let p = player::turn(listing, table, before, said, out);
     show(out, p.count);
     p.after
