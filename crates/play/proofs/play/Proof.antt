@@ -26,7 +26,7 @@ array-share-prefix-table : tie.Need-array-share-prefix-table
 array-share-prefix-table c = translate-room _ _ _ _ (c .before .before .before .before .before .translate .ensures) _ (c .before .before .t .given .1) .0
 
 slice-aggregate-run-2 : tie.Need-slice-aggregate-run-2
-slice-aggregate-run-2 c = ?
+slice-aggregate-run-2 c = translate-room _ _ _ _ (c .before .before .before .before .before .before .translate .ensures) _ (c .before .before .before .t .given .1) .1
 
 pub play-spec : {M : Type 1} → statement M
 play-spec =
