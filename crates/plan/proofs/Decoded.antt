@@ -1,38 +1,11 @@
--- The fields of rows and event records that are written as numbers.
+-- What a row that is written as a number says, for any values of bits and rows.
 use mathlib.Core.Path.{_≡_}
 use mathlib.Core.Bool.{Bool, not, _&&_, _||_}
-use Prim.Native.Nat.{ℕ, _+_, _*_, _<_, _^_}
-use native.Mathlib.Omega.{arith}
+use Prim.Native.Nat.{ℕ, _<_}
 use Rattle.process.specs.Bits.{Bits}
-use Rattle.layout.specs.Fields.{guard-of, first-of, count-of, kind-of, left-of, right-of, bit-row, not-row, both-row, either-row, event-record}
+use Rattle.layout.specs.Fields.{bit-row, not-row, both-row, either-row}
+use Rattle.layout.proofs.Decoded.{bit-fields, not-fields, both-fields, either-fields}
 use Rattle.plan.proofs.Says.{says}
-
-pub record Fields (w kind left right : ℕ) : Type 0 where
-  pub its-kind : kind-of w ≡ kind
-  pub its-left : left-of w ≡ left
-  pub its-right : right-of w ≡ right
-  pub small : w < 2 ^ 32
-
--- One law for all rows: a kind and two numbers, in their places.
-pub fields : (w kind left right : ℕ) → w ≡ kind * 1073741824 + left * 32768 + right → kind < 4 → left < 32768 → right < 32768 → Fields w kind left right
-fields w kind left right e k l r = record {
-  its-kind = omega (arith, e, k, l, r);
-  its-left = omega (arith, e, k, l, r);
-  its-right = omega (arith, e, k, l, r);
-  small = omega (arith, e, k, l, r);
-}
-
-pub bit-fields : (e : ℕ) → e < 32768 → Fields (bit-row e) 0 e 0
-bit-fields e h = fields (bit-row e) 0 e 0 (omega arith) (omega arith) h (omega arith)
-
-pub not-fields : (a : ℕ) → a < 32768 → Fields (not-row a) 1 a 0
-not-fields a h = fields (not-row a) 1 a 0 (omega arith) (omega arith) h (omega arith)
-
-pub both-fields : (a b : ℕ) → a < 32768 → b < 32768 → Fields (both-row a b) 2 a b
-both-fields a b h k = fields (both-row a b) 2 a b (omega arith) (omega arith) h k
-
-pub either-fields : (a b : ℕ) → a < 32768 → b < 32768 → Fields (either-row a b) 3 a b
-either-fields a b h k = fields (either-row a b) 3 a b (omega arith) (omega arith) h k
 
 module _ (s : Bits) (v : ℕ → Bool) where
   pub bit-says : (e : ℕ) → e < 32768 → says (bit-row e) s v ≡ s e
@@ -50,17 +23,3 @@ module _ (s : Bits) (v : ℕ → Bool) where
   pub either-says : (a b : ℕ) → a < 32768 → b < 32768 → says (either-row a b) s v ≡ (v a || v b)
   unfolding says
   either-says a b h k = let f = either-fields a b h k in rw (f .its-kind, f .its-left, f .its-right)
-
-pub record Record-fields (w guard first count : ℕ) : Type 0 where
-  pub its-guard : guard-of w ≡ guard
-  pub its-first : first-of w ≡ first
-  pub its-count : count-of w ≡ count
-  pub small : w < 2 ^ 32
-
-pub record-fields : (guard first count : ℕ) → guard < 16384 → first < 512 → count < 512 → Record-fields (event-record guard first count) guard first count
-record-fields guard first count g f c = record {
-  its-guard = omega (arith, g, f, c);
-  its-first = omega (arith, g, f, c);
-  its-count = omega (arith, g, f, c);
-  small = omega (arith, g, f, c);
-}

@@ -17,7 +17,7 @@ use Rattle.process.proofs.Local.{closed}
 use Rattle.layout.specs.Fields.{guard-of, first-of, count-of, event-record}
 use Rattle.layout.specs.Sound.{Run}
 use Rattle.plan.specs.Plan.{plan-of, guards-of, joined, joint-words, later-gate, earlier-gate}
-use Rattle.plan.proofs.Decoded.{record-fields}
+use Rattle.layout.proofs.Decoded.{record-fields}
 use Rattle.plan.proofs.Gates.{gates-below}
 use Rattle.plan.proofs.Within.{records-cases, join-length, plan-below}
 use Rattle.plan.proofs.Lengths.{records-length}

@@ -16,7 +16,7 @@ use Rattle.plan.specs.Plan.{plan-of, guards-of, joined, joint-words, lat
 use Rattle.plan.specs.declared.PartRows.{PartRows}
 use Rattle.plan.specs.declared.Needs.{Needs}
 use Rattle.plan.proofs.Says.{Lower, Below}
-use Rattle.plan.proofs.Decoded.{Fields, bit-fields, not-fields, both-fields, either-fields}
+use Rattle.layout.proofs.Decoded.{Fields, bit-fields, not-fields, both-fields, either-fields}
 use Rattle.plan.proofs.Within.{lower-join, below-more, settled-below, join-length, plan-below}
 use Rattle.plan.proofs.Gates.{gates-below}
 
