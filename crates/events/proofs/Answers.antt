@@ -27,7 +27,6 @@ use Rattle.process.specs.Process.{Event, event-of, events}
 use Rattle.process.specs.Expand.{expand}
 use Rattle.process.proofs.Events.{events-counted, event-in-order}
 use Rattle.output.specs.Decimal.{decimal}
-use Rattle.output.specs.Lines.{refused-line}
 use Rattle.output.specs.Buffer.{Buffer, buffer, put-all}
 use Rattle.output.proofs.Buffers.{put-all-fill}
 use Rattle.labels.specs.Values.{packed}
@@ -40,7 +39,7 @@ use Rattle.reading.specs.Reading.{Reading, drawing, no-drawing}
 use Rattle.events.specs.Labels.{label, label-of, Valued}
 use Rattle.events.specs.Names.{name-of, Placed, Part, Named}
 use Rattle.events.specs.Listing.{first-line, spaced, line, lines, listing, Listed}
-use Rattle.events.specs.code.Spots.{Word, spot-label, spot-head, spaced-values, spot-line, spot-lines, spot-listing}
+use Rattle.events.specs.code.Spots.{Word, passed-on, refusal-line, spot-label, spot-head, spaced-values, spot-line, spot-lines, spot-listing}
 use Rattle.events.specs.declared.Label.{Label}
 use Rattle.events.specs.declared.Label.the-variants.{Leaf, Reset, Refused}
 use Rattle.events.proofs.Short.{Short, each-at, events-short}
@@ -147,11 +146,11 @@ valued-drawn text o e r q h g =
 abbrev refused-at-reading : (text : List ℕ) (o : ReadResult) (number place : ℕ) → o ≡ read-of text → o .answer ≡ Unread number place → Reading text
 refused-at-reading text o number place q h = no-drawing number place (refused-exactly text number place .0 (sym (ap (λ (x : ReadResult). x .answer) q) ∙ h))
 
-pub valued-refused : (text : List ℕ) (o : ReadResult) (e number place : ℕ) (r : Label) → o ≡ read-of text → o .answer ≡ Unread number place → r ≡ Refused number place
+pub valued-refused : (text : List ℕ) (o : ReadResult) (e number place : ℕ) (r : Label) → o ≡ read-of text → o .answer ≡ Unread number place → r ≡ passed-on (o .answer)
     → Valued text e r
 unfolding label-of
 valued-refused text o e number place r q h g =
-    record { reading = refused-at-reading text o number place q h; its-label = g }
+    record { reading = refused-at-reading text o number place q h; its-label = g ∙ ap passed-on h }
 
 -- The name call. A name is not empty, so it stands inside the text.
 pub short-at : (text : List ℕ) (d : Flow) → Accepted text d → (e : ℕ) → e < flow-events d → Short (event-of (expand d) e)
@@ -261,7 +260,7 @@ listed-drawn text lent left o r q h m w =
     listed text lent left (drawing (d .tree) (d .its-limits)) (spot-listing text (o .diagram)) r (spot-listing-is text o d) m w
 
 pub listed-refused : (text lent left : List ℕ) (o : ReadResult) (number place r : ℕ) → o ≡ read-of text → o .answer ≡ Unread number place → length lent ≡ 32768
-    → buffer r left ≡ put-all (refused-line number place) (buffer 0 lent) → Listed text lent r left
+    → buffer r left ≡ put-all (refusal-line (o .answer)) (buffer 0 lent) → Listed text lent r left
 unfolding listing
 listed-refused text lent left o number place r q h m w =
-    listed text lent left (refused-at-reading text o number place q h) (refused-line number place) r refl m w
+    listed text lent left (refused-at-reading text o number place q h) (refusal-line (o .answer)) r (ap refusal-line h) m w

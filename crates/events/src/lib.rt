@@ -3,7 +3,7 @@ ghost use Rattle.output.specs.Buffer.{buffer, put-all};
 ghost use Rattle.events.specs.Names.{Named};
 ghost use Rattle.events.specs.Labels.{Valued};
 ghost use Rattle.events.specs.Listing.{Listed};
-ghost use Rattle.events.specs.code.Spots.{Word, spot-label, spot-head, spaced-value, spaced-values, spot-line, spot-lines, spot-listing};
+ghost use Rattle.events.specs.code.Spots.{Word, passed-on, refusal-line, spot-label, spot-head, spaced-value, spaced-values, spot-line, spot-lines, spot-listing};
 use diagram::Diagram;
 use labels::Spot;
 use labels::Values;
@@ -60,16 +60,27 @@ fn labelled(d: Diagram, event: u64) -> Label
     Label::Leaf(values)
 }
 
+// The refusal of a text that was not read, passed on.
+fn passed_on(answer: Answer) -> Label
+    ensures { λ r. ⌜ r ≡ passed-on answer ⌝ }
+{
+    match answer {
+        Answer::Done => Label::Refused(0, 0),
+        Answer::Refused(number, place) => Label::Refused(number, place),
+    }
+}
+
 // The values of an event, with a mark that tells a reset from a leaf, or the refusal: 2 to 11 for the text, 14 for a number at or past E.
 pub fn values(text: &[u8], event: u64) -> Label
     ensures { λ r. ⌜ Valued (now (text .entry)) event r ⌝ }
 {
     let o = reader::read(text);
     let answer = o.answer;
-    match answer {
-        Answer::Done => labelled(o.diagram, event),
-        Answer::Refused(number, place) => Label::Refused(number, place),
-    }
+    let Answer::Done = answer else {
+        return passed_on(answer);
+    };
+    let d = o.diagram;
+    labelled(d, event)
 }
 
 // The number of an event, and `reset` for a reset, a space after each.
@@ -145,6 +156,16 @@ fn drawn(text: &[u8], d: Diagram, out: &mut [u8]) -> usize
     lines(text, out, at, d)
 }
 
+// The line of a text that was not read.
+fn write_refusal(answer: Answer, out: &mut [u8]) -> usize
+    ensures { λ r. ⌜ buffer r (now (out .exit)) ≡ put-all (refusal-line answer) (buffer 0 (now (out .entry))) ⌝ }
+{
+    match answer {
+        Answer::Done => 0,
+        Answer::Refused(number, place) => output::refused(out, 0, number, place),
+    }
+}
+
 // The listing of a text: events and node copies, then each event with its number, name and values, `reset` before a reset's; or `refused`, number and place. Answers
 // how many bytes there are; those past them stay.
 pub fn list(text: &[u8], out: &mut [u8; 32768]) -> usize
@@ -152,8 +173,9 @@ pub fn list(text: &[u8], out: &mut [u8; 32768]) -> usize
 {
     let o = reader::read(text);
     let answer = o.answer;
-    match answer {
-        Answer::Done => drawn(text, o.diagram, out),
-        Answer::Refused(number, place) => output::refused(out, 0, number, place),
-    }
+    let Answer::Done = answer else {
+        return write_refusal(answer, out);
+    };
+    let d = o.diagram;
+    drawn(text, d, out)
 }

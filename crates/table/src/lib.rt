@@ -4,6 +4,7 @@ ghost use lib.ListN.{take};
 ghost use Rattle.layout.specs.Fields.{events, rows};
 ghost use Rattle.layout.specs.Sound.{sound};
 ghost use Rattle.layout.specs.Values.{values-of};
+ghost use Rattle.table.specs.code.PassedOn.{passed-on};
 ghost use Rattle.table.specs.Steps.{check-of, admit-of, step-of, finished-of, offered, offer-of, offer-left};
 use record::Record;
 
@@ -87,15 +88,25 @@ pub fn step(table: &[u8], before: Record, event: u64) -> Stepped
     }
 }
 
+// What the first look refused, passed on.
+fn passed_on(answer: Answer) -> Finish
+    ensures { λ r. ⌜ r ≡ passed-on answer ⌝ }
+{
+    match answer {
+        Answer::Done => Finish::No,
+        Answer::Refused(number, place) => Finish::Refused(number, place),
+    }
+}
+
 // Whether the last row says yes, of a sound table and a record with no set bit at or past E.
 pub fn finished(table: &[u8], before: Record) -> Finish
     ensures { λ r. ⌜ r ≡ finished-of (now (table .entry)) before ⌝ }
 {
     let mut values = [false; 12288];
     let answer = admit(table, before, &mut values);
-    if let Answer::Refused(number, place) = answer {
-        return Finish::Refused(number, place);
-    }
+    let Answer::Done = answer else {
+        return passed_on(answer);
+    };
     let last = base::half(table, 2) - 1;
     if values[last] {
         return Finish::Yes;

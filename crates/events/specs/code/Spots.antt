@@ -9,7 +9,10 @@ use lib.ListN.{length}
 use Rattle.base.specs.Text.{bytes}
 use Rattle.diagram.specs.declared.Diagram.{Diagram}
 use Rattle.lexer.specs.Words.{word-at}
+use Rattle.reading.specs.declared.Answer.{Answer}
+use Rattle.reading.specs.declared.Answer.the-variants.{Done, Refused as Unread}
 use Rattle.output.specs.Decimal.{decimal}
+use Rattle.output.specs.Lines.{refused-line}
 use Rattle.labels.specs.declared.Values.{Values}
 use Rattle.labels.specs.declared.Spot.{Spot}
 use Rattle.labels.specs.Seeks.{spot-of}
@@ -23,6 +26,15 @@ pub record Word (text : RefT (List ℕ)) (at : ℕ) (r : RefT (List ℕ)) : Type
   pub its-word : now r ≡ word-at (now text) at
   pub inside : at ≤ length (now text) → Part text r at (length (word-at (now text) at))
   pub past : length (now text) < at → Part text r 0 0
+
+-- The refusal of a text that was not read, passed on, and its line; one that was read has none.
+abbrev pub passed-on : Answer → Label
+passed-on Done = Refused 0 0
+passed-on (Unread number place) = Refused number place
+
+abbrev pub refusal-line : Answer → List ℕ
+refusal-line Done = []
+refusal-line (Unread number place) = refused-line number place
 
 -- What the values call answers for a text that is read.
 unfoldable pub spot-label : Diagram → ℕ → Label

@@ -1,12 +1,16 @@
 -- `table::finished` meets its contract: what the first look refuses is passed on; then the last row says.
+use mathlib.Core.Path.{ap, _∙_}
 use mathlib.Core.Bool.{true, false}
 use borrow.Author.Needs.{needs}
+use Rattle.table.specs.code.PassedOn.{passed-on}
 use Rattle.table.proofs.Answered.{looked-sound, last-within, finished-passed, looked-finished}
 use Rattle.table.proofs.finished.Statement.{statement}
 use Rattle.table.proofs.finished.Tie as tie
 
 returns : tie.Need-returns
-returns c = finished-passed _ _ _ _ _ (c .before .answer .given .1) (c .before .before .before .admit .ensures .0)
+returns c =
+    let refused = c .before .enum-told2 .given in
+    c .passed-on .ensures ∙ (ap passed-on (refused .1) ∙ finished-passed _ _ _ _ _ (refused .1) (c .before .before .before .admit .ensures .0))
 
 sub-last : tie.Need-sub-last
 sub-last c =
@@ -31,5 +35,5 @@ returns-3 c =
 pub finished-spec : {M : Type 1} → statement M
 finished-spec =
     tie.close
-    (tie.spec (λ c κs. search needs) (λ c. search needs) returns (λ c. search needs) (λ c κs. search needs) sub-last array-read-if1 returns-2
-    returns-3)
+    (tie.spec (λ c κs. search needs) (λ c. search needs) (λ c. search needs) (λ c κs. search needs) returns (λ c κs. search needs) sub-last array-read-if1
+    returns-2 returns-3)
