@@ -2,6 +2,7 @@
 use mathlib.Core.Path.{_≡_, refl, sym, _∙_}
 use mathlib.Core.Logic.{_⊎_, inl, inr}
 use mathlib.Core.Bool.{Bool, true, false, not, _&&_, _||_, true≢false, false≢true}
+pub use borrow.Author.Tests.{not-true as not-e, not-false as not-no}
 
 pub clash : {b : Bool} → b ≡ true → b ≡ false → ⊥
 clash p q = true≢false (sym p ∙ q)
@@ -47,14 +48,6 @@ or-map c d f g (inr k) = or-r c (g k)
 
 pub not-i : {a : Bool} → a ≡ false → not a ≡ true
 not-i p = rw p
-
-pub not-e : (a : Bool) → not a ≡ true → a ≡ false
-not-e true e = absurd (false≢true e)
-not-e false e = refl
-
-pub not-no : (a : Bool) → not a ≡ false → a ≡ true
-not-no true e = refl
-not-no false e = absurd (true≢false e)
 
 -- Tests that come out true together are the same.
 pub agree : (a b : Bool) → (a ≡ true → b ≡ true) → (b ≡ true → a ≡ true) → a ≡ b

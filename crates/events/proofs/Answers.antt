@@ -14,9 +14,8 @@ use Rattle.base.proofs.Truth.{by-cases}
 use Rattle.diagram.specs.Tree.{Name, Flow}
 use Rattle.diagram.specs.Count.{flow-events, flow-copies}
 use Rattle.diagram.specs.declared.Diagram.{Diagram}
-use Rattle.lexer.specs.Classes.{worded}
-use Rattle.lexer.specs.Words.{front, word-at}
-use Rattle.lexer.proofs.Front.{front-le}
+use Rattle.tokens.specs.Parts.{Part, Word}
+use Rattle.tokens.proofs.WordAt.{word-within}
 use Rattle.reading.specs.Answers.{read-of}
 use Rattle.reading.specs.Accepted.{Accepted}
 use Rattle.reading.specs.declared.Answer.the-variants.{Done, Refused as Unread}
@@ -37,50 +36,16 @@ use Rattle.labels.proofs.SearchByTree.{Labels, nothing}
 use Rattle.labels.proofs.SearchByText.{labelled}
 use Rattle.reading.specs.Reading.{Reading, drawing, no-drawing}
 use Rattle.events.specs.Labels.{label, label-of, Valued}
-use Rattle.events.specs.Names.{name-of, Placed, Part, Named}
-use Rattle.events.specs.Listing.{first-line, spaced, line, lines, listing, Listed}
-use Rattle.events.specs.code.Spots.{Word, passed-on, refusal-line, spot-label, spot-head, spaced-values, spot-line, spot-lines, spot-listing}
+use Rattle.events.specs.Names.{name-of, Placed, Named}
+use Rattle.events.specs.Listing.{listing, Listed}
+use Rattle.events.specs.code.Spots.{passed-on, refusal-line, spot-label}
+use Rattle.lines.specs.Lines.{first-line, line}
+use Rattle.lines.specs.code.Spots.{spot-listing}
+use Rattle.lines.proofs.ByLabels.{spot-line-is, spot-lines-are}
 use Rattle.events.specs.declared.Label.{Label}
 use Rattle.events.specs.declared.Label.the-variants.{Leaf, Reset, Refused}
 use Rattle.events.proofs.Short.{Short, each-at, events-short}
 use Rattle.events.proofs.ListingFits.{listing-short}
-
--- A word as a part of the text.
-word-inside : (text : List ℕ) (at : ℕ) → at ≤ length text → at + front worded (drop at text) ≤ length text
-word-inside text at h = omega (arith, front-le worded (drop at text), length-drop at text)
-
--- A word is as many bytes as it has.
-word-cut : (text : List ℕ) (at : ℕ) → take (length (word-at text at)) (drop at text) ≡ word-at text at
-word-cut text at = rw (length-take-le (front worded (drop at text)) (drop at text) (front-le worded (drop at text)))
-
-no-word : (text : List ℕ) (at : ℕ) → length text < at → word-at text at ≡ []
-no-word text at h = rw (drop-of-length-le text {i = at} (omega arith), take-nil {A = ℕ} (front worded []))
-
-pub word-none : (text r : RefT (List ℕ)) (at e : ℕ) → e ≡ at + front worded (drop at (now text)) → length (now text) < e → r .ptr .0 ≡ text .ptr .0
-    → r .ptr .1 ≡ text .ptr .1 + 0 → now r ≡ [] → Word text at r
-word-none text r at e q h b o n =
-    let past : length (now text) < at = past-end in
-    let none : word-at (now text) at ≡ [] = no-word (now text) at past in
-    record {
-      its-word = n ∙ sym none;
-      inside = λ l. let z : ⊥ = omega arith in absurd z;
-      past = λ l. record { its-block = b; its-offset = o; its-bytes = n };
-    }
-  where
-    past-end : length (now text) < at
-    past-end = by-cases (ltb (length (now text)) at) (λ t. ltb-true (length (now text)) at t)
-        (λ t. let l = word-inside (now text) at (ltb-false (length (now text)) at t) in let z : ⊥ = omega arith in absurd z)
-
-pub word-some : (text r : RefT (List ℕ)) (at e : ℕ) → e ≡ at + front worded (drop at (now text)) → e ≤ length (now text) → r .ptr .0 ≡ text .ptr .0
-    → r .ptr .1 ≡ text .ptr .1 + at → now r ≡ take (e - at) (drop at (now text)) → Word text at r
-word-some text r at e q h b o n =
-    let k : e - at ≡ front worded (drop at (now text)) = omega arith in
-    let w : now r ≡ word-at (now text) at = n ∙ ap (λ (x : ℕ). take x (drop at (now text))) k in
-    record {
-      its-word = w;
-      inside = λ l. record { its-block = b; its-offset = o; its-bytes = w ∙ sym (word-cut (now text) at) };
-      past = λ l. let z : ⊥ = omega arith in absurd z;
-    }
 
 -- The label of what an event number stands for.
 module _ (d : Diagram) (e : ℕ) where
@@ -158,12 +123,6 @@ short-at text d a e h =
     let n = events-counted d (a .keeps .sizes) in
     rw (event-in-order d (a .keeps .sizes) e nothing h) (each-at Short (events (expand d)) e nothing (events-short text d a) (omega arith))
 
-named-inside : (text : List ℕ) (at : ℕ) (n : Name) → word-at text at ≡ n → 1 ≤ length n → at ≤ length text
-named-inside text at n q h =
-    by-cases (ltb (length text) at)
-    (λ t. let z = ap length (sym q ∙ no-word text at (ltb-true (length text) at t)) in omega arith)
-    (λ t. ltb-false (length text) at t)
-
 pub named-refused : (text r : RefT (List ℕ)) (o : ReadResult) (e number place : ℕ) → o ≡ read-of (now text) → o .answer ≡ Unread number place → Part text r 0 0 → now r ≡ []
     → Named text e r
 unfolding name-of Placed
@@ -203,31 +162,10 @@ named-some text r o e s q h l g w =
       its-place = (λ x. stands, λ x. let z : ⊥ = omega arith in absurd z);
       its-part =
           rw (named, ← (stands .its-name))
-          (w .inside (named-inside (now text) (s .place) name (stands .its-name) some));
+          (w .inside (word-within (now text) (s .place) name (stands .its-name) some));
     }
 
--- The listing. Values as they are packed.
-spaced-packed : (vs : List ℕ) → length vs ≤ 3 → spaced-values (packed vs) ≡ spaced vs
-unfolding spaced-values spaced
-spaced-packed [] h = refl
-spaced-packed (a ∷ []) h = refl
-spaced-packed (a ∷ b ∷ []) h = refl
-spaced-packed (a ∷ b ∷ c ∷ []) h = rw (append-nil (decimal c))
-spaced-packed (a ∷ b ∷ c ∷ x ∷ vs) h = let z : ⊥ = omega arith in absurd z
-
-spot-line-is : (text : List ℕ) (e : ℕ) (l : Event) (s : Spot) → Labels (Stands text) l s → length (l .values) ≤ 3 → spot-line text e s ≡ line e l
-unfolding spot-line spot-head line
-spot-line-is text e l s g h = rw (g .mark, g .its-values, g .named .its-name, spaced-packed (l .values) h) (append-assoc (decimal e) _ _)
-
--- From event e on, of n.
-spot-lines-are : (text : List ℕ) (g : Diagram) (ls : List Event) (e n : ℕ) → e + n ≡ length ls
-    → ((x : ℕ) → x < length ls → spot-line text x (spot-of g x) ≡ line x (getD ls x nothing))
-    → spot-lines text g e n ≡ lines e (drop e ls)
-unfolding spot-lines lines
-spot-lines-are text g ls e zero h f = rw (drop-of-length-le ls {i = e} (omega arith))
-spot-lines-are text g ls e (suc n) h f =
-    rw (drop-cons ls e nothing (omega arith), f e (omega arith), spot-lines-are text g ls (suc e) n (omega arith) f)
-
+-- The listing.
 spot-listing-is : (text : List ℕ) (o : ReadResult) (d : Drawn text o) → spot-listing text (o .diagram) ≡ listing (drawing (d .tree) (d .its-limits))
 unfolding spot-listing listing
 spot-listing-is text o d =

@@ -10,13 +10,13 @@ use borrow.Author.Tests.{eq-eqb, ne-eqb, ltb-true, ltb-false}
 use Rattle.base.proofs.Truth.{by-cases, clash, and-l, and-r, not-e}
 use Rattle.base.specs.Text.{bytes}
 use Rattle.diagram.specs.Tree.{Name}
-use Rattle.lexer.specs.Classes.{between, class-of, letter, worded}
-use Rattle.lexer.proofs.Between.{between-low}
-use Rattle.lexer.specs.Words.{lettered, every}
+use Rattle.tokens.specs.Classes.{between, class-of, letter, worded}
+use Rattle.tokens.proofs.Between.{between-low}
+use Rattle.tokens.specs.Words.{lettered, every}
 use Rattle.process.specs.Process.{Event}
 use Rattle.output.specs.Decimal.{decimal, value}
 use Rattle.output.proofs.Decimals.{decimal-digits, decimal-back, decimal-some}
-use Rattle.events.specs.Listing.{mark, spaced}
+use Rattle.lines.specs.Lines.{mark, spaced}
 use Rattle.events.proofs.Short.{Each, Small, Short}
 
 -- Bytes that are not this one.

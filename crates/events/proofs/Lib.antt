@@ -2,7 +2,6 @@ pub mod OneListing
 pub mod Short
 pub mod Called
 pub mod ListingFits
-pub mod LinesWritten
 pub mod Answers
 pub mod Bounds
 pub mod Worked

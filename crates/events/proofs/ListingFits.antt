@@ -20,7 +20,8 @@ use Rattle.process.specs.Process.{Event, events}
 use Rattle.process.specs.Expand.{expand}
 use Rattle.process.proofs.Events.{events-counted}
 use Rattle.reading.specs.Reading.{Reading, drawing, no-drawing}
-use Rattle.events.specs.Listing.{first-line, spaced, mark, line, lines, listing}
+use Rattle.lines.specs.Lines.{first-line, spaced, mark, line, lines}
+use Rattle.events.specs.Listing.{listing}
 use Rattle.events.proofs.Short.{Each, Small, Short, events-short}
 
 -- A value below 16 has at most 2 digits, and a space before them.

@@ -12,8 +12,8 @@ use Rattle.diagram.specs.Tree.{Name, Flow, flow, Children, none, next, Child, p
 use Rattle.diagram.specs.Names.{equal, same, new}
 use Rattle.diagram.specs.Sizes.{flow-sized, children-sized, child-sized, member-sized, members-sized}
 use Rattle.diagram.specs.Parameters.{surrounded, flow-parameters, children-parameters, child-parameters, member-parameters, members-parameters}
-use Rattle.lexer.specs.Classes.{worded}
-use Rattle.lexer.specs.Words.{lettered, every, short, named}
+use Rattle.tokens.specs.Classes.{worded}
+use Rattle.tokens.specs.Words.{lettered, every, short, named}
 use Rattle.grammar.specs.Named.{all-named, flow-named, children-named, child-named, member-named, members-named}
 use Rattle.reading.specs.Accepted.{Accepted}
 use Rattle.process.specs.Process.{Event, Joint, seq, Process, event, join, again, rounds, events}

@@ -4,7 +4,7 @@ use Rattle.diagram.specs.Count.{flow-events, flow-copies}
 use Rattle.process.specs.Process.{events}
 use Rattle.process.specs.Expand.{flow-process}
 use Rattle.output.specs.Decimal.{digits}
-use Rattle.events.specs.Listing.{first-line, spaced, line, lines}
+use Rattle.lines.specs.Lines.{first-line, spaced, line, lines}
 use Rattle.events.specs.Worked.{table, Shown}
 
 pub shown : Shown table

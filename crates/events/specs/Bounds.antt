@@ -15,7 +15,7 @@ use Rattle.process.specs.Process.{event-of}
 use Rattle.process.specs.Expand.{expand}
 use Rattle.labels.specs.Values.{packed}
 use Rattle.labels.specs.declared.Values.{Values}
-use Rattle.events.specs.Names.{Part}
+use Rattle.tokens.specs.Parts.{Part}
 use Rattle.events.specs.Reports.{report, event-marked}
 use Rattle.events.specs.declared.Label.{Label}
 

@@ -3,14 +3,15 @@
 use mathlib.Core.Path.{_≡_}
 use mathlib.Core.Bool.{cond}
 use mathlib.Core.List.{List, []}
-use Prim.Native.Nat.{ℕ, _+_, _≤_, _<_}
+use Prim.Native.Nat.{ℕ, _≤_, _<_}
 use denote.Ref.{RefT, now}
 use lib.Dec.{ltb}
-use lib.ListN.{length, take, drop}
+use lib.ListN.{length}
 use Rattle.diagram.specs.Tree.{Name}
 use Rattle.diagram.specs.Count.{flow-events}
 use Rattle.process.specs.Process.{event-of}
 use Rattle.process.specs.Expand.{expand}
+use Rattle.tokens.specs.Parts.{Part}
 use Rattle.labels.specs.Stands.{Stands}
 use Rattle.reading.specs.Reading.{Reading, drawing, no-drawing}
 
@@ -23,12 +24,6 @@ name-of (no-drawing number place r) e = []
 unfoldable pub Placed : {text : List ℕ} → Reading text → ℕ → ℕ → Type 0
 Placed {text} (drawing d a) e place = (e < flow-events d → Stands text (event-of (expand d) e .name) place) × (flow-events d ≤ e → place ≡ 0)
 Placed (no-drawing number place r) e at = at ≡ 0
-
--- That very part of a lent text: n bytes from a place on, in the text's own memory.
-pub record Part (text part : RefT (List ℕ)) (place n : ℕ) : Type 0 where
-  pub its-block : part .ptr .0 ≡ text .ptr .0
-  pub its-offset : part .ptr .1 ≡ text .ptr .1 + place
-  pub its-bytes : now part ≡ take n (drop place (now text))
 
 pub record Named (text : RefT (List ℕ)) (e : ℕ) (r : RefT (List ℕ)) : Type 0 where
   pub reading : Reading (now text)

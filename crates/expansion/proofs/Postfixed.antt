@@ -21,7 +21,7 @@ use Rattle.diagram.specs.TreeNodes.{TreeNode, group-kind, replicator-kind, flow
 use Rattle.process.specs.Process.{Joint, seq, Process, join}
 use Rattle.process.specs.Expand.{leaf-copy, reset-of, joint, expand, flow-process, children-process, child-process, loop-process, member-process, members-process}
 use Rattle.process.proofs.Events.{expand-laid}
-use Rattle.diagram.specs.Columns.{kind-number, size-number}
+use Rattle.columns.specs.Columns.{kind-number, size-number}
 use Rattle.postfix.specs.Postfix.{joint-code, postfix}
 use Rattle.expansion.specs.Walks.{Columns, place, expanded}
 use Rattle.expansion.proofs.ShownColumns.{shown-columns, shown-depth, first, column-at, columns-shown}

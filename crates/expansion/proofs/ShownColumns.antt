@@ -5,10 +5,10 @@ use Prim.Native.Nat.{ℕ, zero, suc, _<_}
 use native.Mathlib.Omega.{arith}
 use lib.ListN.{length, getD, take, drop, length-map, length-drop}
 use lib.Seq.{drop-nil}
-use Rattle.diagram.specs.Columns.{kind-number, size-number, array-of, columns-of, columns as nodes-of}
+use Rattle.columns.specs.Columns.{kind-number, size-number, array-of, columns-of, columns as nodes-of}
 use Rattle.diagram.specs.declared.Node.{Node}
 use Rattle.diagram.specs.declared.Diagram.{Diagram}
-use Rattle.diagram.proofs.Filled.{array-read}
+use Rattle.columns.proofs.Filled.{array-read}
 use Rattle.reading.specs.Shows.{shown-node, shown-nodes}
 use Rattle.diagram.specs.TreeNodes.{TreeNode}
 use Rattle.expansion.specs.Walks.{Columns, columns, walk-columns}

@@ -6,8 +6,8 @@ use Prim.Native.Nat.{ℕ, zero, suc, _+_, _-_}
 use lib.Dec.{eqb, leb, ltb}
 use lib.ListN.{getD, set}
 use Rattle.diagram.specs.declared.Diagram.{Diagram}
-use Rattle.diagram.specs.declared.Nodes.{Nodes}
-use Rattle.diagram.specs.Columns.{columns as nodes-of}
+use Rattle.columns.specs.declared.Nodes.{Nodes}
+use Rattle.columns.specs.Columns.{columns as nodes-of}
 use Rattle.expansion.specs.declared.Walk.{Walk}
 
 -- What the walk reads of the nodes.

@@ -50,7 +50,7 @@ fn part<'a>(
     if kind == postfix::LEAF {
         return add(codes, postfix::LEAF, inside);
     }
-    if kind == diagram::LOOP {
+    if kind == columns::LOOP {
         return looped(kinds, sizes, depths, count, left - 1, inside, codes);
     }
     let first = part(kinds, sizes, depths, count, left - 1, inside, codes);
@@ -133,7 +133,7 @@ pub fn expand(d: Diagram, codes: &mut [u8]) -> usize
     ensures { λ r. ⌜ r ≡ expanded d (now (codes .entry)) .walk .count ⌝ }
     ensures { λ r. ⌜ now (codes .exit) ≡ expanded d (now (codes .entry)) .codes ⌝ }
 {
-    let n = diagram::columns(d);
+    let n = columns::columns(d);
     let start = Walk { node: 0, count: 0 };
     let s = part(&n.kinds, &n.sizes, &n.depths, n.count, 12, start, codes);
     s.count

@@ -14,10 +14,10 @@ use Rattle.diagram.specs.Tree.{Name}
 use Rattle.diagram.specs.Names.{same}
 use Rattle.base.proofs.Truth.{clash, cases, and-l, and-r, and-i, not-e}
 use Rattle.base.proofs.Decided.{same-decides}
-use Rattle.lexer.specs.Classes.{between, spacing, class-of, worded, blank}
-use Rattle.lexer.specs.Words.{keywords, numerals, place-in, keyword, short, every, lettered, named, numeral, word-code, code}
-use Rattle.lexer.proofs.Below.{all-below, at-below}
-use Rattle.lexer.proofs.Between.{in-range, between-in, class-small}
+use Rattle.tokens.specs.Classes.{between, spacing, class-of, worded, blank}
+use Rattle.tokens.specs.Words.{keywords, numerals, place-in, keyword, short, every, lettered, named, numeral, word-code, code}
+use Rattle.tokens.proofs.Below.{all-below, at-below}
+use Rattle.tokens.proofs.Between.{in-range, between-in, class-small}
 use Rattle.grammar.specs.Tokens.{opening, closing, comma, colon, key, bit, digits}
 use Rattle.grammar.proofs.Token.{token}
 

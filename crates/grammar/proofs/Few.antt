@@ -6,7 +6,7 @@ use Prim.Native.Nat.{ℕ, suc, _+_, _-_, _≤_}
 use native.Mathlib.Omega.{arith}
 use lib.Dec.{eqb, ltb, leb}
 use borrow.Author.Tests.{leb-false}
-use Rattle.lexer.specs.Classes.{between}
+use Rattle.tokens.specs.Classes.{between}
 use Rattle.grammar.specs.Machine.{Want, sign, number, params, param, node, more, others, Move, off, big, push, Outcome, whole, stop, begin, expand, proceed, run, outcome, full, parts, root, depths, child, member, ref}
 use Rattle.grammar.proofs.Codes.{chosen}
 

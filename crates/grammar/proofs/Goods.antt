@@ -8,8 +8,8 @@ use lib.Dec.{eqb, ltb}
 use Rattle.base.specs.Text.{bytes}
 use Rattle.diagram.specs.Tree.{Name, flow, none, Child, plain, leaf, inner}
 use Rattle.diagram.specs.Sizes.{child-sized}
-use Rattle.lexer.specs.Classes.{between, class-of}
-use Rattle.lexer.specs.Words.{keywords, keyword, named, code}
+use Rattle.tokens.specs.Classes.{between, class-of}
+use Rattle.tokens.specs.Words.{keywords, keyword, named, code}
 use Rattle.grammar.specs.Tokens.{opening, closing, comma, colon, bit, digits, child-tokens}
 use Rattle.grammar.specs.Named.{child-named}
 use Rattle.grammar.specs.Machine.{Want, sign, number, params, param, node, more, others, Move, off, big, push, root, member, child, ref, parts, full, begin, expand}

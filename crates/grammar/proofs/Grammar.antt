@@ -12,7 +12,7 @@ use borrow.Author.Tests.{ltb-true, ltb-false}
 use Rattle.diagram.specs.Tree.{Name, Flow, Child, plain, loop, group, replicator, leaf, inner}
 use Rattle.diagram.specs.Sizes.{child-sized, member-sized}
 use Rattle.base.proofs.Truth.{cases}
-use Rattle.lexer.specs.Words.{code}
+use Rattle.tokens.specs.Words.{code}
 use Rattle.grammar.specs.Tokens.{child-tokens, member-tokens}
 use Rattle.grammar.specs.Named.{child-named, member-named}
 use Rattle.grammar.specs.Machine.{Want, node, Outcome, whole, stop, root, outcome, depths}

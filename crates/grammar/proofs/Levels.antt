@@ -8,7 +8,7 @@ use native.Mathlib.Omega.{arith}
 use lib.Dec.{eqb, ltb, leb}
 use borrow.Author.Tests.{eqb-true, eq-eqb, leb-true, leb-false, le-leb, lt-leb}
 use Rattle.base.proofs.Truth.{clash, is-false, and-l, and-r, and-i, or-l, or-r, or-e, or-map}
-use Rattle.lexer.specs.Classes.{between}
+use Rattle.tokens.specs.Classes.{between}
 use Rattle.grammar.specs.Machine.{Want, sign, number, params, param, node, more, others, Move, off, big, push, child, member, ref, flow-parts, leaf-parts, group-parts, replicator-parts, loop-parts, parts, full, begin, expand, keyed}
 use Rattle.grammar.proofs.LimitedFrom.{keys, opens, closes, flat, keyed-at-least, numeral-unkeyed, big-at}
 use Rattle.grammar.proofs.Codes.{chosen}

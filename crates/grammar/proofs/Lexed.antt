@@ -9,11 +9,11 @@ use lib.ListN.{length, take, drop, length-append}
 use lib.Seq.{take-append-seam, drop-append-seam}
 use Rattle.diagram.specs.Tree.{Name}
 use Rattle.base.proofs.Truth.{and-l, and-r, and-i, cases, not-i, not-e, clash, or-e}
-use Rattle.lexer.specs.Classes.{class-of, worded, blank}
-use Rattle.lexer.specs.Words.{front, blanks, every}
-use Rattle.lexer.proofs.Front.{front-every}
-use Rattle.lexer.proofs.Between.{in-range, between-low}
-use Rattle.lexer.specs.Spans.{Span, width, cut, spans, spans-of, tokens}
+use Rattle.tokens.specs.Classes.{class-of, worded, blank}
+use Rattle.tokens.specs.Words.{front, blanks, every}
+use Rattle.tokens.proofs.Front.{front-every}
+use Rattle.tokens.proofs.Between.{in-range, between-low}
+use Rattle.tokens.specs.Spans.{Span, width, cut, spans, spans-of, tokens}
 use Rattle.grammar.proofs.Token.{token, all-tokens}
 
 -- The token starts with a byte of a word.

@@ -11,8 +11,8 @@ use lib.ListN.{length, getD, take, length-take}
 use lib.Seq.{getD-take, take-append-le, take-take}
 use borrow.Author.Tests.{ne-eqb}
 use Rattle.diagram.specs.Tree.{Name}
-use Rattle.lexer.specs.Words.{code}
-use Rattle.lexer.proofs.Between.{in-range, between-high}
+use Rattle.tokens.specs.Words.{code}
+use Rattle.tokens.proofs.Between.{in-range, between-high}
 use Rattle.grammar.proofs.Limits.{count-of, nodes-in, over-limit}
 use Rattle.grammar.specs.Machine.{keyed}
 

@@ -15,7 +15,7 @@ use Rattle.diagram.specs.Count.{flow-nodes, children-nodes, child-nodes, member
 use Rattle.diagram.specs.Depth.{flow-depth, children-depth, child-depth, member-depth, members-depth}
 use Rattle.diagram.specs.Sizes.{flow-sized, children-sized, child-sized, member-sized, members-sized}
 use Rattle.base.proofs.Truth.{clash, is-false, and-l, and-r, or-l, or-r}
-use Rattle.lexer.specs.Words.{named, code}
+use Rattle.tokens.specs.Words.{named, code}
 use Rattle.grammar.specs.Tokens.{opening, closing, comma, colon, key, group-key, replicator-key, bit, digits, pars-tokens, ref-tokens, flow-tokens, children-tokens, child-tokens, member-tokens, members-tokens}
 use Rattle.grammar.specs.Named.{all-named, flow-named, children-named, child-named, member-named, members-named}
 use Rattle.grammar.proofs.Limits.{count-of, nodes-in, over-limit}
@@ -23,7 +23,7 @@ use Rattle.grammar.specs.Machine.{keyed}
 use Rattle.grammar.specs.Derives.{Grammatical}
 use Rattle.grammar.proofs.LimitedFrom.{keys, opens, closes, flat, keyed-at-least, numeral-unkeyed, big-at, big-nil, over-limit-in, nodes-cons, Safe, safe-cons, Balanced}
 use Rattle.grammar.proofs.Codes.{Coded, coded-opening, coded-closing, coded-comma, coded-colon, coded-key, coded-digits, bit-value, coded-bit, coded-name}
-use Rattle.lexer.proofs.Between.{between-in}
+use Rattle.tokens.proofs.Between.{between-in}
 
 -- A token that is neither a keyword nor a parenthesis.
 abbrev Quiet : Name → Type 0

@@ -8,13 +8,13 @@ use lib.Dec.{leb}
 use Rattle.diagram.specs.Tree.{Name, Way, all, some, one, flow, Children, Child, plain, loop, group, replicator, Member, leaf, inner, Members}
 use Rattle.diagram.specs.Sizes.{flow-sized, children-sized, child-sized, member-sized, members-sized}
 use Rattle.base.proofs.Truth.{and-l, and-r, and-i}
-use Rattle.lexer.specs.Classes.{between}
-use Rattle.lexer.specs.Words.{named}
+use Rattle.tokens.specs.Classes.{between}
+use Rattle.tokens.specs.Words.{named}
 use Rattle.grammar.specs.Tokens.{opening, closing, colon, bit, digits, group-key, replicator-key, ref-tokens, flow-tokens, children-tokens, child-tokens, member-tokens}
 use Rattle.grammar.specs.Named.{all-named, flow-named, children-named, child-named, member-named, members-named}
 use Rattle.grammar.specs.Machine.{Want, more, member, child, ref, flow-parts, leaf-parts, group-parts, replicator-parts, loop-parts, parts}
 use Rattle.grammar.proofs.Codes.{Coded, coded-opening, coded-closing, coded-colon, coded-digits, coded-bit, coded-name, coded-key, bit-between}
-use Rattle.lexer.proofs.Between.{in-range, between-in}
+use Rattle.tokens.proofs.Between.{in-range, between-in}
 use Rattle.grammar.proofs.Stack.{Kind, flows, leaves, groups, replicators, loops, way-small, place, key-of, shape, One, Node, More, is-sign, SpellsAll, the-one, at-opening, at-closing, at-colon, at-name, at-bit, at-size, as-node, as-member}
 
 -- The parts of a node, by its kind.

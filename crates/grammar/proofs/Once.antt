@@ -8,12 +8,12 @@ use lib.Dec.{eqb, leb}
 use Rattle.diagram.specs.Tree.{Name, Way, all, some, one, Flow, flow, Children, none, next, Child, plain, loop, group, replicator, Member, leaf, inner, Members, end, also}
 use Rattle.diagram.specs.Sizes.{flow-sized, children-sized, child-sized, member-sized, members-sized}
 use Rattle.base.proofs.Truth.{and-l, and-r}
-use Rattle.lexer.specs.Words.{named, code}
+use Rattle.tokens.specs.Words.{named, code}
 use Rattle.grammar.specs.Tokens.{closing, comma, bit, digits, pars-tokens, ref-tokens, flow-tokens, children-tokens, child-tokens, member-tokens, members-tokens}
 use Rattle.grammar.specs.Named.{all-named, flow-named, children-named, child-named, member-named, members-named}
 use Rattle.grammar.specs.Derives.{Derives}
 use Rattle.grammar.proofs.Codes.{Coded, coded-closing, coded-bit, coded-digits, coded-name, bit-value}
-use Rattle.lexer.proofs.Between.{in-range}
+use Rattle.tokens.proofs.Between.{in-range}
 use Rattle.grammar.proofs.Stack.{way, way-small, place, shape, member-small}
 use Rattle.grammar.proofs.Nodes.{coded-kind, opened}
 

@@ -8,13 +8,13 @@ use native.Mathlib.Omega.{arith}
 use lib.ListN.{length, take, drop, length-drop, take-append-drop}
 use Rattle.diagram.specs.Tree.{Name}
 use Rattle.base.proofs.Truth.{and-l, and-r, and-i, cases, not-e}
-use Rattle.lexer.specs.Classes.{class-of, worded, blank}
-use Rattle.lexer.specs.Words.{front, blanks, short, every}
-use Rattle.lexer.specs.Spans.{Span, width, cut, spans, spans-of, tokens}
+use Rattle.tokens.specs.Classes.{class-of, worded, blank}
+use Rattle.tokens.specs.Words.{front, blanks, short, every}
+use Rattle.tokens.specs.Spans.{Span, width, cut, spans, spans-of, tokens}
 use Rattle.grammar.proofs.Token.{token}
 use Rattle.grammar.specs.Printed.{printed}
-use Rattle.lexer.proofs.Between.{in-range}
-use Rattle.lexer.proofs.Steps.{width-some}
+use Rattle.tokens.proofs.Between.{in-range}
+use Rattle.tokens.proofs.Steps.{width-some}
 use Rattle.grammar.proofs.Lexed.{stops, pieces, cut-is-token, front-stop, worded-no-blank}
 use Rattle.grammar.proofs.Rendered.{usual, usual-class, proper, all-proper}
 

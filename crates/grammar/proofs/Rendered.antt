@@ -9,16 +9,16 @@ use borrow.Author.Tests.{leb-true, lt-leb}
 use Rattle.diagram.specs.Tree.{Name, Way, all, some, one, Flow, flow, Children, none, next, Child, plain, loop, group, replicator, Member, leaf, inner, Members, end, also}
 use Rattle.diagram.specs.Sizes.{flow-sized, children-sized, child-sized, member-sized, members-sized}
 use Rattle.base.proofs.Truth.{and-l, and-r, and-i, or-l, or-r, not-i}
-use Rattle.lexer.specs.Classes.{class-of, foreign, worded}
-use Rattle.lexer.specs.Words.{keywords, keyword, short, every, lettered, named}
-use Rattle.lexer.specs.Spans.{tokens}
+use Rattle.tokens.specs.Classes.{class-of, foreign, worded}
+use Rattle.tokens.specs.Words.{keywords, keyword, short, every, lettered, named}
+use Rattle.tokens.specs.Spans.{tokens}
 use Rattle.grammar.specs.Tokens.{opening, closing, comma, colon, key, group-key, replicator-key, bit, digits, pars-tokens, ref-tokens, flow-tokens, children-tokens, child-tokens, member-tokens, members-tokens}
 use Rattle.grammar.specs.Named.{all-named, flow-named, children-named, child-named, member-named, members-named}
 use Rattle.grammar.specs.Derives.{Grammatical}
 use Rattle.grammar.proofs.Token.{token, all-tokens}
 use Rattle.grammar.proofs.Codes.{coded-key, coded-digits, coded-name}
-use Rattle.lexer.proofs.Below.{at-below}
-use Rattle.lexer.proofs.Between.{in-range}
+use Rattle.tokens.proofs.Below.{at-below}
+use Rattle.tokens.proofs.Between.{in-range}
 use Rattle.grammar.proofs.Lexed.{wordy, clear, apart, lexed}
 
 -- A token that no text is refused for: it has at most 24 bytes, and none of them is foreign.

@@ -8,7 +8,7 @@ use native.Mathlib.Omega.{arith}
 use lib.ListN.{length, take}
 use Rattle.diagram.specs.Tree.{Name}
 use Rattle.base.proofs.Truth.{and-l, and-r}
-use Rattle.lexer.specs.Words.{code}
+use Rattle.tokens.specs.Words.{code}
 use Rattle.grammar.specs.Machine.{Want, Move, off, big, push, Outcome, whole, stop, expand, proceed, run}
 use Rattle.grammar.proofs.Token.{token, all-tokens}
 use Rattle.grammar.proofs.Stack.{SpellsAll, joined, parted}

@@ -9,14 +9,14 @@ use borrow.Author.Tests.{eqb-true}
 use Rattle.diagram.specs.Tree.{Name, Way, all, some, one, Children, Child, plain, loop, group, replicator, Member, leaf, inner, Members}
 use Rattle.diagram.specs.Sizes.{children-sized, child-sized, member-sized, members-sized}
 use Rattle.base.proofs.Truth.{and-l}
-use Rattle.lexer.specs.Classes.{between}
-use Rattle.lexer.specs.Words.{named, code}
+use Rattle.tokens.specs.Classes.{between}
+use Rattle.tokens.specs.Words.{named, code}
 use Rattle.grammar.specs.Tokens.{opening, closing, comma, colon, key, bit, digits, pars-tokens, children-tokens, child-tokens, member-tokens, members-tokens}
 use Rattle.grammar.specs.Named.{all-named, children-named, child-named, member-named, members-named}
 use Rattle.grammar.specs.Machine.{Want, sign, number, params, param, node, more, others, member}
 use Rattle.grammar.proofs.Token.{token}
 use Rattle.grammar.proofs.Codes.{is-opening, is-closing, is-colon, is-name, is-digits, is-bit, Coded}
-use Rattle.lexer.proofs.Between.{in-range, between-in}
+use Rattle.tokens.proofs.Between.{in-range, between-in}
 
 -- The nodes by their keywords.
 pub data Kind : Type 0 where

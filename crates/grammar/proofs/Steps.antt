@@ -10,15 +10,15 @@ use borrow.Author.Tests.{eqb-true, eq-eqb, ne-eqb}
 use Rattle.diagram.specs.Tree.{Name, all, some, one, Children, none, next, Members, end, also}
 use Rattle.diagram.specs.Sizes.{children-sized, child-sized, member-sized, members-sized}
 use Rattle.base.proofs.Truth.{and-l, and-r, and-i}
-use Rattle.lexer.specs.Classes.{between}
-use Rattle.lexer.specs.Words.{named, code}
+use Rattle.tokens.specs.Classes.{between}
+use Rattle.tokens.specs.Words.{named, code}
 use Rattle.grammar.specs.Tokens.{closing, comma, bit, pars-tokens, ref-tokens, children-tokens, members-tokens}
 use Rattle.grammar.specs.Named.{all-named, children-named, child-named, member-named, members-named}
 use Rattle.grammar.specs.Machine.{Want, sign, number, params, param, node, more, others, Move, off, big, push, member, child, ref, parts, full, begin, expand}
 use Rattle.grammar.proofs.Token.{token}
 use Rattle.grammar.proofs.Codes.{chosen, is-key, is-name, is-comma, is-closing, is-bit, coded-closing, coded-comma, coded-name, bit-between}
-use Rattle.lexer.proofs.Below.{at-below}
-use Rattle.lexer.proofs.Between.{in-range, between-in}
+use Rattle.tokens.proofs.Below.{at-below}
+use Rattle.tokens.proofs.Between.{in-range, between-in}
 use Rattle.grammar.proofs.Stack.{Kind, flows, leaves, groups, replicators, loops, place, key-of, shape, One, Params, Node, More, Others, is-sign, Spells, SpellsAll, joined, parted, at-closing, as-member}
 use Rattle.grammar.proofs.Nodes.{Opened, parts-of, parts-kind, coded-kind, opened, built, after-child, child-after, a-child, a-member, closes}
 

@@ -2,8 +2,8 @@
 use mathlib.Core.Bool.{Bool, true, false, not, _&&_}
 use mathlib.Core.List.{List, [], _∷_}
 use Rattle.diagram.specs.Tree.{Name}
-use Rattle.lexer.specs.Classes.{worded, blank}
-use Rattle.lexer.specs.Words.{every}
+use Rattle.tokens.specs.Classes.{worded, blank}
+use Rattle.tokens.specs.Words.{every}
 
 -- What a token can be: a word, or one byte that is no blank.
 abbrev pub token : Name → Bool

@@ -5,7 +5,7 @@ use mathlib.Core.Bool.{Bool, _&&_, _||_, cond}
 use mathlib.Core.List.{List, [], _∷_, _++_}
 use Prim.Native.Nat.{ℕ, suc, _+_, _-_}
 use lib.Dec.{eqb, ltb, leb}
-use Rattle.lexer.specs.Classes.{between}
+use Rattle.tokens.specs.Classes.{between}
 
 pub data Want : Type 0 where
   -- this very token

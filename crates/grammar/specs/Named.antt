@@ -2,7 +2,7 @@
 use mathlib.Core.Bool.{Bool, true, _&&_}
 use mathlib.Core.List.{List, [], _∷_}
 use Rattle.diagram.specs.Tree.{Name, Flow, flow, Children, none, next, Child, plain, loop, group, replicator, Member, leaf, inner, Members, end, also}
-use Rattle.lexer.specs.Words.{named}
+use Rattle.tokens.specs.Words.{named}
 
 abbrev pub all-named : List Name → Bool
 all-named [] = true

@@ -2,7 +2,7 @@
 use mathlib.Core.Bool.{cond}
 use mathlib.Core.List.{List, [], _∷_}
 use Prim.Native.Nat.{ℕ}
-use Rattle.lexer.specs.Classes.{blank}
+use Rattle.tokens.specs.Classes.{blank}
 
 unfoldable pub printed : List ℕ → List ℕ
 printed [] = []

@@ -5,7 +5,7 @@ use Prim.Native.Nat.{ℕ}
 use lib.ListN.{getD}
 use Rattle.base.specs.Text.{bytes}
 use Rattle.diagram.specs.Tree.{Name, Way, all, some, one, Flow, flow, Children, none, next, Child, plain, loop, group, replicator, Member, leaf, inner, Members, end, also}
-use Rattle.lexer.specs.Words.{keywords, numerals}
+use Rattle.tokens.specs.Words.{keywords, numerals}
 
 -- The signs ( ) , : as tokens.
 abbrev pub opening : Name

@@ -3,7 +3,7 @@ use mathlib.Core.Path.{_≡_}
 use mathlib.Core.List.{List, [], _∷_, _++_, map}
 use Prim.Native.Nat.{ℕ, zero, suc}
 use Rattle.base.specs.Text.{bytes}
-use Rattle.lexer.specs.Spans.{codes}
+use Rattle.tokens.specs.Spans.{codes}
 use Rattle.grammar.specs.Machine.{Outcome, whole, stop, outcome}
 
 -- So many children `leaf(a)(0)`, and the root with them.

@@ -33,44 +33,36 @@ pub struct FirstResult {
     pub needs: [Needs; 1024],
 }
 
-// The kinds of rows stand in the top bits of a row, left above right.
-const KIND: usize = 1073741824;
-
-const SIDE: usize = 32768;
-
-// Where the guard row and the first cleared bit stand in an event record.
-const GUARD: usize = 262144;
-
-const RUN: usize = 512;
-
 fn bit_row(e: u16) -> usize
     ensures { λ r. ⌜ r ≡ bit-row e ⌝ }
 {
-    base::wide_short(e) * SIDE
+    base::wide_short(e) * layout::SIDE
 }
 
 fn not_row(a: u16) -> usize
     ensures { λ r. ⌜ r ≡ not-row a ⌝ }
 {
-    KIND + base::wide_short(a) * SIDE
+    layout::KIND + base::wide_short(a) * layout::SIDE
 }
 
 fn both_row(a: u16, b: u16) -> usize
     ensures { λ r. ⌜ r ≡ both-row a b ⌝ }
 {
-    2 * KIND + base::wide_short(a) * SIDE + base::wide_short(b)
+    2 * layout::KIND + base::wide_short(a) * layout::SIDE + base::wide_short(b)
 }
 
 fn either_row(a: u16, b: u16) -> usize
     ensures { λ r. ⌜ r ≡ either-row a b ⌝ }
 {
-    3 * KIND + base::wide_short(a) * SIDE + base::wide_short(b)
+    3 * layout::KIND + base::wide_short(a) * layout::SIDE + base::wide_short(b)
 }
 
 fn event_record(guard: u16, first: u16, count: u16) -> usize
     ensures { λ r. ⌜ r ≡ event-record guard first count ⌝ }
 {
-    base::wide_short(guard) * GUARD + base::wide_short(first) * RUN + base::wide_short(count)
+    base::wide_short(guard) * layout::GUARD
+        + base::wide_short(first) * layout::RUN
+        + base::wide_short(count)
 }
 
 // A leaf, event e, or a loop over it, which is complete by row `done`; its guard needs row `later`.

@@ -7,31 +7,17 @@ use lib.ListN.{getD}
 use Rattle.base.specs.Reports.{Report, result, refusal}
 use Rattle.diagram.specs.Stored.{blank-node}
 use Rattle.diagram.specs.declared.Diagram.{Diagram}
-use Rattle.diagram.specs.declared.Kind.{Kind}
-use Rattle.diagram.specs.declared.Kind.the-variants.{Flow, Leaf, And, Or, Xor, All, Some, One, Loop}
 use Rattle.diagram.specs.declared.Node.{Node}
 use Rattle.reading.specs.declared.Answer.{Answer}
 use Rattle.reading.specs.declared.Answer.the-variants.{Done, Refused as Unread}
 use Rattle.reading.specs.declared.ReadResult.{ReadResult}
-use Rattle.diagram.specs.Columns.{size-number}
+use Rattle.columns.specs.Columns.{kind-index, size-number}
 use Rattle.harness.specs.declared.Found.{Found}
 use Rattle.harness.specs.declared.Found.the-variants.{At, Refused}
 
--- The kinds by number.
-abbrev pub kind-number : Kind → ℕ
-kind-number Flow = 0
-kind-number Leaf = 1
-kind-number And = 2
-kind-number Or = 3
-kind-number Xor = 4
-kind-number (All size) = 5
-kind-number (Some size) = 6
-kind-number (One size) = 7
-kind-number Loop = 8
-
--- Kind, size, whether it is a solid child, whether a flow's sw is 1, and depth.
+-- Which of the kinds it is, in their order; size, whether it is a solid child, whether a flow's sw is 1, and depth.
 abbrev pub node-values : Node → List ℕ
-node-values n = kind-number (n .kind) ∷ size-number (n .kind) ∷ cond (n .solid) 1 0 ∷ cond (n .strong) 1 0 ∷ n .depth ∷ []
+node-values n = kind-index (n .kind) ∷ size-number (n .kind) ∷ cond (n .solid) 1 0 ∷ cond (n .strong) 1 0 ∷ n .depth ∷ []
 
 -- The places of its keyword, and of its name or par.
 abbrev pub place-values : Node → List ℕ

@@ -18,11 +18,9 @@ ghost use Rattle.translator.specs.Reports.{report as translate-report};
 ghost use Rattle.events.specs.Listing.{Listed};
 ghost use Rattle.events.specs.Reports.{marked as marked-values, report as label-report};
 ghost use Rattle.harness.specs.Packed.{packed};
-ghost use Rattle.diagram.specs.Columns.{size-number};
-ghost use Rattle.harness.specs.Nodes.{kind-number, node-values, place-values, unread as unread-found, found-at, report as found-report};
+ghost use Rattle.harness.specs.Nodes.{node-values, place-values, unread as unread-found, found-at, report as found-report};
 ghost use Rattle.harness.specs.Calls.{Translates, Labels, Names};
 use diagram::Diagram;
-use diagram::Kind;
 use diagram::Node;
 use events::Label;
 use labels::Values;
@@ -201,39 +199,6 @@ fn find(text: &[u8], index: u64) -> Found
     Found::At(node)
 }
 
-fn number_of(kind: Kind) -> u64
-    ensures { λ r. ⌜ r ≡ kind-number kind ⌝ }
-{
-    match kind {
-        Kind::Flow => 0,
-        Kind::Leaf => 1,
-        Kind::And => 2,
-        Kind::Or => 3,
-        Kind::Xor => 4,
-        Kind::All(_) => 5,
-        Kind::Some(_) => 6,
-        Kind::One(_) => 7,
-        Kind::Loop => 8,
-    }
-}
-
-// A replicator's size; 0 for any other node.
-fn size_of(kind: Kind) -> u64
-    ensures { λ r. ⌜ r ≡ size-number kind ⌝ }
-{
-    match kind {
-        Kind::Flow => 0,
-        Kind::Leaf => 0,
-        Kind::And => 0,
-        Kind::Or => 0,
-        Kind::Xor => 0,
-        Kind::All(size) => size as u64,
-        Kind::Some(size) => size as u64,
-        Kind::One(size) => size as u64,
-        Kind::Loop => 0,
-    }
-}
-
 fn mark_of(marked: bool) -> u64
     ensures { λ r. ⌜ r ≡ cond marked 1 0 ⌝ }
 {
@@ -248,8 +213,8 @@ fn node_number(node: Node) -> u64
     ensures { λ r. ⌜ r ≡ packed 6 (result (node-values node)) ⌝ }
 {
     let kind = node.kind;
-    let number = number_of(kind);
-    let size = size_of(kind);
+    let number = columns::index(kind) as u64;
+    let size = columns::size(kind) as u64;
     let solid = mark_of(node.solid);
     let strong = mark_of(node.strong);
     (((number % 64 * 64 + size % 64) * 64 + solid % 64) * 64 + strong % 64) * 64

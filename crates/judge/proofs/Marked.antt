@@ -12,8 +12,8 @@ use borrow.Author.Tests.{eq-eqb, eqb-true, eqb-false, lt-ltb, le-ltb, ltb-true}
 use Rattle.base.proofs.Decided.{same-decides}
 use Rattle.base.proofs.Truth.{and-l, and-r, is-false, by-cases}
 use Rattle.diagram.specs.Names.{same}
-use Rattle.lexer.specs.Words.{word-at}
-use Rattle.lexer.proofs.WordAt.{zero-none, some-on}
+use Rattle.tokens.specs.Words.{word-at}
+use Rattle.tokens.proofs.WordAt.{zero-none, some-on}
 use Rattle.rules.specs.TokenNodes.{name-in}
 use Rattle.rules.specs.Kept.{titled}
 use Rattle.nodes.specs.code.Columns.{node, name-at}

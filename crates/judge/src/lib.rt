@@ -5,7 +5,7 @@ ghost use Prim.Native.Nat.{ℕ, suc, _+_, _<_};
 ghost use lib.Dec.{eqb};
 ghost use lib.ListN.{length, getD, drop};
 ghost use Rattle.diagram.specs.Tree.{Name};
-ghost use Rattle.lexer.specs.Words.{word-at};
+ghost use Rattle.tokens.specs.Words.{word-at};
 ghost use Rattle.rules.specs.TokenNodes.{solid-of, name-in};
 ghost use Rattle.rules.specs.Kept.{may-be-solid, one-of, fault};
 ghost use Rattle.rules.specs.Judged.{refuse as refuse-of, verdict as verdict-of};

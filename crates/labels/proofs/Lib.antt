@@ -1,5 +1,4 @@
 pub mod MoreValues
-pub mod Columns
 pub mod Steps
 pub mod NodeDepths
 pub mod TreeWeights

@@ -12,8 +12,8 @@ use Rattle.base.proofs.Truth.{cases, by-cases}
 use Rattle.diagram.specs.Tree.{Name, Flow}
 use Rattle.diagram.specs.Names.{same}
 use Rattle.base.proofs.Decided.{same-decides}
-use Rattle.lexer.specs.Words.{word-at}
-use Rattle.lexer.specs.Spans.{codes, places}
+use Rattle.tokens.specs.Words.{word-at}
+use Rattle.tokens.specs.Spans.{codes, places}
 use Rattle.grammar.specs.Machine.{keyed}
 use Rattle.rules.specs.TokenNodes.{TokenNode, flowing, leafy, copying, token-node, token-nodes, name-in, opened}
 use Rattle.rules.specs.Kept.{unused, names-kept, fault}

@@ -12,7 +12,7 @@ use Rattle.base.proofs.Truth.{cases}
 use Rattle.diagram.specs.Tree.{Flow}
 use Rattle.diagram.specs.Count.{flow-copies, flow-events}
 use Rattle.diagram.specs.Stored.{blank-node}
-use Rattle.lexer.specs.Spans.{codes, places}
+use Rattle.tokens.specs.Spans.{codes, places}
 use Rattle.grammar.specs.Machine.{keyed}
 use Rattle.rules.specs.TokenNodes.{TokenNode, flowing, leafy, copying, token-node, token-nodes, name-in, opened}
 use Rattle.rules.proofs.Trees.{flow-token-nodes}

@@ -3,4 +3,3 @@ pub mod SearchNodes
 pub mod Weights
 pub mod Seeks
 pub mod Stands
-pub mod code

@@ -1,5 +1,5 @@
 -- A node of a diagram as the search for an event reads it.
-use Rattle.diagram.specs.Columns.{kind-number, size-number}
+use Rattle.columns.specs.Columns.{kind-number, size-number}
 use Rattle.diagram.specs.declared.Node.{Node}
 use Rattle.labels.specs.declared.SearchNode.{SearchNode}
 

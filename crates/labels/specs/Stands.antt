@@ -5,8 +5,8 @@ use mathlib.Core.List.{List}
 use Prim.Native.Nat.{ℕ, _+_}
 use lib.ListN.{getD}
 use Rattle.diagram.specs.Tree.{Name}
-use Rattle.lexer.specs.Words.{word-at}
-use Rattle.lexer.specs.Spans.{codes, places}
+use Rattle.tokens.specs.Words.{word-at}
+use Rattle.tokens.specs.Spans.{codes, places}
 use Rattle.rules.specs.TokenNodes.{flowing, leafy}
 
 -- The token two after a keyword `leaf` or `flow`, the `(` being between them, begins at this place, and is this name.

@@ -4,10 +4,10 @@ use mathlib.Core.List.{List}
 use Prim.Native.Nat.{ℕ, _≤_, _<_}
 use lib.ListN.{length}
 use borrow.Author.Tests.{lt-ltb, le-ltb}
-use Rattle.lexer.specs.Spans.{spans-of, codes, places}
-use Rattle.lexer.specs.Scanned.{first-foreign, first-long, scan-of, written}
-use Rattle.lexer.specs.declared.Scan.{Scan}
-use Rattle.lexer.specs.declared.Scan.the-variants.{Tokens, Refused}
+use Rattle.tokens.specs.Spans.{spans-of, codes, places}
+use Rattle.tokens.specs.Scanned.{first-foreign, first-long, scan-of, written}
+use Rattle.tokens.specs.declared.Scan.{Scan}
+use Rattle.tokens.specs.declared.Scan.the-variants.{Tokens, Refused}
 
 module _ (text : List ℕ) where
   pub scan-long : 16384 < length text → scan-of text ≡ Refused 2 16384

@@ -10,11 +10,11 @@ use lib.Seq.{getD-drop, drop-drop, take-all, length-take-le}
 use borrow.Author.Tests.{le-leb, lt-leb}
 use Rattle.base.specs.Fill.{fill}
 use Rattle.base.proofs.Filled.{fill-none, fill-more}
-use Rattle.lexer.specs.Words.{blanks, code}
-use Rattle.lexer.specs.Spans.{Span, width, spans-of, codes, places}
-use Rattle.lexer.specs.Scanned.{first-long}
-use Rattle.lexer.proofs.Steps.{width-some, width-le, from, from-start, from-end, from-skip, from-token}
-use Rattle.lexer.proofs.Spans.{no-span, token-at, code-at, place-at, codes-length, places-length}
+use Rattle.tokens.specs.Words.{blanks, code}
+use Rattle.tokens.specs.Spans.{Span, width, spans-of, codes, places}
+use Rattle.tokens.specs.Scanned.{first-long}
+use Rattle.tokens.proofs.Steps.{width-some, width-le, from, from-start, from-end, from-skip, from-token}
+use Rattle.tokens.proofs.Spans.{no-span, token-at, code-at, place-at, codes-length, places-length}
 
 -- Where a token ends: after a byte at least, and within the text.
 pub end-after : (text : List ℕ) (at e : ℕ) → at < length text → e ≡ at + width (drop at text) → (at < e) × (e ≤ length text)

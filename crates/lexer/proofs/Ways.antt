@@ -1,5 +1,5 @@
--- What each way through `place`, `code` and `token_end` comes to, with no record of the code. Assumes nothing.
-use mathlib.Core.Path.{_≡_, refl, sym, _∙_}
+-- What the table of classes holds, and what each way through `place`, `code` and `token_end` comes to, with no record of the code. Assumes nothing.
+use mathlib.Core.Path.{_≡_, refl, sym, ap, _∙_}
 use mathlib.Core.Bool.{Bool, true, false, _&&_, cond}
 use mathlib.Core.List.{List, [], _∷_}
 use Prim.Native.Nat.{ℕ, suc, _+_, _-_, _≤_, _<_}
@@ -12,11 +12,16 @@ use borrow.Author.Tests.{lt-ltb, le-ltb, le-leb, lt-leb, leb-true}
 use Rattle.diagram.specs.Tree.{Name}
 use Rattle.diagram.specs.Names.{same}
 use Rattle.base.proofs.Truth.{and-l, and-r, is-false}
-use Rattle.lexer.specs.Classes.{between, class-of, letter, worded}
-use Rattle.lexer.specs.Words.{front, place-in, keyword, short, lettered, numeral, word-code, code}
+use Rattle.tokens.specs.Classes.{between, class-of, letter, worded}
+use Rattle.tokens.specs.Words.{front, place-in, keyword, short, lettered, numeral, word-code, code}
 use Rattle.lexer.specs.code.Cuts.{cuts, rising}
-use Rattle.lexer.specs.Spans.{width}
-use Rattle.lexer.proofs.Between.{between-in, in-range}
+use Rattle.lexer.specs.code.Table.{Classified}
+use Rattle.tokens.specs.Spans.{width}
+use Rattle.tokens.proofs.Between.{between-in, in-range}
+
+-- The entry of the table that is read by a byte.
+pub class-read : {t : List ℕ} {r b : ℕ} → Classified t → (r ≡ b) × (r < 256) → getD t r 0 ≡ class-of b
+class-read k e = k .class _ (e .1) ∙ ap class-of (e .0)
 
 -- What is left to look at: the words from the k-th on, the first of which starts at s and has the number c.
 pub record Left (word words ends : List ℕ) (first none c s k : ℕ) : Type 0 where

@@ -3,13 +3,15 @@ ghost use mathlib.Core.Bool.{true};
 ghost use Prim.Native.Nat.{_+_, _≤_, _<_};
 ghost use lib.ListN.{getD, length, drop};
 ghost use Rattle.diagram.specs.Names.{same as alike};
-ghost use Rattle.lexer.specs.Classes.{class-of, within, worded};
-ghost use Rattle.lexer.specs.Words.{front, blanks, word-at, place-in, keyword as keyword-of, numeral as numeral-of, code as code-of};
+ghost use Rattle.tokens.specs.Classes.{class-of, within, worded};
+ghost use Rattle.tokens.specs.Words.{front, blanks, word-at, place-in, keyword as keyword-of, numeral as numeral-of, code as code-of};
+ghost use Rattle.tokens.specs.Parts.{Word};
 ghost use Rattle.lexer.specs.code.Cuts.{cuts, rising};
 ghost use Rattle.lexer.specs.code.Table.{Classified};
-ghost use Rattle.lexer.specs.Spans.{spans-of, width, codes as codes-of, places as places-of};
-ghost use Rattle.lexer.specs.Scanned.{first-foreign, first-long, scan-of, written};
+ghost use Rattle.tokens.specs.Spans.{spans-of, width, codes as codes-of, places as places-of};
+ghost use Rattle.tokens.specs.Scanned.{first-foreign, first-long, scan-of, written};
 ghost use Rattle.base.specs.Fill.{fill};
+use tokens::Scan;
 
 // The class of each byte: 0 foreign, 1 to 4 the signs ( ) , : in this order, 5 letter, 6 digit, 7 underscore, 8 blank.
 const CLASS: [u8; 256] = [
@@ -271,12 +273,6 @@ const CLASS: [u8; 256] = [
     0,
 ];
 
-// How many tokens a text has, or the refusal with its place.
-pub enum Scan {
-    Tokens(usize),
-    Refused(u8, usize),
-}
-
 // The table, made once for a whole run of bytes.
 fn classes() -> [u8; 256]
     ensures { λ r. ⌜ Classified r ⌝ }
@@ -422,9 +418,9 @@ pub fn letter(text: &[u8], at: usize) -> u8
     b
 }
 
-// The word that starts at `at`; empty where the text ends before it.
-fn word(text: &[u8], at: usize) -> &[u8]
-    ensures { λ r. ⌜ now r ≡ word-at (now (text .entry)) at ⌝ }
+// The word that starts at `at`, as that very part of the text; an empty part where the text ends before it.
+pub fn word(text: &[u8], at: usize) -> &[u8]
+    ensures { λ r. ⌜ Word (text .entry) at r ⌝ }
 {
     if text.len() < at {
         return &text[..0];

@@ -7,7 +7,7 @@ use native.Mathlib.Numerals.{add-one}
 use native.Mathlib.Omega.{arith}
 use lib.ListN.{length, drop, getD, set, drop-of-length-le, length-append, length-set}
 use lib.Seq.{drop-cons}
-use Rattle.lexer.specs.Classes.{between}
+use Rattle.tokens.specs.Classes.{between}
 use Rattle.base.specs.Fill.{fill}
 use Rattle.base.proofs.Filled.{fill-none, fill-next}
 use Rattle.rules.specs.TokenNodes.{opened}

@@ -6,7 +6,7 @@ ghost use lib.Dec.{eqb};
 ghost use lib.ListN.{length, getD, drop};
 ghost use Rattle.base.specs.Fill.{fill};
 ghost use Rattle.diagram.specs.Tree.{Name};
-ghost use Rattle.lexer.specs.Classes.{between};
+ghost use Rattle.tokens.specs.Classes.{between};
 ghost use Rattle.rules.specs.TokenNodes.{reach as reach-of, extent, solid-of, par-count, strong-of, opened as opened-of};
 ghost use Rattle.nodes.specs.code.Columns.{keys as keys-of, depths as depths-of, by-columns};
 

@@ -13,7 +13,7 @@ use lib.ListN.{length, getD, drop-of-length-le, List·getD-eq-default}
 use lib.Seq.{drop-cons}
 use borrow.Author.Tests.{ltb-true, ltb-false, lt-ltb, le-ltb, le-leb, lt-leb, eq-eqb, ne-eqb}
 use Rattle.base.proofs.Truth.{cases}
-use Rattle.lexer.specs.Classes.{between}
+use Rattle.tokens.specs.Classes.{between}
 use Rattle.grammar.specs.Machine.{Want, sign, number, params, param, node, more, others, Move, off, big, push, Outcome, stop, member, child, ref, flow-parts, leaf-parts, group-parts, replicator-parts, loop-parts, parts, full, begin, expand, proceed, run}
 use Rattle.parser.specs.declared.Step.{Step}
 use Rattle.parser.specs.declared.Step.the-variants.{Go, Stop}

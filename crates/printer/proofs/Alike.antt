@@ -7,8 +7,8 @@ use native.Mathlib.Omega.{arith}
 use lib.ListN.{length}
 use Rattle.diagram.specs.Tree.{Flow}
 use Rattle.base.proofs.Truth.{cases}
-use Rattle.lexer.specs.Classes.{blank}
-use Rattle.lexer.specs.Spans.{tokens}
+use Rattle.tokens.specs.Classes.{blank}
+use Rattle.tokens.specs.Spans.{tokens}
 use Rattle.grammar.specs.Tokens.{flow-tokens}
 use Rattle.grammar.specs.Printed.{printed}
 use Rattle.grammar.specs.Derives.{Derives}

@@ -9,8 +9,8 @@ use native.Mathlib.Omega.{arith}
 use lib.ListN.{length, getD, take, drop, set, length-drop, drop-of-length-le}
 use lib.Seq.{drop-cons, drop-drop, getD-drop, take-all}
 use Rattle.base.proofs.Truth.{not-e}
-use Rattle.lexer.specs.Classes.{blank}
-use Rattle.lexer.specs.Words.{blanks}
+use Rattle.tokens.specs.Classes.{blank}
+use Rattle.tokens.specs.Words.{blanks}
 use Rattle.base.specs.Fill.{fill}
 use Rattle.base.proofs.Filled.{fill-none, fill-more}
 use Rattle.grammar.specs.Printed.{printed}

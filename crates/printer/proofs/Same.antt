@@ -10,7 +10,7 @@ use Rattle.diagram.specs.Tree.{Flow}
 use Rattle.diagram.specs.Stored.{blank-node}
 use Rattle.diagram.specs.declared.Node.{Node}
 use Rattle.diagram.specs.declared.Diagram.{Diagram}
-use Rattle.lexer.specs.Spans.{places}
+use Rattle.tokens.specs.Spans.{places}
 use Rattle.rules.specs.TokenNodes.{TokenNode}
 use Rattle.grammar.specs.Printed.{printed}
 use Rattle.reading.specs.Nodes.{node-of, stored}

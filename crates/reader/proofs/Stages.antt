@@ -4,13 +4,13 @@ use mathlib.Core.List.{List}
 use Prim.Native.Nat.{ℕ, _≤_}
 use native.Mathlib.Omega.{arith}
 use lib.ListN.{length, take}
-use Rattle.lexer.specs.Spans.{spans-of, codes, places}
+use Rattle.tokens.specs.Spans.{spans-of, codes, places}
 use Rattle.base.specs.Fill.{fill}
-use Rattle.lexer.specs.Scanned.{scan-of, written}
-use Rattle.lexer.specs.declared.Scan.{Scan}
-use Rattle.lexer.specs.declared.Scan.the-variants.{Tokens, Refused as Unscanned}
+use Rattle.tokens.specs.Scanned.{scan-of, written}
+use Rattle.tokens.specs.declared.Scan.{Scan}
+use Rattle.tokens.specs.declared.Scan.the-variants.{Tokens, Refused as Unscanned}
 use Rattle.base.proofs.Begins.{Begins, fill-begins}
-use Rattle.lexer.proofs.Spans.{codes-length, places-length, tokens-bounded}
+use Rattle.tokens.proofs.Spans.{codes-length, places-length, tokens-bounded}
 use Rattle.grammar.specs.Machine.{Outcome, whole, stop, outcome}
 use Rattle.grammar.proofs.Limited.{whole-none-big}
 use Rattle.grammar.proofs.Few.{whole-few}

@@ -13,11 +13,11 @@ ghost use Rattle.reader.specs.code.Stages.{scan-answer, parse-answer, ve
 use diagram::Diagram;
 use diagram::Kind;
 use diagram::Node;
-use lexer::Scan;
 use parser::Step;
 use reading::Answer;
 use reading::ReadResult;
 use rules::Verdict;
+use tokens::Scan;
 
 // An answer that carries no diagram.
 fn no_diagram(answer: Answer) -> ReadResult

@@ -14,8 +14,8 @@ use Rattle.diagram.specs.Tree.{Flow}
 use Rattle.diagram.specs.Count.{flow-nodes, flow-copies, flow-events}
 use Rattle.diagram.specs.declared.Diagram.{Diagram}
 use Rattle.base.proofs.Truth.{cases}
-use Rattle.lexer.specs.Spans.{places}
-use Rattle.lexer.proofs.Spans.{tokens-length, places-length, places-below}
+use Rattle.tokens.specs.Spans.{places}
+use Rattle.tokens.proofs.Spans.{tokens-length, places-length, places-below}
 use Rattle.rules.specs.PlacedNodes.{PlacedNode}
 use Rattle.reading.specs.Accepted.{Accepted}
 use Rattle.reading.specs.Answers.{read-of}

@@ -11,10 +11,10 @@ use lib.ListN.{length, getD, List·getD-eq-default}
 use borrow.Author.Tests.{leb-true, ltb-true, ltb-false}
 use Rattle.diagram.specs.Tree.{Name, Flow}
 use Rattle.base.proofs.Truth.{and-l, and-r, cases, not-e}
-use Rattle.lexer.specs.Classes.{class-of, worded, foreign}
-use Rattle.lexer.specs.Words.{short, every, code}
-use Rattle.lexer.specs.Spans.{tokens, codes, places}
-use Rattle.lexer.proofs.Spans.{token-word, code-worded}
+use Rattle.tokens.specs.Classes.{class-of, worded, foreign}
+use Rattle.tokens.specs.Words.{short, every, code}
+use Rattle.tokens.specs.Spans.{tokens, codes, places}
+use Rattle.tokens.proofs.Spans.{token-word, code-worded}
 use Rattle.grammar.specs.Machine.{whole, outcome}
 use Rattle.grammar.proofs.Limits.{over-limit}
 use Rattle.grammar.specs.Derives.{Derives}

@@ -14,12 +14,12 @@ use Rattle.diagram.specs.Count.{flow-copies, flow-events}
 use Rattle.diagram.specs.Names.{flow-names, differ}
 use Rattle.diagram.specs.Parameters.{flow-parameters}
 use Rattle.diagram.specs.Flows.{each-flow, solid, strong}
-use Rattle.lexer.specs.Words.{code}
-use Rattle.lexer.specs.Spans.{tokens, codes, places}
-use Rattle.lexer.specs.Scanned.{scan-of}
-use Rattle.lexer.specs.Spans.{spans-of}
-use Rattle.lexer.specs.declared.Scan.{Scan}
-use Rattle.lexer.specs.declared.Scan.the-variants.{Tokens, Refused as Unscanned}
+use Rattle.tokens.specs.Words.{code}
+use Rattle.tokens.specs.Spans.{tokens, codes, places}
+use Rattle.tokens.specs.Scanned.{scan-of}
+use Rattle.tokens.specs.Spans.{spans-of}
+use Rattle.tokens.specs.declared.Scan.{Scan}
+use Rattle.tokens.specs.declared.Scan.the-variants.{Tokens, Refused as Unscanned}
 use Rattle.grammar.specs.Machine.{stop, outcome}
 use Rattle.grammar.proofs.Limits.{over-limit}
 use Rattle.grammar.specs.Derives.{Derives}

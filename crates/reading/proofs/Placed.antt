@@ -10,7 +10,7 @@ use Rattle.diagram.specs.Stored.{blank-node}
 use Rattle.diagram.specs.declared.Kind.{Kind}
 use Rattle.diagram.specs.declared.Node.{Node}
 use Rattle.diagram.specs.declared.Diagram.{Diagram}
-use Rattle.lexer.specs.Spans.{places}
+use Rattle.tokens.specs.Spans.{places}
 use Rattle.rules.specs.TokenNodes.{TokenNode}
 use Rattle.rules.specs.PlacedNodes.{PlacedNode, flow-placed-nodes}
 use Rattle.rules.proofs.Trees.{flow-token-nodes}

@@ -9,13 +9,13 @@ use lib.Dec.{ltb, leb}
 use lib.ListN.{length, getD, length-map, List·getD-map}
 use borrow.Author.Tests.{lt-ltb, le-ltb, le-leb, lt-leb, ltb-true, ltb-false, leb-true, leb-false, not-false}
 use Rattle.base.proofs.Truth.{clash, cases, not-i, not-e}
-use Rattle.lexer.specs.Classes.{foreign}
-use Rattle.lexer.specs.Words.{front}
-use Rattle.lexer.specs.Spans.{Span, spans-of, tokens, places}
-use Rattle.lexer.specs.Scanned.{first-foreign, first-long, scan-of}
-use Rattle.lexer.specs.declared.Scan.{Scan}
-use Rattle.lexer.specs.declared.Scan.the-variants.{Tokens, Refused}
-use Rattle.lexer.proofs.Spans.{no-span, tokens-length, token-at, place-at, places-below}
+use Rattle.tokens.specs.Classes.{foreign}
+use Rattle.tokens.specs.Words.{front}
+use Rattle.tokens.specs.Spans.{Span, spans-of, tokens, places}
+use Rattle.tokens.specs.Scanned.{first-foreign, first-long, scan-of}
+use Rattle.tokens.specs.declared.Scan.{Scan}
+use Rattle.tokens.specs.declared.Scan.the-variants.{Tokens, Refused}
+use Rattle.tokens.proofs.Spans.{no-span, tokens-length, token-at, place-at, places-below}
 use Rattle.grammar.proofs.Rendered.{usual}
 use Rattle.reading.specs.Refused.{Long, Foreign, Usual, Wordy, Clean}
 

@@ -16,9 +16,9 @@ use Rattle.diagram.specs.declared.Kind.the-variants.{Flow as FlowKind, Leaf, Lo
 use Rattle.diagram.proofs.Ways.{by-way}
 use Rattle.diagram.proofs.OneTree.{one-tree}
 use Rattle.base.proofs.Truth.{cases, is-false}
-use Rattle.lexer.specs.Words.{word-at, code}
-use Rattle.lexer.specs.Spans.{tokens, codes, places}
-use Rattle.lexer.proofs.Between.{in-range}
+use Rattle.tokens.specs.Words.{word-at, code}
+use Rattle.tokens.specs.Spans.{tokens, codes, places}
+use Rattle.tokens.proofs.Between.{in-range}
 use Rattle.grammar.specs.Tokens.{child-tokens, member-tokens}
 use Rattle.grammar.proofs.Limits.{count-of, nodes-in}
 use Rattle.grammar.specs.Machine.{keyed}

@@ -1,9 +1,9 @@
 -- The short texts that are worked through, computed over the table.
 use mathlib.Core.Path.{refl}
-use Rattle.lexer.specs.Classes.{class-of}
-use Rattle.lexer.specs.Words.{front, keywords, keyword, numeral, word-code, code}
-use Rattle.lexer.specs.Spans.{width, spans, spans-of, tokens, codes, places}
-use Rattle.lexer.specs.Scanned.{first-long, scan-of}
+use Rattle.tokens.specs.Classes.{class-of}
+use Rattle.tokens.specs.Words.{front, keywords, keyword, numeral, word-code, code}
+use Rattle.tokens.specs.Spans.{width, spans, spans-of, tokens, codes, places}
+use Rattle.tokens.specs.Scanned.{first-long, scan-of}
 use Rattle.grammar.specs.Machine.{parts, begin, expand, run, outcome}
 use Rattle.rules.specs.TokenNodes.{reach, extent, solid-of, par-count, strong-of, token-node, token-nodes}
 use Rattle.rules.specs.Kept.{fault}

@@ -6,7 +6,7 @@ use Rattle.diagram.specs.Tree.{Flow}
 use Rattle.diagram.specs.Count.{flow-nodes, flow-copies, flow-events}
 use Rattle.diagram.specs.Depth.{flow-depth}
 use Rattle.diagram.specs.Rules.{Keeps}
-use Rattle.lexer.specs.Spans.{tokens}
+use Rattle.tokens.specs.Spans.{tokens}
 use Rattle.grammar.specs.Derives.{Derives}
 
 -- The text is no longer than 16,384 bytes, the diagram derives its tokens, keeps the rules beyond grammar and has at most 256 nodes, 12 depths,

@@ -6,10 +6,10 @@ use mathlib.Core.List.{List}
 use Prim.Native.Nat.{ℕ}
 use lib.ListN.{length, getD}
 use Rattle.diagram.specs.Stored.{blank-diagram}
-use Rattle.lexer.specs.Spans.{codes, places}
-use Rattle.lexer.specs.Scanned.{scan-of}
-use Rattle.lexer.specs.declared.Scan.{Scan}
-use Rattle.lexer.specs.declared.Scan.the-variants.{Tokens, Refused as Unscanned}
+use Rattle.tokens.specs.Spans.{codes, places}
+use Rattle.tokens.specs.Scanned.{scan-of}
+use Rattle.tokens.specs.declared.Scan.{Scan}
+use Rattle.tokens.specs.declared.Scan.the-variants.{Tokens, Refused as Unscanned}
 use Rattle.grammar.specs.Machine.{Outcome, whole, stop, outcome}
 use Rattle.rules.specs.TokenNodes.{TokenNode, token-nodes, name-in}
 use Rattle.rules.specs.Judged.{verdict}

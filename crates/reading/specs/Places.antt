@@ -8,7 +8,7 @@ use Rattle.diagram.specs.Tree.{Flow}
 use Rattle.diagram.specs.Stored.{blank-node}
 use Rattle.diagram.specs.declared.Node.{Node}
 use Rattle.diagram.specs.declared.Diagram.{Diagram}
-use Rattle.lexer.specs.Spans.{places}
+use Rattle.tokens.specs.Spans.{places}
 use Rattle.rules.specs.PlacedNodes.{PlacedNode, flow-placed-nodes}
 use Rattle.diagram.specs.TreeNodes.{TreeNode, has-name, flow-tree-nodes}
 

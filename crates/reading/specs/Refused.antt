@@ -11,8 +11,8 @@ use Rattle.diagram.specs.Depth.{flow-depth}
 use Rattle.diagram.specs.Names.{flow-names, differ}
 use Rattle.diagram.specs.Parameters.{flow-parameters}
 use Rattle.diagram.specs.Flows.{each-flow, solid, strong}
-use Rattle.lexer.specs.Classes.{foreign}
-use Rattle.lexer.specs.Spans.{tokens, places}
+use Rattle.tokens.specs.Classes.{foreign}
+use Rattle.tokens.specs.Spans.{tokens, places}
 use Rattle.grammar.specs.Derives.{Derives, Viable}
 use Rattle.rules.specs.PlacedNodes.{PlacedNode, flow-placed-nodes, too-big, first-twice, first-broken}
 use Rattle.rules.specs.Found.{At}

@@ -10,7 +10,7 @@ use Rattle.diagram.specs.Parameters.{flow-parameters}
 use Rattle.diagram.specs.TreeNodes.{TreeNode, tree-node, has-name, flow-tree-nodes}
 use Rattle.diagram.specs.declared.Node.{Node}
 use Rattle.diagram.specs.declared.Diagram.{Diagram}
-use Rattle.lexer.specs.Words.{word-at}
+use Rattle.tokens.specs.Words.{word-at}
 
 unfoldable pub shown-node : List ℕ → Node → TreeNode
 shown-node text n = tree-node (n .kind) (n .solid) (n .strong) (n .depth) (cond (has-name (n .kind)) (word-at text (n .name)) [])

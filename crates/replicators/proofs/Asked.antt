@@ -9,7 +9,7 @@ use lib.ListN.{length, getD}
 use borrow.Author.Tests.{ne-eqb, le-leb, lt-leb, leb-true}
 use Rattle.diagram.specs.Tree.{Name}
 use Rattle.base.proofs.Truth.{and-l}
-use Rattle.lexer.specs.Classes.{between}
+use Rattle.tokens.specs.Classes.{between}
 use Rattle.nodes.specs.code.Columns.{by-columns, node}
 use Rattle.nodes.proofs.Numbered.{node-code, node-depth, copying-name, flow-pars, from-here, from-past}
 use Rattle.replicators.specs.code.Around.{around-at, fresh-at, listed-at, parameters-at}

@@ -7,7 +7,7 @@ use native.Mathlib.Omega.{arith}
 use lib.ListN.{getD}
 use borrow.Author.Tests.{lt-ltb, le-ltb}
 use Rattle.diagram.specs.Tree.{Name}
-use Rattle.lexer.specs.Classes.{between}
+use Rattle.tokens.specs.Classes.{between}
 use Rattle.rules.specs.Kept.{around}
 use Rattle.rules.specs.Counted.{times}
 use Rattle.nodes.specs.code.Columns.{node, earlier}

@@ -13,7 +13,7 @@ use lib.ListN.{getD}
 use borrow.Author.Tests.{eq-eqb, ne-eqb, eqb-true}
 use Rattle.diagram.specs.Tree.{Name, Flow, flow}
 use Rattle.base.proofs.Truth.{cases}
-use Rattle.lexer.specs.Words.{code}
+use Rattle.tokens.specs.Words.{code}
 use Rattle.grammar.specs.Tokens.{flow-tokens}
 use Rattle.grammar.specs.Derives.{Grammatical}
 use Rattle.grammar.proofs.Limits.{over-limit}

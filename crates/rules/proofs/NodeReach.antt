@@ -9,7 +9,7 @@ use lib.ListN.{length, getD, drop, length-append, length-map}
 use lib.Seq.{drop-at, getD-drop}
 use borrow.Author.Tests.{ne-eqb, lt-leb}
 use Rattle.diagram.specs.Tree.{Name, Way, all, some, one, Flow, flow, Children, none, next, Child, plain, loop, group, replicator, Member, leaf, inner, Members, end, also}
-use Rattle.lexer.specs.Words.{code}
+use Rattle.tokens.specs.Words.{code}
 use Rattle.grammar.specs.Tokens.{opening, closing, comma, colon, key, bit, digits, group-key, replicator-key, pars-tokens, ref-tokens, flow-tokens, children-tokens, child-tokens, member-tokens, members-tokens}
 use Rattle.grammar.proofs.Codes.{coded-opening, coded-closing, coded-comma, coded-colon, coded-key, coded-bit}
 use Rattle.rules.specs.TokenNodes.{flowing, copying, reach, extent, solid-of}

@@ -10,7 +10,7 @@ use borrow.Author.Tests.{leb-true}
 use Rattle.diagram.specs.Tree.{Name, Way, all, some, one, Flow, flow, Children, none, next, Child, plain, loop, group, replicator, Member, leaf, inner, Members, end, also}
 use Rattle.diagram.specs.Sizes.{flow-sized, children-sized, child-sized, member-sized, members-sized}
 use Rattle.base.proofs.Truth.{and-l, and-r}
-use Rattle.lexer.specs.Words.{code, named}
+use Rattle.tokens.specs.Words.{code, named}
 use Rattle.grammar.specs.Tokens.{opening, closing, comma, bit, digits, group-key, replicator-key, pars-tokens, ref-tokens, flow-tokens, children-tokens, child-tokens, member-tokens, members-tokens}
 use Rattle.grammar.specs.Named.{all-named, flow-named, children-named, child-named, member-named, members-named}
 use Rattle.grammar.proofs.Codes.{coded-key, coded-digits, coded-name}

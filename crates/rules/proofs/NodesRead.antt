@@ -9,7 +9,7 @@ use lib.ListN.{length, getD}
 use lib.Seq.{getD-append-add}
 use borrow.Author.Tests.{ne-eqb}
 use Rattle.diagram.specs.Tree.{Name, Way, all, some, one, Flow, flow, Children, none, next, Child, plain, loop, group, replicator, Member, leaf, inner, Members, end, also}
-use Rattle.lexer.specs.Words.{code}
+use Rattle.tokens.specs.Words.{code}
 use Rattle.grammar.specs.Machine.{keyed}
 use Rattle.grammar.specs.Derives.{Grammatical}
 use Rattle.grammar.specs.Tokens.{opening, closing, comma, colon, key, bit, digits, group-key, replicator-key, pars-tokens, ref-tokens, flow-tokens, children-tokens, child-tokens, member-tokens, members-tokens}

@@ -5,8 +5,8 @@ use Prim.Native.Nat.{ℕ, zero, suc, _+_, _-_}
 use lib.Dec.{eqb, leb}
 use lib.ListN.{getD, drop}
 use Rattle.diagram.specs.Tree.{Name}
-use Rattle.lexer.specs.Classes.{between}
-use Rattle.lexer.specs.Words.{word-at}
+use Rattle.tokens.specs.Classes.{between}
+use Rattle.tokens.specs.Words.{word-at}
 use Rattle.grammar.specs.Machine.{keyed}
 
 -- Tokens are numbers here, as in `grammar.specs.Machine`: 1 ( , 2 ) , 6 a name, 7 flow, 8 leaf, 9 and, 10 or, 11 xor, 12 all, 13 some,

@@ -14,7 +14,7 @@ use Rattle.diagram.specs.Tree.{Flow}
 use Rattle.base.specs.Equal.{same}
 use Rattle.base.proofs.Decided.{same-decides}
 use Rattle.diagram.specs.Count.{flow-events, flow-copies}
-use Rattle.lexer.specs.Words.{lettered}
+use Rattle.tokens.specs.Words.{lettered}
 use Rattle.reading.specs.Accepted.{Accepted}
 use Rattle.process.specs.Process.{Event, events, event-of}
 use Rattle.process.specs.Expand.{expand}
@@ -22,7 +22,8 @@ use Rattle.process.proofs.Events.{events-counted, event-in-order}
 use Rattle.process.proofs.NoTwo.{no-event-twice}
 use Rattle.labels.proofs.SearchByTree.{nothing}
 use Rattle.output.specs.Decimal.{decimal}
-use Rattle.events.specs.Listing.{first-line, mark, spaced, line, lines as listing-lines, drawing-listing}
+use Rattle.lines.specs.Lines.{first-line, mark, spaced, line, lines as listing-lines}
+use Rattle.events.specs.Listing.{drawing-listing}
 use Rattle.events.proofs.Short.{Each, each-append, each-at, Short, events-short}
 use Rattle.events.proofs.Called.{Without, without, decimal-without, word-without, blanks-no-words, letter-high, digit-low, decimal-one, called-one}
 use Rattle.events.proofs.Answers.{short-at}

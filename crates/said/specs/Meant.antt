@@ -5,7 +5,7 @@ use Prim.Native.Nat.{ℕ, suc}
 use Rattle.base.specs.Equal.{same}
 use Rattle.process.specs.Process.{Event}
 use Rattle.output.specs.Decimal.{decimal}
-use Rattle.events.specs.Listing.{mark, spaced}
+use Rattle.lines.specs.Lines.{mark, spaced}
 
 -- What an event is called: `reset` and a space for a reset, the name, and the values, each after a space. `proofs/Meant.antt` shows that no two events are
 -- called the same, and none by a number.

@@ -17,9 +17,9 @@ use Rattle.diagram.specs.Parameters.{flow-parameters}
 use Rattle.diagram.specs.Flows.{each-flow}
 use Rattle.diagram.specs.Rules.{Keeps}
 use Rattle.diagram.proofs.Kept.{keeps?, keeps-decided}
-use Rattle.lexer.specs.Classes.{class-of}
-use Rattle.lexer.specs.Words.{front, keywords, keyword, named, numeral, word-code, code}
-use Rattle.lexer.specs.Spans.{width, spans, spans-of, tokens}
+use Rattle.tokens.specs.Classes.{class-of}
+use Rattle.tokens.specs.Words.{front, keywords, keyword, named, numeral, word-code, code}
+use Rattle.tokens.specs.Spans.{width, spans, spans-of, tokens}
 use Rattle.grammar.specs.Named.{flow-named}
 use Rattle.grammar.specs.Tokens.{key, digits, flow-tokens}
 use Rattle.reading.specs.Accepted.{Accepted}

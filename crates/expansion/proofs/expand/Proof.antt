@@ -1,7 +1,7 @@
 -- `expansion::expand` meets its contract: the walk over the columns that it is given is the whole. Assumes nothing.
 use mathlib.Core.Path.{ap, _∙_}
 use borrow.Author.Needs.{needs}
-use Rattle.diagram.specs.declared.Nodes.{Nodes}
+use Rattle.columns.specs.declared.Nodes.{Nodes}
 use Rattle.expansion.specs.Walks.{Place, place, walk-columns, part, expanded}
 use Rattle.expansion.proofs.expand.Statement.{statement}
 use Rattle.expansion.proofs.expand.Tie as tie

@@ -1,7 +1,6 @@
 -- `harness::node_number` meets its contract: what its parts answer, side by side.
 use mathlib.Core.Bool.{cond}
-use Rattle.diagram.specs.Columns.{size-number}
-use Rattle.harness.specs.Nodes.{kind-number}
+use Rattle.columns.specs.Columns.{kind-index, size-number}
 use Rattle.harness.proofs.Packs.{five}
 use borrow.Author.Needs.{needs}
 use Rattle.harness.proofs.node_number.Statement.{statement}
@@ -10,12 +9,12 @@ use Rattle.harness.proofs.node_number.Tie as tie
 returns : tie.Need-returns
 returns c =
     let n = c .before .before .before .before .args .node in
-    five (kind-number (n .kind)) (size-number (n .kind)) (cond (n .solid) 1 0) (cond (n .strong) 1 0) (n .depth) (c .before .before .before .number-of .ensures)
-    (c .before .before .size-of .ensures) (c .before .mark-of .ensures) (c .mark-of2 .ensures)
+    five (kind-index (n .kind)) (size-number (n .kind)) (cond (n .solid) 1 0) (cond (n .strong) 1 0) (n .depth) (c .before .before .before .index .ensures)
+    (c .before .before .size .ensures) (c .before .mark-of .ensures) (c .mark-of2 .ensures)
 
 pub node-number-spec : {M : Type 1} → statement M
 node-number-spec =
     tie.close
-    (tie.spec (λ c κs. search needs) (λ c κs. search needs) (λ c κs. search needs) (λ c κs. search needs) (λ c. search needs)
+    (tie.spec (λ c κs. search needs) (λ c κs. search needs) (λ c. search needs) (λ c κs. search needs) (λ c κs. search needs) (λ c. search needs)
     (λ c. search needs) (λ c. search needs) (λ c. search needs) (λ c. search needs) (λ c. search needs) (λ c. search needs)
     (λ c. search needs) returns)

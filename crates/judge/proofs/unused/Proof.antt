@@ -5,7 +5,7 @@ use Prim.Native.Nat.{ℕ, _≤_}
 use native.Mathlib.Omega.{arith}
 use borrow.Author.Tests.{not-false}
 use borrow.Author.Needs.{needs}
-use Rattle.lexer.specs.Words.{word-at}
+use Rattle.tokens.specs.Words.{word-at}
 use Rattle.rules.specs.TokenNodes.{name-in}
 use Rattle.judge.proofs.Names.{Unused, unused-start, unused-nameless, unused-differs, unused-twice, unused-end}
 use Rattle.judge.proofs.Marked.{unused-marked}

@@ -1,5 +1,5 @@
 -- `lexer::class` meets its contract by the rule of the table.
-use Rattle.lexer.proofs.Between.{class-read}
+use Rattle.lexer.proofs.Ways.{class-read}
 use borrow.Author.Needs.{needs}
 use Rattle.lexer.proofs.class.Statement.{statement}
 use Rattle.lexer.proofs.class.Tie as tie

@@ -6,9 +6,9 @@ use Prim.Native.Nat.{ℕ}
 use lib.Dec.{eqb}
 use lib.ListN.{getD}
 use borrow.Author.Tests.{eqb-true}
-use Rattle.lexer.specs.Classes.{class-of}
+use Rattle.tokens.specs.Classes.{class-of}
 use Rattle.lexer.specs.code.Table.{Classified}
-use Rattle.lexer.proofs.Below.{all-below, at-below}
+use Rattle.tokens.proofs.Below.{all-below, at-below}
 use Rattle.lexer.proofs.classes.Statement.{statement}
 use Rattle.lexer.proofs.classes.Tie as tie
 

@@ -1,9 +1,9 @@
 -- `lexer::code` meets its contract: one law for each way through it.
 use mathlib.Core.Path.{_≡_}
 use mathlib.Core.Bool.{cond}
-use Rattle.lexer.specs.Classes.{between}
-use Rattle.lexer.specs.Words.{short, numeral, code}
-use Rattle.lexer.proofs.Between.{between-low, between-high}
+use Rattle.tokens.specs.Classes.{between}
+use Rattle.tokens.specs.Words.{short, numeral, code}
+use Rattle.tokens.proofs.Between.{between-low, between-high}
 use Rattle.lexer.proofs.Ways.{a-sign, a-keyword, no-keyword, a-numeral, a-long, a-name}
 use borrow.Author.Needs.{needs}
 use Rattle.lexer.proofs.code.Statement.{statement}

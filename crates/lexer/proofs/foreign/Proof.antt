@@ -1,7 +1,7 @@
 -- `lexer::foreign` meets its contract: not foreign is the classes 1 to 8.
 use mathlib.Core.Path.{_∙_}
 use native.Mathlib.Nat.{zero-add}
-use Rattle.lexer.proofs.Between.{foreign-known}
+use Rattle.tokens.proofs.Between.{foreign-known}
 use borrow.Author.Needs.{needs}
 use Rattle.lexer.proofs.foreign.Statement.{statement}
 use Rattle.lexer.proofs.foreign.Tie as tie

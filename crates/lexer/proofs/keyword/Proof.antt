@@ -1,7 +1,7 @@
 -- `lexer::keyword` meets its contract: the words that it hands over are the keywords.
 use native.Mathlib.Omega.{arith}
 use mathlib.Core.Path.{refl}
-use Rattle.lexer.specs.Words.{keywords, keyword}
+use Rattle.tokens.specs.Words.{keywords, keyword}
 use Rattle.lexer.specs.code.Cuts.{cuts, rising}
 use borrow.Author.Needs.{needs}
 use Rattle.lexer.proofs.keyword.Statement.{statement}

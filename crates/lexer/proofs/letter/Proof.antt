@@ -1,6 +1,6 @@
 -- `lexer::letter` meets its contract, one law for each way out.
-use Rattle.lexer.proofs.Between.{between-low, between-high}
-use Rattle.lexer.proofs.WordAt.{letter-none, letter-some}
+use Rattle.tokens.proofs.Between.{between-low, between-high}
+use Rattle.tokens.proofs.WordAt.{letter-none, letter-some}
 use borrow.Author.Needs.{needs}
 use Rattle.lexer.proofs.letter.Statement.{statement}
 use Rattle.lexer.proofs.letter.Tie as tie

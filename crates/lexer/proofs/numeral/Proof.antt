@@ -1,7 +1,7 @@
 -- `lexer::numeral` meets its contract: the words that it hands over are the numerals.
 use native.Mathlib.Omega.{arith}
 use mathlib.Core.Path.{refl}
-use Rattle.lexer.specs.Words.{numeral}
+use Rattle.tokens.specs.Words.{numeral}
 use Rattle.lexer.specs.code.Cuts.{cuts, rising}
 use borrow.Author.Needs.{needs}
 use Rattle.lexer.proofs.numeral.Statement.{statement}

@@ -2,10 +2,11 @@
 use Prim.Native.Nat.{_+_, _-_}
 use mathlib.Core.Path.{_≡_, refl, sym, _∙_}
 use lib.ListN.{length, drop}
-use Rattle.lexer.specs.Classes.{within}
-use Rattle.lexer.specs.Words.{front}
-use Rattle.lexer.proofs.Front.{front-end, front-stop, front-more}
-use Rattle.lexer.proofs.Between.{between-in, between-low, between-high, class-read}
+use Rattle.tokens.specs.Classes.{within}
+use Rattle.tokens.specs.Words.{front}
+use Rattle.tokens.proofs.Front.{front-end, front-stop, front-more}
+use Rattle.tokens.proofs.Between.{between-in, between-low, between-high}
+use Rattle.lexer.proofs.Ways.{class-read}
 use borrow.Author.Needs.{needs}
 use Rattle.lexer.proofs.past.Statement.{statement}
 use Rattle.lexer.proofs.past.Tie as tie

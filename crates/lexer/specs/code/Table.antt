@@ -3,7 +3,7 @@ use mathlib.Core.Path.{_≡_}
 use mathlib.Core.List.{List}
 use Prim.Native.Nat.{ℕ, _<_}
 use lib.ListN.{getD}
-use Rattle.lexer.specs.Classes.{class-of}
+use Rattle.tokens.specs.Classes.{class-of}
 
 -- A table that has the class of each byte.
 pub record Classified (table : List ℕ) : Type 0 where

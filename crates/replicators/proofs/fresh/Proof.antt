@@ -1,7 +1,7 @@
 -- The replicators passed have other pars.
 use mathlib.Core.Path.{sym, ap, _∙_}
 use borrow.Author.Needs.{needs}
-use Rattle.lexer.specs.Words.{word-at}
+use Rattle.tokens.specs.Words.{word-at}
 use Rattle.rules.specs.TokenNodes.{name-in}
 use Rattle.replicators.proofs.Passing.{Fresh, fresh-start, fresh-twice, fresh-next, fresh-end}
 use Rattle.replicators.proofs.fresh.Statement.{statement}

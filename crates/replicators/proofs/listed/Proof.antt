@@ -5,7 +5,7 @@ use Prim.Native.Nat.{_+_, _-_, _≤_}
 use lib.ListN.{length}
 use borrow.Author.Tests.{not-true, not-false}
 use borrow.Author.Needs.{needs}
-use Rattle.lexer.specs.Words.{word-at}
+use Rattle.tokens.specs.Words.{word-at}
 use Rattle.rules.specs.TokenNodes.{name-in}
 use Rattle.replicators.proofs.Passing.{Listed, listed-start, listed-none, listed-other, listed-next, listed-end}
 use Rattle.replicators.proofs.listed.Statement.{statement}

@@ -1,0 +1,2 @@
+pub mod LinesWritten
+pub mod ByLabels

@@ -1,0 +1,52 @@
+-- The test that a number lies between two others, and what it says of a byte's class.
+use mathlib.Core.Path.{_≡_, refl, ap, _∙_}
+use mathlib.Core.Bool.{Bool, true, false, not, _||_, cond}
+use mathlib.Core.List.{List}
+use Prim.Native.Char.{code as byte}
+use Prim.Native.Nat.{ℕ, zero, suc, _≤_, _<_}
+use native.Mathlib.Omega.{arith}
+use lib.Dec.{eqb, leb}
+use lib.ListN.{getD}
+use borrow.Author.Tests.{le-leb, leb-true}
+use Rattle.base.proofs.Truth.{and-l, and-r, and-i, is-false}
+use Rattle.tokens.specs.Classes.{between, spacing, class-of, within, foreign}
+use Rattle.tokens.specs.Words.{front}
+use Rattle.tokens.specs.Scanned.{first-foreign}
+use Rattle.tokens.proofs.Front.{front-same}
+
+pub between-in : (a b x : ℕ) → a ≤ x → x ≤ b → between a b x ≡ true
+between-in a b x h l = and-i (le-leb a x h) (le-leb x b l)
+
+pub in-range : (a b x : ℕ) → between a b x ≡ true → (a ≤ x) × (x ≤ b)
+in-range a b x e = (leb-true a x (and-l (leb a x) (leb x b) e), leb-true x b (and-r (leb a x) (leb x b) e))
+
+pub between-low : (a b x : ℕ) → x < a → between a b x ≡ false
+between-low a b x h = is-false (between a b x) (λ e. let l = in-range a b x e in omega arith)
+
+pub between-high : (a b x : ℕ) → b < x → between a b x ≡ false
+between-high a b x h = is-false (between a b x) (λ e. let l = in-range a b x e in omega arith)
+
+-- A byte's class is 0 to 8.
+either-small : (t : Bool) (x y : ℕ) → x ≤ 8 → y ≤ 8 → cond t x y ≤ 8
+either-small true x y h l = h
+either-small false x y h l = l
+
+pub class-small : (b : ℕ) → class-of b ≤ 8
+unfolding class-of
+class-small b =
+    either-small (eqb b (byte "(")) 1 _ (omega arith)
+    (either-small (eqb b (byte ")")) 2 _ (omega arith)
+    (either-small (eqb b (byte ",")) 3 _ (omega arith)
+    (either-small (eqb b (byte ":")) 4 _ (omega arith)
+    (either-small (between (byte "A") (byte "Z") b || between (byte "a") (byte "z") b) 5 _ (omega arith)
+    (either-small (between (byte "0") (byte "9") b) 6 _ (omega arith)
+    (either-small (eqb b (byte "_")) 7 _ (omega arith)
+    (either-small (spacing b) 8 0 (omega arith) (omega arith))))))))
+
+-- Not foreign is one of the other classes.
+known-at : (c : ℕ) → c ≤ 8 → between 1 8 c ≡ not (between 0 0 c)
+known-at zero h = refl
+known-at (suc c) h = rw (between-in 1 8 (suc c) (omega arith) h, between-high 0 0 (suc c) (omega arith))
+
+pub foreign-known : (text : List ℕ) → front (within 1 8) text ≡ first-foreign text
+foreign-known text = front-same (within 1 8) (λ b. not (foreign b)) (λ b. known-at (class-of b) (class-small b)) text

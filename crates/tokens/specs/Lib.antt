@@ -1,0 +1,6 @@
+pub mod Classes
+pub mod Words
+pub mod Parts
+pub mod Spans
+pub mod Scanned
+pub mod Worked
