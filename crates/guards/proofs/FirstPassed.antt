@@ -16,7 +16,8 @@ use Rattle.plan.specs.declared.Needs.{Needs}
 use Rattle.plan.specs.Pieces.{Piece, event-piece, again-piece, rounds-piece, join-piece}
 use Rattle.plan.specs.Plan.{Plan, leaf-plan, planning, plan-of}
 use Rattle.guards.specs.code.Rows.{put-rows}
-use Rattle.guards.specs.code.Passes.{event-count, ring, moved, no-rows, piece-of, FirstAt, first-with, first-step, first-pass}
+use Rattle.rows.specs.code.Words.{event-count, no-rows}
+use Rattle.guards.specs.code.Passes.{ring, moved, piece-of, FirstAt, first-with, first-step, first-pass}
 use Rattle.guards.proofs.RowsWritten.{put-rows-append}
 
 -- Elements stored one after the other, and then more.

@@ -8,8 +8,10 @@ use lib.ListN.{length, getD, set, take}
 use lib.Seq.{take-suc, take-all}
 use Rattle.plan.specs.declared.PartRows.{PartRows}
 use Rattle.plan.specs.declared.Needs.{Needs}
-use Rattle.guards.specs.code.Rows.{put-rows, listed, Adds}
-use Rattle.guards.specs.code.Passes.{piece-of, event-count, ring, moved, no-rows, FirstAt, first-step, first-pass, FirstEnds}
+use Rattle.rows.specs.code.Words.{listed}
+use Rattle.guards.specs.code.Rows.{put-rows, Adds}
+use Rattle.rows.specs.code.Words.{event-count, no-rows}
+use Rattle.guards.specs.code.Passes.{piece-of, ring, moved, FirstAt, first-step, first-pass, FirstEnds}
 use Rattle.guards.specs.declared.Added.{Added}
 use Rattle.guards.specs.declared.FirstResult.{FirstResult}
 

@@ -19,7 +19,8 @@ use Rattle.plan.specs.Pieces.{constants}
 use Rattle.plan.specs.Plan.{plan-of, guards-of, middle, rows-of, records-of, planned}
 use Rattle.plan.proofs.Lengths.{length-three, needs-length, records-length, planned-length}
 use Rattle.guards.specs.code.Rows.{put-rows}
-use Rattle.guards.specs.code.Passes.{no-rows, no-needs, FirstAt, first-start, done-row, SecondAt, second-start, base-of, first-of, second-of, finish, Passes}
+use Rattle.rows.specs.code.Words.{no-rows}
+use Rattle.guards.specs.code.Passes.{no-needs, FirstAt, first-start, done-row, SecondAt, second-start, base-of, first-of, second-of, finish, Passes}
 use Rattle.guards.proofs.RowsWritten.{put-rows-append, rows-below-rows}
 use Rattle.guards.proofs.FirstPassed.{Stands, first-passed}
 use Rattle.guards.proofs.SecondPassed.{Holds, Passed, second-passed}

@@ -1,23 +1,15 @@
 -- Rows that the code lists one after the other.
-use mathlib.Core.Path.{_≡_, refl, sym}
+use mathlib.Core.Path.{_≡_, refl}
 use mathlib.Core.List.{List, [], _∷_, _++_}
 use Prim.Native.Nat.{ℕ, _+_, _≤_}
 use native.Mathlib.Omega.{arith}
-use lib.ListN.{length, take}
-use lib.Seq.{take-append-le, length-take-le}
+use lib.ListN.{length}
 use Rattle.layout.specs.Fields.{not-row, both-row, either-row}
 use Rattle.plan.specs.declared.PartRows.{PartRows}
 use Rattle.plan.specs.Pieces.{part-rows, settling, settled-row, some-piece}
-use Rattle.guards.specs.code.Rows.{Lists, Adds}
-use Rattle.guards.specs.declared.Words.{Words}
-
--- The first k of two, whatever comes after them.
-pub listed-first : (k n u v a b : ℕ) (ws : List ℕ) (r : Words) → k ≡ n → k ≤ 2 → u ≡ a → v ≡ b → r .count ≡ k → r .words ≡ (u ∷ v ∷ ws)
-    → Lists r (take n (a ∷ b ∷ []))
-listed-first k n u v a b ws r e h p q c s = record {
-  its-count = rw (c, ← e) (sym (length-take-le k (a ∷ b ∷ []) h));
-  its-words = rw (c, s, ← e, p, q) (take-append-le k (a ∷ b ∷ []) ws h);
-}
+use Rattle.rows.specs.code.Words.{Lists}
+use Rattle.guards.specs.code.Rows.{Adds}
+use Rattle.rows.specs.declared.Words.{Words}
 
 -- Either part or both: four rows after those that settle the parts.
 pub some-made : (k i j a b u v w x : ℕ) (p q : PartRows) (list : Words) → i ≡ k + length (settling p) → j ≡ i + length (settling q) → a ≡ settled-row k p

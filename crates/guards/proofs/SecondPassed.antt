@@ -19,7 +19,8 @@ use Rattle.plan.specs.declared.Needs.{Needs}
 use Rattle.plan.specs.Plan.{Plan, joined, plan-of, Guards, guards, join-guards, joint-words, later-gate, earlier-gate, guards-of}
 use Rattle.plan.proofs.Lengths.{needs-length, records-length}
 use Rattle.guards.specs.code.Rows.{put-rows}
-use Rattle.guards.specs.code.Passes.{ring, second-words, gate-row, record-of, no-needs, SecondAt, second-with, second-step, second-pass}
+use Rattle.rows.specs.code.Words.{second-words, gate-row, record-of}
+use Rattle.guards.specs.code.Passes.{ring, no-needs, SecondAt, second-with, second-step, second-pass}
 use Rattle.guards.proofs.RowsWritten.{put-rows-append, rows-below-rows}
 
 -- ---- what the first pass left

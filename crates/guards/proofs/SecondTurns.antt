@@ -6,9 +6,11 @@ use native.Mathlib.Omega.{arith}
 use lib.ListN.{length, getD, set, drop}
 use lib.Seq.{drop-cons, drop-length}
 use Rattle.plan.specs.declared.Needs.{Needs}
-use Rattle.guards.specs.code.Rows.{put-rows, listed, Lists}
-use Rattle.guards.specs.code.Passes.{event-count, ring, moved, second-words, record-of, put-record, gate-row, no-needs, SecondAt, second-step, second-pass, SecondEnds}
-use Rattle.guards.specs.declared.Words.{Words}
+use Rattle.rows.specs.code.Words.{listed, Lists}
+use Rattle.guards.specs.code.Rows.{put-rows}
+use Rattle.rows.specs.code.Words.{event-count, second-words, record-of, gate-row}
+use Rattle.guards.specs.code.Passes.{ring, moved, put-record, no-needs, SecondAt, second-step, second-pass, SecondEnds}
+use Rattle.rows.specs.declared.Words.{Words}
 
 abbrev pub second-at : (rows event at top : ℕ) (gates out : List ℕ) → SecondAt
 second-at rows event at top gates out = record { rows = rows; event = event; at = at; top = top; gates = gates; out = out }

@@ -1,22 +1,15 @@
 ghost use mathlib.Core.Path.{_≡_};
-ghost use mathlib.Core.List.{[], _∷_, _++_};
 ghost use Prim.Native.Nat.{_+_, _-_, _*_, _≤_, _<_};
 ghost use lib.ListN.{length};
-ghost use Rattle.layout.specs.Fields.{bit-row, not-row, both-row, either-row, event-record};
-ghost use Rattle.plan.specs.Pieces.{constants as constants-of, leaf-piece, rounds-piece, pair-piece, settling, settled-row, some-piece};
+ghost use Rattle.plan.specs.Pieces.{leaf-piece, rounds-piece, pair-piece, some-piece};
+ghost use Rattle.rows.specs.code.Words.{listed, event-count as event-count-of, record-of};
 ghost use Rattle.guards.specs.Table.{TableWritten};
-ghost use Rattle.guards.specs.code.Rows.{put-rows, listed, Lists, Adds};
-ghost use Rattle.guards.specs.code.Passes.{coupled as coupled-of, piece-of, event-count as event-count-of, moved as moved-of, second-count as second-count-of};
-ghost use Rattle.guards.specs.code.Passes.{second-words as second-words-of, gate-row, record-of, put-record, no-rows, first-start, first-pass as first-pass-of, FirstEnds};
+ghost use Rattle.guards.specs.code.Rows.{put-rows, Adds};
+ghost use Rattle.guards.specs.code.Passes.{piece-of, moved as moved-of, put-record, first-start, first-pass as first-pass-of, FirstEnds};
 ghost use Rattle.guards.specs.code.Passes.{second-start, second-pass as second-pass-of, SecondEnds, Passes};
 use plan::Needs;
 use plan::PartRows;
-
-// Up to six rows, one after the other.
-pub struct Words {
-    pub words: [usize; 6],
-    pub count: u16,
-}
+use rows::Words;
 
 // What a part adds to its own parts: rows, the rows that speak of it, and what the second pass needs.
 pub struct Added {
@@ -33,45 +26,13 @@ pub struct FirstResult {
     pub needs: [Needs; 1024],
 }
 
-fn bit_row(e: u16) -> usize
-    ensures { λ r. ⌜ r ≡ bit-row e ⌝ }
-{
-    base::wide_short(e) * layout::SIDE
-}
-
-fn not_row(a: u16) -> usize
-    ensures { λ r. ⌜ r ≡ not-row a ⌝ }
-{
-    layout::KIND + base::wide_short(a) * layout::SIDE
-}
-
-fn both_row(a: u16, b: u16) -> usize
-    ensures { λ r. ⌜ r ≡ both-row a b ⌝ }
-{
-    2 * layout::KIND + base::wide_short(a) * layout::SIDE + base::wide_short(b)
-}
-
-fn either_row(a: u16, b: u16) -> usize
-    ensures { λ r. ⌜ r ≡ either-row a b ⌝ }
-{
-    3 * layout::KIND + base::wide_short(a) * layout::SIDE + base::wide_short(b)
-}
-
-fn event_record(guard: u16, first: u16, count: u16) -> usize
-    ensures { λ r. ⌜ r ≡ event-record guard first count ⌝ }
-{
-    base::wide_short(guard) * layout::GUARD
-        + base::wide_short(first) * layout::RUN
-        + base::wide_short(count)
-}
-
 // A leaf, event e, or a loop over it, which is complete by row `done`; its guard needs row `later`.
 fn leaf(k: u16, e: u16, done: u16, later: u16) -> Added
     requires { ⌜ k < 12000 ⌝ }
     ensures { λ r. ⌜ Adds (leaf-piece k e done later) r ⌝ }
 {
     let words = Words {
-        words: [bit_row(e), not_row(k), 0, 0, 0, 0],
+        words: [rows::bit_row(e), rows::not_row(k), 0, 0, 0, 0],
         count: 2,
     };
     let part = PartRows {
@@ -91,7 +52,14 @@ fn rounds(k: u16, e: u16, m: PartRows) -> Added
     ensures { λ r. ⌜ Adds (rounds-piece k e m) r ⌝ }
 {
     let words = Words {
-        words: [bit_row(e), either_row(m.begun, k), not_row(k + 1), 0, 0, 0],
+        words: [
+            rows::bit_row(e),
+            rows::either_row(m.begun, k),
+            rows::not_row(k + 1),
+            0,
+            0,
+            0,
+        ],
         count: 3,
     };
     let part = PartRows {
@@ -114,7 +82,14 @@ fn join_pair(k: u16, p: PartRows, q: PartRows, done: usize, later: u16) -> Added
     ensures { λ r. ⌜ Adds (pair-piece k p q done later) r ⌝ }
 {
     let words = Words {
-        words: [either_row(p.begun, q.begun), not_row(k), done, 0, 0, 0],
+        words: [
+            rows::either_row(p.begun, q.begun),
+            rows::not_row(k),
+            done,
+            0,
+            0,
+            0,
+        ],
         count: 3,
     };
     let part = PartRows {
@@ -131,60 +106,23 @@ fn join_pair(k: u16, p: PartRows, q: PartRows, done: usize, later: u16) -> Added
     Added { words, part, needs }
 }
 
-// How many rows it takes to say that a part is complete or not begun: one, where none says so yet.
-fn unsettled(m: PartRows) -> u16
-    ensures { λ r. ⌜ (r ≡ length (settling m)) × (r ≤ 1) ⌝ }
-{
-    if m.settled == 0 { 1 } else { 0 }
-}
-
-// The row that says so, where the next free one is k.
-fn settled(k: u16, m: PartRows) -> u16
-    ensures { λ r. ⌜ r ≡ settled-row k m ⌝ }
-{
-    if m.settled == 0 { k } else { m.settled }
-}
-
-// Four rows, after those that it takes to say of p and of q that they are complete or not begun.
-fn after_settling(p: PartRows, q: PartRows, a: usize, b: usize, c: usize, d: usize) -> Words
-    ensures { λ r. ⌜ Lists r ((settling p ++ settling q) ++ (a ∷ b ∷ c ∷ d ∷ [])) × (r .count ≤ 6) ⌝ }
-{
-    let s = either_row(p.done, p.idle);
-    let t = either_row(q.done, q.idle);
-    if p.settled == 0 {
-        if q.settled == 0 {
-            return Words {
-                words: [s, t, a, b, c, d],
-                count: 6,
-            };
-        }
-        return Words {
-            words: [s, a, b, c, d, 0],
-            count: 5,
-        };
-    }
-    if q.settled == 0 {
-        return Words {
-            words: [t, a, b, c, d, 0],
-            count: 5,
-        };
-    }
-    Words {
-        words: [a, b, c, d, 0, 0],
-        count: 4,
-    }
-}
-
 // Either part or both: begun, and each part complete or not begun.
 fn join_some(k: u16, p: PartRows, q: PartRows) -> Added
     requires { ⌜ k < 12000 ⌝ }
     ensures { λ r. ⌜ Adds (some-piece k p q) r ⌝ }
 {
-    let i = k + unsettled(p);
-    let j = i + unsettled(q);
-    let begun = either_row(p.begun, q.begun);
-    let both = both_row(settled(k, p), settled(i, q));
-    let words = after_settling(p, q, begun, not_row(j), both, both_row(j, j + 2));
+    let i = k + rows::unsettled(p);
+    let j = i + rows::unsettled(q);
+    let begun = rows::either_row(p.begun, q.begun);
+    let both = rows::both_row(rows::settled(k, p), rows::settled(i, q));
+    let words = rows::after_settling(
+        p,
+        q,
+        begun,
+        rows::not_row(j),
+        both,
+        rows::both_row(j, j + 2),
+    );
     let part = PartRows {
         begun: j,
         idle: j + 1,
@@ -217,9 +155,9 @@ fn piece(op: u8, k: u16, e: u16, q: PartRows, p: PartRows) -> Added
         return join_some(k, p, q);
     }
     if op == postfix::XOR {
-        return join_pair(k, p, q, either_row(p.done, q.done), p.idle);
+        return join_pair(k, p, q, rows::either_row(p.done, q.done), p.idle);
     }
-    join_pair(k, p, q, both_row(p.done, q.done), p.done)
+    join_pair(k, p, q, rows::both_row(p.done, q.done), p.done)
 }
 
 // Rows from row k on, where row 0 stands at `base`.
@@ -251,31 +189,12 @@ fn moved(op: u8, top: usize, none: usize, two: usize) -> usize
     (top + two) % 1026
 }
 
-// How many events a number is: a leaf and a reset is one.
-fn event_count(op: u8) -> u16
-    ensures { λ r. ⌜ (r ≡ event-count-of op) × (r ≤ 1) ⌝ }
-{
-    if op < postfix::SEQ { 1 } else { 0 }
-}
-
-fn no_rows() -> PartRows
-    ensures { λ r. ⌜ r ≡ no-rows ⌝ }
-{
-    PartRows {
-        begun: 0,
-        idle: 0,
-        done: 0,
-        settled: 0,
-        first: 0,
-    }
-}
-
 // The first pass: the rows of each part.
 fn first_pass(ops: &[u8], base: usize, out: &mut [u8]) -> FirstResult
     requires { ⌜ (base ≤ 2052) × (length (now ops) ≤ 1024) ⌝ }
     ensures { λ r. ⌜ FirstEnds (first-pass-of base (now (ops .entry)) (first-start (now (out .entry)))) r (now (out .exit)) ⌝ }
 {
-    let blank = no_rows();
+    let blank = rows::no_rows();
     let unneeded = Needs {
         later: 0,
         earlier: 0,
@@ -300,7 +219,7 @@ fn first_pass(ops: &[u8], base: usize, out: &mut [u8]) -> FirstResult
         let words = added.words;
         write_rows(out, base, rows, words);
         rows += words.count;
-        e += event_count(op);
+        e += rows::event_count(op);
         i += 1;
     }
     let whole = parts[top];
@@ -312,64 +231,6 @@ fn first_pass(ops: &[u8], base: usize, out: &mut [u8]) -> FirstResult
     }
 }
 
-// Whether each part of a joint needs something of the other: in a flow, and where one part of two runs.
-fn coupled(op: u8) -> bool
-    ensures { λ r. ⌜ r ≡ coupled-of op ⌝ }
-{
-    (op == postfix::SEQ) | (op == postfix::XOR)
-}
-
-// How many rows a number has in the second pass.
-fn second_count(op: u8) -> u16
-    ensures { λ r. ⌜ (r ≡ second-count-of op) × (r ≤ 2) ⌝ }
-{
-    if coupled(op) {
-        return 2;
-    }
-    if (op == postfix::LEAF) | (op == postfix::ROUNDS) {
-        1
-    } else {
-        0
-    }
-}
-
-// Those rows, where the number may go on by row m: the guard of a leaf or a reset, or the gates of the later and the earlier part.
-fn second_words(op: u8, m: u16, n: Needs) -> Words
-    ensures { λ r. ⌜ Lists r (second-words-of op m n) × (r .count ≤ 2) ⌝ }
-{
-    Words {
-        words: [both_row(m, n.later), both_row(m, n.earlier), 0, 0, 0, 0],
-        count: second_count(op),
-    }
-}
-
-// The gate of a part, the row by which it may go on: a new one, k, or that of the joint, m.
-fn gate(op: u8, k: u16, m: u16) -> u16
-    ensures { λ r. ⌜ r ≡ gate-row op k m ⌝ }
-{
-    if coupled(op) { k } else { m }
-}
-
-// What is left of a after b, if anything.
-fn minus(a: u16, b: u16) -> u16
-    ensures { λ r. ⌜ r ≡ a - b ⌝ }
-{
-    if a < b { 0 } else { a - b }
-}
-
-// The record of event e. A loop over a leaf goes on by m itself; a reset clears the events from `first` on.
-fn record_of(op: u8, k: u16, m: u16, first: u16, e: u16) -> usize
-    ensures { λ r. ⌜ r ≡ record-of op k m first e ⌝ }
-{
-    if op == postfix::LEAF {
-        return event_record(k, 0, 0);
-    }
-    if op == postfix::AGAIN {
-        return event_record(m, 0, 0);
-    }
-    event_record(k, first, minus(e, first))
-}
-
 // A leaf or a reset has a record, that of the event before e, and answers that event; a joint has none.
 fn write_record(out: &mut [u8], op: u8, e: u16, k: u16, m: u16, first: u16) -> u16
     ensures { λ r. ⌜ r ≡ e - event-count-of op ⌝ }
@@ -378,11 +239,11 @@ fn write_record(out: &mut [u8], op: u8, e: u16, k: u16, m: u16, first: u16) -> u
     if postfix::ROUNDS < op {
         return e;
     }
-    let own = minus(e, 1);
+    let own = rows::minus(e, 1);
     base::put_word(
         out,
         4 + 4 * base::wide_short(own),
-        record_of(op, k, m, first, own),
+        rows::record_of(op, k, m, first, own),
     );
     own
 }
@@ -405,25 +266,15 @@ fn second_pass(ops: &[u8], base: usize, first: FirstResult, out: &mut [u8]) -> u
         let m = gates[top];
         let n = needs[left];
         e = write_record(out, op, e, rows, m, n.earlier);
-        let words = second_words(op, m, n);
+        let words = rows::second_words(op, m, n);
         write_rows(out, base, rows, words);
-        gates[top] = gate(op, rows + 1, m);
+        gates[top] = rows::gate(op, rows + 1, m);
         let over = (top + 1025) % 1026;
-        gates[over] = gate(op, rows, m);
+        gates[over] = rows::gate(op, rows, m);
         top = moved(op, top, 1, 1025);
         rows += words.count;
     }
     rows
-}
-
-// Three rows before all others, of which the third, row 2, says yes always.
-fn constants() -> Words
-    ensures { λ r. ⌜ Lists r constants-of × (r .count ≤ 6) ⌝ }
-{
-    Words {
-        words: [bit_row(0), not_row(0), either_row(0, 1), 0, 0, 0],
-        count: 3,
-    }
 }
 
 // Those rows, the two passes, the row that says finished, E and R; answers how many bytes that is.
@@ -432,9 +283,9 @@ fn both_passes(ops: &[u8], events: usize, out: &mut [u8]) -> usize
     ensures { λ r. ⌜ Passes (now (ops .entry)) events (now (out .entry)) r (now (out .exit)) ⌝ }
 {
     let base = 4 + 4 * events;
-    write_rows(out, base, 0, constants());
+    write_rows(out, base, 0, rows::constants());
     let first = first_pass(ops, base, out);
-    let finished = both_row(first.done, first.done);
+    let finished = rows::both_row(first.done, first.done);
     let rows = second_pass(ops, base, first, out);
     let last = Words {
         words: [finished, 0, 0, 0, 0, 0],

@@ -1,24 +1,21 @@
 -- The two passes over a process in postfix order, as the code makes them: for the contracts of private functions. The first, from the front, writes the rows of each
 -- part. The second, from the end, writes for each part the row that lets it go on, and the event records.
 use mathlib.Core.Path.{_≡_}
-use mathlib.Core.Bool.{Bool, cond, _||_}
+use mathlib.Core.Bool.{cond}
 use mathlib.Core.List.{List, [], _∷_, foldl, foldr}
 use Prim.Native.Nat.{ℕ, suc, _+_, _-_, _*_, _%_, _≤_}
 use lib.Dec.{eqb, ltb}
-use lib.ListN.{length, getD, set, take, replicate}
+use lib.ListN.{length, getD, set, replicate}
 use Rattle.base.specs.Packed.{put-word}
-use Rattle.layout.specs.Fields.{both-row, event-record}
+use Rattle.layout.specs.Fields.{both-row}
 use Rattle.plan.specs.declared.PartRows.{PartRows}
 use Rattle.plan.specs.declared.Needs.{Needs}
-use Rattle.plan.specs.Pieces.{constants, part-rows, Piece, event-piece, again-piece, rounds-piece, all-piece, one-piece, some-piece}
+use Rattle.plan.specs.Pieces.{constants, Piece, event-piece, again-piece, rounds-piece, all-piece, one-piece, some-piece}
+use Rattle.rows.specs.code.Words.{no-rows, event-count, second-words, gate-row, record-of}
 use Rattle.guards.specs.code.Rows.{put-rows}
 use Rattle.guards.specs.declared.FirstResult.{FirstResult}
 
 -- ---- by the number
--- In a flow, and where one part of two runs, each part needs something of the other.
-abbrev pub coupled : ℕ → Bool
-coupled op = eqb op 3 || eqb op 6
-
 -- The piece of a number, by the latest two parts, q and before it p.
 unfoldable pub piece-of : ℕ → ℕ → ℕ → PartRows → PartRows → Piece
 piece-of op k e q p =
@@ -28,10 +25,6 @@ piece-of op k e q p =
     (cond (eqb op 5) (some-piece k p q)
     (cond (eqb op 6) (one-piece k p q) (all-piece k p q)))))
 
--- How many events it is: a leaf and a reset is one.
-abbrev pub event-count : ℕ → ℕ
-event-count op = cond (ltb op 3) 1 0
-
 -- The stacks of both passes have 1,026 places in a ring, and grow downwards. So many places on from the top.
 abbrev pub ring : ℕ → ℕ → ℕ
 ring top n = (top + n) % 1026
@@ -40,28 +33,10 @@ ring top n = (top + n) % 1026
 abbrev pub moved : ℕ → ℕ → ℕ → ℕ → ℕ
 moved op top none two = cond (ltb op 2) (ring top none) (cond (eqb op 2) top (ring top two))
 
--- The rows of a number in the second pass, where it may go on by row m: the guard of a leaf or a reset, or the gates of the later and the earlier part.
-abbrev pub second-count : ℕ → ℕ
-second-count op = cond (coupled op) 2 (cond (eqb op 0 || eqb op 2) 1 0)
-
-abbrev pub second-words : ℕ → ℕ → Needs → List ℕ
-second-words op m n = take (second-count op) (both-row m (n .later) ∷ both-row m (n .earlier) ∷ [])
-
--- The gate of a part, the row by which it may go on: a new one, or that of the joint.
-abbrev pub gate-row : ℕ → ℕ → ℕ → ℕ
-gate-row op k m = cond (coupled op) k m
-
--- The event record. A loop over a leaf goes on by m itself; a reset clears the events from `first` on.
-abbrev pub record-of : ℕ → ℕ → ℕ → ℕ → ℕ → ℕ
-record-of op k m first e = cond (eqb op 0) (event-record k 0 0) (cond (eqb op 1) (event-record m 0 0) (event-record k first (e - first)))
-
 abbrev pub put-record : ℕ → ℕ → ℕ → List ℕ → List ℕ
 put-record op e w o = cond (ltb op 3) (put-word o (4 + 4 * e) w) o
 
 -- ---- the first pass
-abbrev pub no-rows : PartRows
-no-rows = part-rows 0 0 0 0 0
-
 abbrev pub no-needs : Needs
 no-needs = record { later = 0; earlier = 0 }
 

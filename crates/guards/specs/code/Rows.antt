@@ -2,24 +2,15 @@
 use mathlib.Core.Path.{_≡_}
 use mathlib.Core.List.{List, [], _∷_}
 use Prim.Native.Nat.{ℕ, suc, _+_, _*_, _≤_}
-use lib.ListN.{length, take}
 use Rattle.base.specs.Packed.{put-word}
 use Rattle.plan.specs.Pieces.{Piece}
-use Rattle.guards.specs.declared.Words.{Words}
+use Rattle.rows.specs.code.Words.{Lists}
 use Rattle.guards.specs.declared.Added.{Added}
 
 -- The bytes with rows from row k on, where row 0 stands at `base`.
 unfoldable pub put-rows : ℕ → ℕ → List ℕ → List ℕ → List ℕ
 put-rows base k [] o = o
 put-rows base k (w ∷ ws) o = put-rows base (suc k) ws (put-word o (base + 4 * k) w)
-
--- The rows that a value lists.
-abbrev pub listed : Words → List ℕ
-listed r = take (r .count) (r .words)
-
-pub record Lists (r : Words) (ws : List ℕ) : Type 0 where
-  pub its-count : r .count ≡ length ws
-  pub its-words : listed r ≡ ws
 
 -- The value of a piece.
 pub record Adds (p : Piece) (r : Added) : Type 0 where

@@ -3,8 +3,8 @@ use mathlib.Core.Path.{refl}
 use native.Mathlib.Omega.{arith}
 use borrow.Author.Needs.{needs}
 use borrow.Author.Tests.{ne-eqb}
-use Rattle.guards.proofs.after_settling.Statement.{statement}
-use Rattle.guards.proofs.after_settling.Tie as tie
+use Rattle.rows.proofs.after_settling.Statement.{statement}
+use Rattle.rows.proofs.after_settling.Tie as tie
 
 returns : tie.Need-returns
 returns c =

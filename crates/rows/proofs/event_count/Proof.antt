@@ -1,8 +1,8 @@
 -- `event_count` meets its contract.
 use native.Mathlib.Omega.{arith}
 use borrow.Author.Tests.{lt-ltb, le-ltb}
-use Rattle.guards.proofs.event_count.Statement.{statement}
-use Rattle.guards.proofs.event_count.Tie as tie
+use Rattle.rows.proofs.event_count.Statement.{statement}
+use Rattle.rows.proofs.event_count.Tie as tie
 
 returns : tie.Need-returns
 returns c = (rw (lt-ltb _ _ (c .if1 .taken)), omega arith)

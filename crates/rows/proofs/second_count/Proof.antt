@@ -2,8 +2,8 @@
 use mathlib.Core.Path.{refl, sym, _∙_}
 use native.Mathlib.Omega.{arith}
 use borrow.Author.Needs.{needs}
-use Rattle.guards.proofs.second_count.Statement.{statement}
-use Rattle.guards.proofs.second_count.Tie as tie
+use Rattle.rows.proofs.second_count.Statement.{statement}
+use Rattle.rows.proofs.second_count.Tie as tie
 
 returns : tie.Need-returns
 returns c = rw (sym (c .before .coupled .ensures) ∙ c .if1 .taken) (refl, omega arith)

@@ -1,8 +1,8 @@
 -- `gate` meets its contract.
 use mathlib.Core.Path.{sym, _∙_}
 use borrow.Author.Needs.{needs}
-use Rattle.guards.proofs.gate.Statement.{statement}
-use Rattle.guards.proofs.gate.Tie as tie
+use Rattle.rows.proofs.gate.Statement.{statement}
+use Rattle.rows.proofs.gate.Tie as tie
 
 returns : tie.Need-returns
 returns c = rw (sym (c .before .coupled .ensures) ∙ c .if1 .taken)

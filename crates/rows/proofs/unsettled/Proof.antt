@@ -2,8 +2,8 @@
 use mathlib.Core.Path.{refl}
 use native.Mathlib.Omega.{arith}
 use borrow.Author.Tests.{ne-eqb}
-use Rattle.guards.proofs.unsettled.Statement.{statement}
-use Rattle.guards.proofs.unsettled.Tie as tie
+use Rattle.rows.proofs.unsettled.Statement.{statement}
+use Rattle.rows.proofs.unsettled.Tie as tie
 
 returns : tie.Need-returns
 returns c = rw (c .if1 .taken) (refl, omega arith)

@@ -2,8 +2,8 @@
 use native.Mathlib.Omega.{arith}
 use borrow.Author.Needs.{needs}
 use borrow.Author.Tests.{eq-eqb, ne-eqb}
-use Rattle.guards.proofs.record_of.Statement.{statement}
-use Rattle.guards.proofs.record_of.Tie as tie
+use Rattle.rows.proofs.record_of.Statement.{statement}
+use Rattle.rows.proofs.record_of.Tie as tie
 
 returns : tie.Need-returns
 returns c = rw (eq-eqb _ _ (c .before .if1 .taken)) (c .event-record .ensures)

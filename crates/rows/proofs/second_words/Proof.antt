@@ -1,9 +1,9 @@
 -- `second_words` meets its contract: as many of the two rows as the number has.
 use mathlib.Core.Path.{refl}
 use borrow.Author.Needs.{needs}
-use Rattle.guards.proofs.RowsListed.{listed-first}
-use Rattle.guards.proofs.second_words.Statement.{statement}
-use Rattle.guards.proofs.second_words.Tie as tie
+use Rattle.rows.proofs.Listed.{listed-first}
+use Rattle.rows.proofs.second_words.Statement.{statement}
+use Rattle.rows.proofs.second_words.Tie as tie
 
 returns : tie.Need-returns
 returns c =

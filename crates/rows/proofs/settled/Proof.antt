@@ -1,7 +1,7 @@
 -- `settled` meets its contract.
 use borrow.Author.Tests.{eq-eqb, ne-eqb}
-use Rattle.guards.proofs.settled.Statement.{statement}
-use Rattle.guards.proofs.settled.Tie as tie
+use Rattle.rows.proofs.settled.Statement.{statement}
+use Rattle.rows.proofs.settled.Tie as tie
 
 returns : tie.Need-returns
 returns c = rw (eq-eqb _ _ (c .if1 .taken))
