@@ -1,3 +1,2 @@
-pub mod Packs
 pub mod Copies
 pub mod Finds

@@ -12,7 +12,7 @@ use Rattle.events.specs.declared.Label.{Label}
 use Rattle.events.specs.Labels.{Valued}
 use Rattle.events.specs.Names.{Named}
 use Rattle.events.specs.Reports.{report as label-report}
-use Rattle.harness.specs.Packed.{packed}
+use Rattle.packing.specs.Packed.{packed}
 
 -- Translation's answer, and the lent bytes as it leaves them.
 pub record Translates (text lent : List ℕ) (r : ℕ) (left : List ℕ) : Type 0 where

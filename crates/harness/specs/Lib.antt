@@ -1,3 +1,2 @@
-pub mod Packed
 pub mod Nodes
 pub mod Calls

@@ -1,6 +1,6 @@
 -- What a node of a text is told as: the diagram of an answer, node by node.
 use mathlib.Core.Bool.{cond}
-use mathlib.Core.List.{List, [], _∷_}
+use mathlib.Core.List.{List}
 use Prim.Native.Nat.{ℕ}
 use lib.Dec.{ltb}
 use lib.ListN.{getD}
@@ -11,17 +11,8 @@ use Rattle.diagram.specs.declared.Node.{Node}
 use Rattle.reading.specs.declared.Answer.{Answer}
 use Rattle.reading.specs.declared.Answer.the-variants.{Done, Refused as Unread}
 use Rattle.reading.specs.declared.ReadResult.{ReadResult}
-use Rattle.columns.specs.Columns.{kind-index, size-number}
 use Rattle.harness.specs.declared.Found.{Found}
 use Rattle.harness.specs.declared.Found.the-variants.{At, Refused}
-
--- Which of the kinds it is, in their order; size, whether it is a solid child, whether a flow's sw is 1, and depth.
-abbrev pub node-values : Node → List ℕ
-node-values n = kind-index (n .kind) ∷ size-number (n .kind) ∷ cond (n .solid) 1 0 ∷ cond (n .strong) 1 0 ∷ n .depth ∷ []
-
--- The places of its keyword, and of its name or par.
-abbrev pub place-values : Node → List ℕ
-place-values n = n .at ∷ n .name ∷ []
 
 -- The node with an index, in the order of the text; 255 past the last one.
 abbrev pub stored-at : Diagram → ℕ → Found

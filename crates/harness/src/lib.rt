@@ -1,12 +1,9 @@
-// What the Rust tests and the benchmarks call: numbers and lent bytes only. An answer is packed into one number: a refusal is its number times 2^32 and
-// its place, a result is below 2^32. The parts of a number are cut to their width, so that nothing has to be known of them here.
+// What the Rust tests and the benchmarks call: numbers and lent bytes only.
 
 ghost use mathlib.Core.Path.{_≡_};
-ghost use mathlib.Core.Bool.{cond};
-ghost use Prim.Native.Nat.{_+_, _*_, _%_, _^_, _<_};
+ghost use Prim.Native.Nat.{_<_};
 ghost use lib.ListN.{length, getD};
 ghost use Rattle.base.specs.Fill.{fill};
-ghost use Rattle.base.specs.Reports.{result};
 ghost use Rattle.diagram.specs.Stored.{blank-node};
 ghost use Rattle.reading.specs.Answers.{read-of};
 ghost use Rattle.reading.specs.Reports.{report as read-report};
@@ -14,62 +11,22 @@ ghost use Rattle.printer.specs.Prints.{print-of, left-by};
 ghost use Rattle.printer.specs.Reports.{report as print-report};
 ghost use Rattle.table.specs.Reports.{report as step-report};
 ghost use Rattle.inplace.specs.Updates.{answer-of, left-of};
-ghost use Rattle.translator.specs.Reports.{report as translate-report};
 ghost use Rattle.events.specs.Listing.{Listed};
-ghost use Rattle.events.specs.Reports.{marked as marked-values, report as label-report};
-ghost use Rattle.harness.specs.Packed.{packed};
-ghost use Rattle.harness.specs.Nodes.{node-values, place-values, unread as unread-found, found-at, report as found-report};
+ghost use Rattle.packing.specs.Packed.{packed};
+ghost use Rattle.packing.specs.Nodes.{node-values, place-values};
+ghost use Rattle.harness.specs.Nodes.{unread as unread-found, found-at, report as found-report};
 ghost use Rattle.harness.specs.Calls.{Translates, Labels, Names};
 use diagram::Diagram;
 use diagram::Node;
-use events::Label;
-use labels::Values;
-use printer::Printed;
 use reading::Answer;
-use reading::ReadResult;
 use record::Record;
-use translator::Translated;
-
-// Every refusal is told so.
-fn refusal(number: u8, place: usize) -> u64
-    ensures { λ r. ⌜ r ≡ number * 2 ^ 32 + place % 2 ^ 32 ⌝ }
-{
-    (number as u64) * 4294967296 + (place as u64) % 4294967296
-}
-
-// Nodes, node copies and events, of 10 bits each.
-fn read_number(o: ReadResult) -> u64
-    ensures { λ r. ⌜ r ≡ packed 10 (read-report o) ⌝ }
-{
-    let answer = o.answer;
-    let d = o.diagram;
-    match answer {
-        Answer::Done => {
-            let nodes = (d.count as u64) % 1024;
-            let copies = (d.copies as u64) % 1024;
-            let events = (d.events as u64) % 1024;
-            (nodes * 1024 + copies) * 1024 + events
-        }
-        Answer::Refused(number, place) => refusal(number, place),
-    }
-}
 
 #[no_mangle]
 pub extern "C" fn adl_test_read(text: &[u8]) -> u64
     ensures { λ r. ⌜ r ≡ packed 10 (read-report (read-of (now (text .entry)))) ⌝ }
 {
     let o = reader::read(text);
-    read_number(o)
-}
-
-// The bytes written.
-fn print_number(p: Printed) -> u64
-    ensures { λ r. ⌜ r ≡ packed 32 (print-report p) ⌝ }
-{
-    match p {
-        Printed::Bytes(n) => (n as u64) % 4294967296,
-        Printed::Refused(number, place) => refusal(number, place),
-    }
+    packing::read_number(o)
 }
 
 #[no_mangle]
@@ -78,17 +35,7 @@ pub extern "C" fn adl_test_print(text: &[u8], out: &mut [u8]) -> u64
     ensures { λ r. ⌜ now (out .exit) ≡ left-by (now (text .entry)) (now (out .entry)) (print-of (now (text .entry)) (now (out .entry))) ⌝ }
 {
     let p = printer::print(text, out);
-    print_number(p)
-}
-
-// The bytes written.
-fn translate_number(t: Translated) -> u64
-    ensures { λ r. ⌜ r ≡ packed 32 (translate-report t) ⌝ }
-{
-    match t {
-        Translated::Bytes(n) => (n as u64) % 4294967296,
-        Translated::Refused(number, place) => refusal(number, place),
-    }
+    packing::print_number(p)
 }
 
 #[no_mangle]
@@ -96,7 +43,7 @@ pub extern "C" fn adl_test_translate(text: &[u8], out: &mut [u8]) -> u64
     ensures { λ r. ⌜ Translates (now (text .entry)) (now (out .entry)) r (now (out .exit)) ⌝ }
 {
     let t = translator::translate(text, out);
-    translate_number(t)
+    packing::translate_number(t)
 }
 
 // Bytes over the front of `out`, as far as it goes; answers how many there are.
@@ -131,32 +78,12 @@ pub extern "C" fn adl_test_name(text: &[u8], event: u64, out: &mut [u8]) -> u64
     copy(name, out)
 }
 
-// The mark of a reset, how many values there are, and the values, of 6 bits each.
-fn marked(mark: u64, v: Values) -> u64
-    ensures { λ r. ⌜ r ≡ packed 6 (result (marked-values mark v)) ⌝ }
-{
-    (((mark % 64 * 64 + (v.count as u64) % 64) * 64 + (v.first as u64) % 64) * 64
-        + (v.second as u64) % 64)
-        * 64
-        + (v.third as u64) % 64
-}
-
-fn label_number(l: Label) -> u64
-    ensures { λ r. ⌜ r ≡ packed 6 (label-report l) ⌝ }
-{
-    match l {
-        Label::Leaf(v) => marked(0, v),
-        Label::Reset(v) => marked(1, v),
-        Label::Refused(number, place) => refusal(number, place),
-    }
-}
-
 #[no_mangle]
 pub extern "C" fn adl_test_values(text: &[u8], event: u64) -> u64
     ensures { λ r. ⌜ Labels (now (text .entry)) event r ⌝ }
 {
     let l = events::values(text, event);
-    label_number(l)
+    packing::label_number(l)
 }
 
 // A node of a text, or the refusal with its number and place.
@@ -199,28 +126,6 @@ fn find(text: &[u8], index: u64) -> Found
     Found::At(node)
 }
 
-fn mark_of(marked: bool) -> u64
-    ensures { λ r. ⌜ r ≡ cond marked 1 0 ⌝ }
-{
-    if marked {
-        return 1;
-    }
-    0
-}
-
-// Kind, size, whether it is a solid child, whether a flow's sw is 1, and depth, of 6 bits each.
-fn node_number(node: Node) -> u64
-    ensures { λ r. ⌜ r ≡ packed 6 (result (node-values node)) ⌝ }
-{
-    let kind = node.kind;
-    let number = columns::index(kind) as u64;
-    let size = columns::size(kind) as u64;
-    let solid = mark_of(node.solid);
-    let strong = mark_of(node.strong);
-    (((number % 64 * 64 + size % 64) * 64 + solid % 64) * 64 + strong % 64) * 64
-        + (node.depth as u64) % 64
-}
-
 // A node of a text, by its index.
 #[no_mangle]
 pub extern "C" fn adl_test_node(text: &[u8], index: u64) -> u64
@@ -228,16 +133,9 @@ pub extern "C" fn adl_test_node(text: &[u8], index: u64) -> u64
 {
     let found = find(text, index);
     match found {
-        Found::At(node) => node_number(node),
-        Found::Refused(number, place) => refusal(number, place),
+        Found::At(node) => packing::node_number(node),
+        Found::Refused(number, place) => packing::refusal(number, place),
     }
-}
-
-// Where its keyword stands, and its name or par, of 16 bits each.
-fn place_number(node: Node) -> u64
-    ensures { λ r. ⌜ r ≡ packed 16 (result (place-values node)) ⌝ }
-{
-    (node.at as u64) % 65536 * 65536 + (node.name as u64) % 65536
 }
 
 // The places of a node of a text, by its index.
@@ -247,8 +145,8 @@ pub extern "C" fn adl_test_place(text: &[u8], index: u64) -> u64
 {
     let found = find(text, index);
     match found {
-        Found::At(node) => place_number(node),
-        Found::Refused(number, place) => refusal(number, place),
+        Found::At(node) => packing::place_number(node),
+        Found::Refused(number, place) => packing::refusal(number, place),
     }
 }
 
@@ -257,7 +155,7 @@ fn step_number(answer: table::Answer) -> u64
 {
     match answer {
         table::Answer::Done => 0,
-        table::Answer::Refused(number, place) => refusal(number, place),
+        table::Answer::Refused(number, place) => packing::refusal(number, place),
     }
 }
 

@@ -2,7 +2,7 @@
 use mathlib.Core.Path.{ap, _∙_}
 use Rattle.printer.specs.declared.Printed.{Printed}
 use Rattle.printer.specs.Reports.{report as print-report}
-use Rattle.harness.specs.Packed.{packed}
+use Rattle.packing.specs.Packed.{packed}
 use borrow.Author.Needs.{needs}
 use Rattle.harness.proofs.adl_test_print.Statement.{statement}
 use Rattle.harness.proofs.adl_test_print.Tie as tie

@@ -2,7 +2,7 @@
 use mathlib.Core.Path.{ap, _∙_}
 use Rattle.reading.specs.declared.ReadResult.{ReadResult}
 use Rattle.reading.specs.Reports.{report as read-report}
-use Rattle.harness.specs.Packed.{packed}
+use Rattle.packing.specs.Packed.{packed}
 use borrow.Author.Needs.{needs}
 use Rattle.harness.proofs.adl_test_read.Statement.{statement}
 use Rattle.harness.proofs.adl_test_read.Tie as tie

@@ -51,7 +51,7 @@ use Rattle.inplace.proofs.step as thin
 use Rattle.inplace.proofs.step.Symbol as thin-def
 use Rattle.inplace.proofs.step.Symbol.{name as #inplace·step}
 use Rattle.inplace.proofs.step.Met as thin-thm
-use Rattle.harness.specs.Packed.{packed}
+use Rattle.packing.specs.Packed.{packed}
 use Rattle.harness.proofs.step_number as number
 use Rattle.harness.proofs.step_number.Symbol as number-def
 use Rattle.harness.proofs.step_number.Symbol.{name as #harness·step-number}

@@ -1,6 +1,6 @@
 -- `harness::step_number` meets its contract, answer by answer.
 use Rattle.table.specs.Reports.{report as step-report}
-use Rattle.harness.proofs.Packs.{told, none, refused}
+use Rattle.packing.proofs.Packs.{told, none, refused}
 use borrow.Author.Needs.{needs}
 use Rattle.harness.proofs.step_number.Statement.{statement}
 use Rattle.harness.proofs.step_number.Tie as tie

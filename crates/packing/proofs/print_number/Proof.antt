@@ -1,9 +1,9 @@
--- `harness::print_number` meets its contract, answer by answer.
+-- `packing::print_number` meets its contract, answer by answer.
 use Rattle.printer.specs.Reports.{report as print-report}
-use Rattle.harness.proofs.Packs.{told, one, refused}
+use Rattle.packing.proofs.Packs.{told, one, refused}
 use borrow.Author.Needs.{needs}
-use Rattle.harness.proofs.print_number.Statement.{statement}
-use Rattle.harness.proofs.print_number.Tie as tie
+use Rattle.packing.proofs.print_number.Statement.{statement}
+use Rattle.packing.proofs.print_number.Tie as tie
 
 returns : tie.Need-returns
 returns c = told 32 print-report (c .before .p .given .1) (one _)

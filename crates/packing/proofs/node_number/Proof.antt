@@ -1,10 +1,10 @@
--- `harness::node_number` meets its contract: what its parts answer, side by side.
+-- `packing::node_number` meets its contract: what its parts answer, side by side.
 use mathlib.Core.Bool.{cond}
 use Rattle.columns.specs.Columns.{kind-index, size-number}
-use Rattle.harness.proofs.Packs.{five}
+use Rattle.packing.proofs.Packs.{five}
 use borrow.Author.Needs.{needs}
-use Rattle.harness.proofs.node_number.Statement.{statement}
-use Rattle.harness.proofs.node_number.Tie as tie
+use Rattle.packing.proofs.node_number.Statement.{statement}
+use Rattle.packing.proofs.node_number.Tie as tie
 
 returns : tie.Need-returns
 returns c =

@@ -1,9 +1,9 @@
--- `harness::translate_number` meets its contract, answer by answer.
+-- `packing::translate_number` meets its contract, answer by answer.
 use Rattle.translator.specs.Reports.{report as translate-report}
-use Rattle.harness.proofs.Packs.{told, one, refused}
+use Rattle.packing.proofs.Packs.{told, one, refused}
 use borrow.Author.Needs.{needs}
-use Rattle.harness.proofs.translate_number.Statement.{statement}
-use Rattle.harness.proofs.translate_number.Tie as tie
+use Rattle.packing.proofs.translate_number.Statement.{statement}
+use Rattle.packing.proofs.translate_number.Tie as tie
 
 returns : tie.Need-returns
 returns c = told 32 translate-report (c .before .t .given .1) (one _)

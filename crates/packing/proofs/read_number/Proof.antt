@@ -1,9 +1,9 @@
--- `harness::read_number` meets its contract, answer by answer.
+-- `packing::read_number` meets its contract, answer by answer.
 use Rattle.reading.specs.Reports.{answer-report}
-use Rattle.harness.proofs.Packs.{told, three, refused}
+use Rattle.packing.proofs.Packs.{told, three, refused}
 use borrow.Author.Needs.{needs}
-use Rattle.harness.proofs.read_number.Statement.{statement}
-use Rattle.harness.proofs.read_number.Tie as tie
+use Rattle.packing.proofs.read_number.Statement.{statement}
+use Rattle.packing.proofs.read_number.Tie as tie
 
 returns : tie.Need-returns
 returns c = let o = c .before .before .before .args .o in told 10 (answer-report (o .diagram)) (c .enum-told .given .1) (three _ _ _)

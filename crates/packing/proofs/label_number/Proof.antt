@@ -1,9 +1,9 @@
--- `harness::label_number` meets its contract, answer by answer.
+-- `packing::label_number` meets its contract, answer by answer.
 use Rattle.events.specs.Reports.{report as label-report}
-use Rattle.harness.proofs.Packs.{told, refused}
+use Rattle.packing.proofs.Packs.{told, refused}
 use borrow.Author.Needs.{needs}
-use Rattle.harness.proofs.label_number.Statement.{statement}
-use Rattle.harness.proofs.label_number.Tie as tie
+use Rattle.packing.proofs.label_number.Statement.{statement}
+use Rattle.packing.proofs.label_number.Tie as tie
 
 returns : tie.Need-returns
 returns c = told 6 label-report (c .before .before .l .given .1) (c .marked .ensures)

@@ -4,7 +4,7 @@ use mathlib.Core.List.{[], _∷_}
 use Prim.Native.Nat.{ℕ, _+_, _*_, _%_, _^_}
 use native.Mathlib.Omega.{arith}
 use Rattle.base.specs.Reports.{Report, result, refusal}
-use Rattle.harness.specs.Packed.{packed}
+use Rattle.packing.specs.Packed.{packed}
 
 -- An answer is told by what is told of the case that it is.
 pub told : {A : Type 0} (w : ℕ) (report : A → Report) {a b : A} {r : ℕ} → a ≡ b → r ≡ packed w (report b) → r ≡ packed w (report a)
