@@ -1,5 +1,5 @@
 -- Document 01, number 6: "node 257, or a node at depth 13", by the tokens before its keyword, which stands between the machine and the trees. On
--- trees it is `rules.specs.Sites.too-big`; the two are the same, by `rules.proofs.LimitsPlaced.limits-placed`.
+-- trees it is `rules.specs.PlacedNodes.too-big`; the two are the same, by `rules.proofs.LimitsPlaced.limits-placed`.
 use mathlib.Core.Bool.{Bool, _&&_, _||_, cond}
 use mathlib.Core.List.{List, [], _∷_}
 use Prim.Native.Nat.{ℕ, suc, _-_}
