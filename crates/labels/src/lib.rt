@@ -30,6 +30,7 @@ pub struct Search {
     pub values: Values,
 }
 
+// Where the search has got to: on below a node, or the event is found.
 pub enum Step {
     Go(Search),
     Found(Spot),

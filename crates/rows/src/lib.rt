@@ -15,6 +15,7 @@ pub struct Words {
     pub count: u16,
 }
 
+// Rows and event records packed into words, each field where `layout` reads it.
 pub fn bit_row(e: u16) -> usize
     ensures { λ r. ⌜ r ≡ bit-row e ⌝ }
 {
@@ -98,6 +99,7 @@ pub fn event_count(op: u8) -> u16
     if op < postfix::SEQ { 1 } else { 0 }
 }
 
+// What stands for the rows of a part where there is none yet.
 pub fn no_rows() -> PartRows
     ensures { λ r. ⌜ r ≡ no-rows ⌝ }
 {
