@@ -1,13 +1,12 @@
 -- What the calls answer for a drawing, by what each event number stands for.
 use mathlib.Core.Path.{_≡_, refl, sym, ap, ap₂, _∙_, subst}
 use mathlib.Core.Bool.{true, false, cond}
-use mathlib.Core.List.{List, [], _∷_, _++_, append-nil, append-assoc}
-use Prim.Native.Nat.{ℕ, zero, suc, _+_, _-_, _≤_, _<_}
+use mathlib.Core.List.{List, [], _++_}
+use Prim.Native.Nat.{ℕ, _+_, _-_, _≤_, _<_}
 use native.Mathlib.Omega.{arith}
 use denote.Ref.{RefT, now}
 use lib.Dec.{ltb}
-use lib.ListN.{length, getD, take, drop, length-drop, drop-of-length-le}
-use lib.Seq.{drop-cons, take-nil, length-take-le}
+use lib.ListN.{length}
 use borrow.Author.Tests.{ltb-true, ltb-false, lt-ltb, le-ltb}
 use Rattle.base.specs.Fill.{fill}
 use Rattle.base.proofs.Truth.{by-cases}
@@ -25,7 +24,6 @@ use Rattle.reading.proofs.Shown.{accepted-shown}
 use Rattle.process.specs.Process.{Event, event-of, events}
 use Rattle.process.specs.Expand.{expand}
 use Rattle.process.proofs.Events.{events-counted, event-in-order}
-use Rattle.output.specs.Decimal.{decimal}
 use Rattle.output.specs.Buffer.{Buffer, buffer, put-all}
 use Rattle.output.proofs.Buffers.{put-all-fill}
 use Rattle.labels.specs.Values.{packed}

@@ -2,7 +2,7 @@
 use mathlib.Core.Path.{_≡_, refl}
 use mathlib.Core.List.{List}
 use Prim.Native.Nat.{ℕ}
-use Rattle.reading.specs.Reading.{Reading, drawing, no-drawing}
+use Rattle.reading.specs.Reading.{Reading}
 use Rattle.reading.proofs.Reading.{Same, same-drawing, same-no-drawing, one-reading}
 use Rattle.events.specs.Listing.{listing}
 

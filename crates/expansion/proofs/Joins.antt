@@ -5,7 +5,7 @@ use mathlib.Core.List.{List, [], _∷_, _++_, append-assoc}
 use Prim.Native.Nat.{ℕ, zero, suc, _+_, _-_, _≤_, _<_}
 use native.Mathlib.Omega.{arith}
 use lib.Dec.{eqb}
-use lib.ListN.{length, getD, drop, length-append, length-map}
+use lib.ListN.{length, getD, drop, length-append}
 use borrow.Author.Tests.{lt-ltb, lt-leb, le-leb, ne-eqb}
 use Rattle.diagram.specs.TreeNodes.{TreeNode}
 use Rattle.process.specs.Process.{Event, Joint, seq, and, or, xor, Process, event, join, again, rounds}

@@ -11,7 +11,7 @@ use Rattle.reading.specs.Nodes.{node-of}
 use Rattle.labels.specs.declared.Spot.{Spot}
 use Rattle.labels.specs.declared.Search.{Search}
 use Rattle.labels.specs.declared.Step.{Step}
-use Rattle.labels.specs.declared.Step.the-variants.{Go, Found}
+use Rattle.labels.specs.declared.Step.the-variants.{Go}
 use Rattle.labels.specs.Values.{packed}
 use Rattle.labels.specs.declared.SearchNode.{SearchNode}
 use Rattle.labels.specs.Weights.{weight, with-weight, weigh}

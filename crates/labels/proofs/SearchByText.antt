@@ -6,9 +6,9 @@ use mathlib.Core.List.{List, [], _∷_, map}
 use Prim.Native.Nat.{ℕ, suc, _+_, _-_, _<_}
 use native.Mathlib.Omega.{arith}
 use lib.ListN.{length, getD, drop, replicate, length-map}
-use lib.Seq.{drop-drop, getD-drop, take-at}
-use native.Mathlib.Numerals.{add-one}
+use lib.Seq.{getD-drop, take-at}
 use Rattle.base.proofs.Truth.{cases}
+use Rattle.base.proofs.Lists.{drop-next}
 use Rattle.diagram.specs.Tree.{Flow}
 use Rattle.diagram.specs.Count.{flow-copies, flow-events}
 use Rattle.diagram.specs.Stored.{blank-node}
@@ -45,9 +45,6 @@ token-here cs rest k c h =
     let e : k + 0 ≡ k = omega arith in
     ap (λ (n : ℕ). getD cs n 0) (sym e) ∙ (sym (getD-drop k cs 0 0) ∙ ap (λ (l : List ℕ). getD l 0 0) h)
 
-tokens-on : (cs rest : List ℕ) (k c : ℕ) → drop k cs ≡ c ∷ rest → drop (suc k) cs ≡ rest
-tokens-on cs rest k c h = ap (λ (n : ℕ). drop n cs) (sym (add-one k)) ∙ (sym (drop-drop 1 k cs) ∙ ap (λ (l : List ℕ). drop 1 l) h)
-
 -- The name of each leaf and flow that the tokens of a text tell stands where its token does.
 module _ (text : List ℕ) where
   token-node-known : (p k c : ℕ) (cs : List ℕ) → drop k (codes text) ≡ c ∷ cs → (flowing c || leafy c) ≡ true
@@ -67,8 +64,8 @@ module _ (text : List ℕ) where
   token-nodes-known p k [] h = tt
   token-nodes-known p k (c ∷ cs) h =
       ⊎-elim
-      (λ e. rw e (token-node-known (suc p) k c cs h, token-nodes-known p (suc k) cs (tokens-on (codes text) cs k c h)))
-      (λ e. rw e (token-nodes-known (opened p c) (suc k) cs (tokens-on (codes text) cs k c h)))
+      (λ e. rw e (token-node-known (suc p) k c cs h, token-nodes-known p (suc k) cs (drop-next (codes text) cs k c h)))
+      (λ e. rw e (token-nodes-known (opened p c) (suc k) cs (drop-next (codes text) cs k c h)))
       (cases (keyed c))
 
 -- The nodes that the diagram by value holds.

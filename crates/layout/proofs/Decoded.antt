@@ -1,13 +1,10 @@
 -- The fields of rows and event records that are written as numbers: what was written is read, and a row says what document 01 says of its kind.
 use mathlib.Core.Path.{_≡_}
-use mathlib.Core.Bool.{Bool, false, not, _&&_, _||_}
-use mathlib.Core.List.{List}
+use mathlib.Core.Bool.{Bool, not, _&&_, _||_}
 use Prim.Native.Nat.{ℕ, _+_, _*_, _<_, _^_}
 use native.Mathlib.Omega.{arith}
-use lib.ListN.{getD}
-use Rattle.record.specs.Bits.{bit-at}
 use Rattle.layout.specs.Fields.{run-unit, kind-unit, side-unit, guard-of, first-of, count-of, kind-of, left-of, right-of, bit-row, not-row, both-row, either-row, event-record}
-use Rattle.layout.specs.Values.{row-value}
+use Rattle.layout.specs.Values.{says}
 
 pub record Fields (w kind left right : ℕ) : Type 0 where
   pub its-kind : kind-of w ≡ kind
@@ -37,22 +34,22 @@ both-fields a b h k = fields (both-row a b) 2 a b (omega arith) (omega arith) h 
 pub either-fields : (a b : ℕ) → a < side-unit → b < side-unit → Fields (either-row a b) 3 a b
 either-fields a b h k = fields (either-row a b) 3 a b (omega arith) (omega arith) h k
 
-module _ (bits : List ℕ) (vs : List Bool) where
-  pub bit-value : (e : ℕ) → e < side-unit → row-value (bit-row e) bits vs ≡ bit-at bits e
-  unfolding row-value
-  bit-value e h = let f = bit-fields e h in rw (f .its-kind, f .its-left)
+module _ (s v : ℕ → Bool) where
+  pub bit-says : (e : ℕ) → e < side-unit → says (bit-row e) s v ≡ s e
+  unfolding says
+  bit-says e h = let f = bit-fields e h in rw (f .its-kind, f .its-left)
 
-  pub not-value : (a : ℕ) → a < side-unit → row-value (not-row a) bits vs ≡ not (getD vs a false)
-  unfolding row-value
-  not-value a h = let f = not-fields a h in rw (f .its-kind, f .its-left)
+  pub not-says : (a : ℕ) → a < side-unit → says (not-row a) s v ≡ not (v a)
+  unfolding says
+  not-says a h = let f = not-fields a h in rw (f .its-kind, f .its-left)
 
-  pub both-value : (a b : ℕ) → a < side-unit → b < side-unit → row-value (both-row a b) bits vs ≡ (getD vs a false && getD vs b false)
-  unfolding row-value
-  both-value a b h k = let f = both-fields a b h k in rw (f .its-kind, f .its-left, f .its-right)
+  pub both-says : (a b : ℕ) → a < side-unit → b < side-unit → says (both-row a b) s v ≡ (v a && v b)
+  unfolding says
+  both-says a b h k = let f = both-fields a b h k in rw (f .its-kind, f .its-left, f .its-right)
 
-  pub either-value : (a b : ℕ) → a < side-unit → b < side-unit → row-value (either-row a b) bits vs ≡ (getD vs a false || getD vs b false)
-  unfolding row-value
-  either-value a b h k = let f = either-fields a b h k in rw (f .its-kind, f .its-left, f .its-right)
+  pub either-says : (a b : ℕ) → a < side-unit → b < side-unit → says (either-row a b) s v ≡ (v a || v b)
+  unfolding says
+  either-says a b h k = let f = either-fields a b h k in rw (f .its-kind, f .its-left, f .its-right)
 
 pub record Record-fields (w guard first count : ℕ) : Type 0 where
   pub its-guard : guard-of w ≡ guard

@@ -13,7 +13,7 @@ use borrow.Author.Tests.{lt-ltb, ltb-true, eq-eqb, ne-eqb, eqb-true, eqb-false}
 use Rattle.base.proofs.Truth.{cases, agree, and-l, and-r}
 use Rattle.layout.specs.Fields.{events, row-word, kind-of, left-of, right-of}
 use Rattle.layout.specs.Sound.{row-sound}
-use Rattle.layout.specs.Values.{row-value, row-values}
+use Rattle.layout.specs.Values.{says, row-value, row-values}
 
 -- That a number is 0, as a bound.
 below-one : (r : ℕ) → ltb r 1 ≡ eqb r 0
@@ -45,7 +45,7 @@ module _ (w n i : ℕ) (ok : row-sound w n i ≡ true) where
 
   -- So it reads only the rows before it.
   pub value-before : (bits : List ℕ) (vs : List Bool) → row-value w bits vs ≡ row-value w bits (take i vs)
-  unfolding row-value
+  unfolding says
   value-before bits vs =
       ⊎-elim (λ (e : eqb (kind-of w) 0 ≡ true). simp e)
       (λ (e : eqb (kind-of w) 0 ≡ false). let k = eqb-false (kind-of w) 0 e in let l = getD-take i vs (left-of w) false (left-below k) in

@@ -7,14 +7,17 @@ use lib.ListN.{getD}
 use Rattle.record.specs.Bits.{bit-at}
 use Rattle.layout.specs.Fields.{rows, row-word, event-word, guard-of, kind-of, left-of, right-of}
 
--- The value of a row of word w, from the control bits of a record's words and the values of the rows before it. "Kind 0: control bit `left`. Kind 1:
--- not row `left`. Kind 2: both rows. Kind 3: either row."
-unfoldable pub row-value : ℕ → List ℕ → List Bool → Bool
-row-value w bits vs =
-    cond (eqb (kind-of w) 0) (bit-at bits (left-of w))
-    (cond (eqb (kind-of w) 1) (not (getD vs (left-of w) false))
-    (cond (eqb (kind-of w) 2) (getD vs (left-of w) false && getD vs (right-of w) false)
-    (getD vs (left-of w) false || getD vs (right-of w) false)))
+-- What a row of word w says, by the control bits and by what the rows say. "Kind 0: control bit `left`. Kind 1: not row `left`. Kind 2: both rows. Kind 3: either
+-- row."
+unfoldable pub says : ℕ → (ℕ → Bool) → (ℕ → Bool) → Bool
+says w bit row =
+    cond (eqb (kind-of w) 0) (bit (left-of w))
+    (cond (eqb (kind-of w) 1) (not (row (left-of w)))
+    (cond (eqb (kind-of w) 2) (row (left-of w) && row (right-of w)) (row (left-of w) || row (right-of w))))
+
+-- Its value, from a record's words and the values of the rows before it.
+abbrev pub row-value : ℕ → List ℕ → List Bool → Bool
+row-value w bits vs = says w (bit-at bits) (λ i. getD vs i false)
 
 -- The values of the first i rows, lowest row first.
 unfoldable pub row-values : List ℕ → List ℕ → ℕ → List Bool

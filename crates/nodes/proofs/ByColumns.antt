@@ -1,28 +1,23 @@
 -- The columns of keywords and depths give the nodes of any tokens, have an entry for each keyword, and lead to tokens.
-use mathlib.Core.Path.{_≡_, refl, sym, _∙_, ap, ap₂}
+use mathlib.Core.Path.{_≡_, refl, ap, ap₂}
 use mathlib.Core.Logic.{⊎-elim}
 use mathlib.Core.List.{List, [], _∷_}
 use Prim.Native.Nat.{ℕ, suc}
-use native.Mathlib.Numerals.{add-one}
 use lib.ListN.{length, drop}
-use lib.Seq.{drop-drop}
 use Rattle.diagram.specs.Tree.{Name}
 use Rattle.base.proofs.Truth.{cases}
+use Rattle.base.proofs.Lists.{drop-next}
 use Rattle.grammar.proofs.Limits.{count-of}
 use Rattle.grammar.specs.Machine.{keyed}
 use Rattle.rules.specs.TokenNodes.{TokenNode, token-node, token-nodes, opened}
 use Rattle.nodes.specs.code.Columns.{keys, depths, by-columns}
-
--- The tokens from k on, one further.
-further : (cs ds : List ℕ) (k c : ℕ) → drop k cs ≡ c ∷ ds → drop (suc k) cs ≡ ds
-further cs ds k c e = ap (λ (j : ℕ). drop j cs) (sym (add-one k)) ∙ sym (drop-drop 1 k cs) ∙ ap (drop 1) e
 
 module _ (nm : ℕ → Name) (cs : List ℕ) where
   columns-from : (ds : List ℕ) (p k : ℕ) → drop k cs ≡ ds → by-columns nm cs (keys k ds) (depths p ds) ≡ token-nodes nm p k ds
   unfolding by-columns keys depths token-nodes
   columns-from [] p k e = refl
   columns-from (c ∷ ds) p k e =
-      let q = further cs ds k c e in
+      let q = drop-next cs ds k c e in
       ⊎-elim
       (λ y. rw y (ap₂ {C = List TokenNode} (λ (l : List ℕ) (hs : List TokenNode). token-node nm (suc p) k l ∷ hs) e (columns-from ds p (suc k) q)))
       (λ n. rw n (columns-from ds (opened p c) (suc k) q))

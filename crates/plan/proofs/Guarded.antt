@@ -17,7 +17,7 @@ use Rattle.agreement.specs.Agrees.{Agrees}
 use Rattle.plan.specs.Pieces.{constants}
 use Rattle.plan.specs.Plan.{plan-of, guards-of, middle, rows-of, records-of, planned}
 use Rattle.plan.proofs.Says.{Obeys, Lower}
-use Rattle.plan.proofs.Decoded.{not-says, both-says, either-says}
+use Rattle.layout.proofs.Decoded.{not-says, both-says, either-says}
 use Rattle.plan.proofs.Within.{obeys-split, lower-join, plan-below}
 use Rattle.plan.proofs.Lengths.{records-length}
 use Rattle.plan.proofs.RowsLower.{bit-first, not-first, both-first, either-first, no-rows, plan-lower, guards-lower}

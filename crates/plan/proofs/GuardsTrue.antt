@@ -16,8 +16,9 @@ use Rattle.plan.specs.Pieces.{rounds-piece, join-piece}
 use Rattle.postfix.specs.Fold.{fold}
 use Rattle.plan.specs.Plan.{Plan, Guards, joined, plan-of, later-gate, earlier-gate, joint-words, guards-of}
 use Rattle.plan.specs.declared.PartRows.{PartRows}
-use Rattle.plan.proofs.Says.{says, Obeys, Tells, Below}
-use Rattle.plan.proofs.Decoded.{both-says}
+use Rattle.layout.specs.Values.{says}
+use Rattle.plan.proofs.Says.{Obeys, Tells, Below}
+use Rattle.layout.proofs.Decoded.{both-says}
 use Rattle.layout.proofs.Decoded.{record-fields}
 use Rattle.plan.proofs.Within.{obeys-split, records-cases, one-record, below-more, join-length, plan-below}
 use Rattle.plan.proofs.Lengths.{records-length}

@@ -1,6 +1,5 @@
 pub mod Says
 pub mod Lengths
-pub mod Decoded
 pub mod Within
 pub mod Gates
 pub mod PlanTrue

@@ -17,8 +17,9 @@ use Rattle.plan.specs.Pieces.{part-rows, event-piece, again-piece, round
 use Rattle.postfix.specs.Fold.{fold}
 use Rattle.plan.specs.Plan.{joined, plan-of}
 use Rattle.plan.specs.declared.PartRows.{PartRows}
-use Rattle.plan.proofs.Says.{says, Obeys, Tells, Below}
-use Rattle.plan.proofs.Decoded.{bit-says, not-says, both-says, either-says}
+use Rattle.layout.specs.Values.{says}
+use Rattle.plan.proofs.Says.{Obeys, Tells, Below}
+use Rattle.layout.proofs.Decoded.{bit-says, not-says, both-says, either-says}
 use Rattle.plan.proofs.Within.{obeys-split, below-more, settled-below, join-length, plan-below}
 
 -- A loop over a flow is complete where its body is not begun, and then settled; c is the reset's bit.

@@ -1,24 +1,16 @@
 -- What rows say, and what they name.
-use mathlib.Core.Bool.{Bool, not, cond, _&&_, _||_}
+use mathlib.Core.Bool.{Bool, not, _||_}
 use mathlib.Core.Path.{_≡_}
 use mathlib.Core.List.{List, [], _∷_}
 use Prim.Native.Nat.{ℕ, suc, _<_, _^_}
-use lib.Dec.{eqb}
 use Rattle.process.specs.Process.{Process}
 use Rattle.process.specs.Bits.{Bits}
 use Rattle.process.specs.Guards.{begun, complete}
-use Rattle.layout.specs.Fields.{kind-of, left-of, right-of}
 use Rattle.layout.specs.Sound.{Row-keeps}
+use Rattle.layout.specs.Values.{says}
 use Rattle.plan.specs.declared.PartRows.{PartRows}
 
 -- ---- what rows say
--- The value of a row of word w, from the control bits and the values of the rows.
-unfoldable pub says : ℕ → Bits → (ℕ → Bool) → Bool
-says w s v =
-    cond (eqb (kind-of w) 0) (s (left-of w))
-    (cond (eqb (kind-of w) 1) (not (v (left-of w)))
-    (cond (eqb (kind-of w) 2) (v (left-of w) && v (right-of w)) (v (left-of w) || v (right-of w))))
-
 -- The values are those of these rows, the first of which is row k.
 unfoldable pub Obeys : Bits → (ℕ → Bool) → ℕ → List ℕ → Type 0
 Obeys s v k [] = Unit {0}

@@ -15,11 +15,11 @@ use Rattle.record.specs.Bits.{bit-at}
 use Rattle.base.specs.Packed.{field, packed}
 use Rattle.layout.specs.Fields.{events, rows, event-word, row-word, guard-of, first-of, count-of}
 use Rattle.layout.specs.Sound.{sound, Run, Row-keeps, Sound-table}
-use Rattle.layout.specs.Values.{row-value, values-of}
+use Rattle.layout.specs.Values.{says, values-of}
 use Rattle.layout.proofs.Sentences.{sound-exactly}
 use Rattle.layout.proofs.Obeyed.{values-obey}
 use Rattle.agreement.specs.Agrees.{Agrees}
-use Rattle.plan.proofs.Says.{says, Obeys, Lower}
+use Rattle.plan.proofs.Says.{Obeys, Lower}
 use Rattle.plan.proofs.ReadBack.{packed-length, word-back, halves-back}
 
 -- Each of the rows keeps the sentences, and is a word.
@@ -94,7 +94,7 @@ module _ (n : ℕ) (ws rs : List ℕ) (k : Kept n ws rs) where
 
   -- The values of the table's rows are those of the rows that were written.
   values-right : (bits : List ℕ) → Obeys (bit-at bits) (λ i. getD (values-of t bits) i false) 0 ws
-  unfolding row-value says
+  unfolding says
   values-right bits =
       obeys-all (bit-at bits) (λ i. getD (values-of t bits) i false) 0 ws
       (λ i h. rw (zero-add i) (values-obey t bits is-sound i (rw (head .1) h) ∙ rw (row-read i h) refl))

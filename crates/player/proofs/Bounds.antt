@@ -11,7 +11,7 @@ use Rattle.base.specs.Text.{bytes}
 use Rattle.base.proofs.Truth.{by-cases}
 use Rattle.output.specs.Buffer.{buffer, put-all}
 use Rattle.output.proofs.Buffers.{whole}
-use Rattle.output.proofs.Decimals.{decimal-most}
+use Rattle.output.proofs.Lines.{refused-most}
 use Rattle.record.specs.Bits.{bit-at}
 use Rattle.record.specs.Blank.{blank-record}
 use Rattle.record.specs.declared.Record.{Record}
@@ -21,7 +21,6 @@ use Rattle.table.specs.declared.Answer.the-variants.{Done, Refused}
 use Rattle.table.specs.declared.Finish.{Finish}
 use Rattle.table.specs.declared.Finish.the-variants.{No, Yes, Refused as Unasked}
 use Rattle.table.specs.declared.Stepped.{Stepped}
-use Rattle.output.specs.Lines.{refused-line}
 use Rattle.said.specs.Lines.{onto, lines, first, rest, event-lines}
 use Rattle.player.specs.Shown.{item, chosen, events-line, next-bits, state-text, answer-text, answer-line, stepped-text, said-step, opening-text, finish-text, closing-text}
 
@@ -71,18 +70,14 @@ unfolding state-text
 state-short listing table r =
     simp length-append (omega (arith, line-short (bytes "bits") listing (r .bits), line-short (bytes "next") listing (next-bits table r)))
 
-refused-short : (number place : ℕ) → length (refused-line number place) ≤ 50
-unfolding refused-line
-refused-short n p = simp length-append (omega (arith, decimal-most n, decimal-most p))
-
 answer-short : (a : Answer) → length (answer-text a) ≤ 50
 answer-short Done = omega arith
-answer-short (Refused number place) = refused-short number place
+answer-short (Refused number place) = refused-most number place
 
 finish-short : (f : Finish) → length (finish-text f) ≤ 50
 finish-short Yes = omega arith
 finish-short No = omega arith
-finish-short (Unasked number place) = refused-short number place
+finish-short (Unasked number place) = refused-most number place
 
 stepped-short : (listing table said : List ℕ) (s : Stepped) → length (stepped-text listing table said s) ≤ 6 * length listing + length said + 68
 unfolding stepped-text answer-line

@@ -6,7 +6,7 @@ use lib.Dec.{ltb, lit<}
 use lib.ListN.{replicate, getD-replicate, List·getD-eq-default}
 use borrow.Author.Tests.{ltb-true, ltb-false}
 use Rattle.base.proofs.Truth.{by-cases}
-use Rattle.plays.specs.Plays.{Line, play}
+use Rattle.plays.specs.Plays.{play}
 use Rattle.plays.proofs.Played.{stands-for}
 use Rattle.record.specs.Bytes.{Bytes, bytes-of}
 use Rattle.record.specs.Blank.{blank-record}

@@ -1,6 +1,6 @@
 -- The nodes by columns of numbers: the column of their events, worked out, is that of the nodes with their events, and so the search over the columns of a diagram
 -- finds what an event number stands for. Assumes nothing.
-use mathlib.Core.Path.{_≡_, refl, sym, ap, _∙_}
+use mathlib.Core.Path.{_≡_, refl, ap, _∙_}
 use mathlib.Core.List.{List, [], _∷_, map}
 use Prim.Native.Nat.{ℕ, zero, suc, _+_, _-_, _≤_, _<_}
 use native.Mathlib.Omega.{arith}

@@ -22,7 +22,6 @@ use Rattle.tokens.specs.Words.{front, keywords, keyword, named, numeral, word-c
 use Rattle.tokens.specs.Spans.{width, spans, spans-of, tokens}
 use Rattle.grammar.specs.Named.{flow-named}
 use Rattle.grammar.specs.Tokens.{key, digits, flow-tokens}
-use Rattle.reading.specs.Accepted.{Accepted}
 use Rattle.process.specs.Process.{owns}
 use Rattle.process.specs.Expand.{expand, flow-process}
 use Rattle.process.specs.Runs.{Begins}

@@ -1,6 +1,6 @@
 -- The tree of a text, so that what holds of a drawing can be computed. The tokens are read from the last to the first: a bracket that is open on that way waits for its
 -- keyword with the names, the number and the nodes that were found in it. For a text that is off grammar this is some tree: whether it has the text's tokens is tested.
-use mathlib.Core.Bool.{Bool, true, false, cond}
+use mathlib.Core.Bool.{Bool, false, cond}
 use mathlib.Core.List.{List, [], _∷_, foldr}
 use Prim.Native.Nat.{ℕ, zero, suc, _-_}
 use lib.Dec.{eqb, ltb}

@@ -1,12 +1,11 @@
 -- The test that a number lies between two others, and what it says of a byte's class.
-use mathlib.Core.Path.{_≡_, refl, ap, _∙_}
+use mathlib.Core.Path.{_≡_, refl}
 use mathlib.Core.Bool.{Bool, true, false, not, _||_, cond}
 use mathlib.Core.List.{List}
 use Prim.Native.Char.{code as byte}
 use Prim.Native.Nat.{ℕ, zero, suc, _≤_, _<_}
 use native.Mathlib.Omega.{arith}
 use lib.Dec.{eqb, leb}
-use lib.ListN.{getD}
 use borrow.Author.Tests.{le-leb, leb-true}
 use Rattle.base.proofs.Truth.{and-l, and-r, and-i, is-false}
 use Rattle.tokens.specs.Classes.{between, spacing, class-of, within, foreign}

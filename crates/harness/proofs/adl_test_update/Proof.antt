@@ -37,7 +37,7 @@ use denote.Triple.Clauses.{ensured, lasts}
 use denote.Triple.Entry.{onEntry}
 use denote.Triple.Spec.{Meets, tripleOf}
 use denote.Triple.Table.{entered, cited}
-use denote.Triple.Walked.{says, Stays, gave-ref, stay-none, stay-none-slice, AllGo, goes-none, goes-gave-ref, goes-none-slice}
+use denote.Triple.Walked.{Stays, gave-ref, stay-none, stay-none-slice, AllGo, goes-none, goes-gave-ref, goes-none-slice}
 use denote.Triple.Walked.{walkOf, Walks, ends-at, walked, walk-meets}
 use denote.Exit.{yes}
 use Rattle.record.specs.declared.Record.{Record}

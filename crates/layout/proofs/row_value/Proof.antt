@@ -4,20 +4,20 @@ use native.Mathlib.Omega.{arith}
 use borrow.Author.Tests.{eq-eqb, ne-eqb}
 use borrow.Author.Needs.{needs}
 use Rattle.layout.specs.Fields.{kind-of}
-use Rattle.layout.specs.Values.{row-value}
+use Rattle.layout.specs.Values.{says}
 use Rattle.layout.proofs.Rows.{left-below, right-below}
 use Rattle.layout.proofs.row_value.Statement.{statement}
 use Rattle.layout.proofs.row_value.Tie as tie
 
 returns : tie.Need-returns
-unfolding row-value
+unfolding says
 returns c = simp (eq-eqb (kind-of (c .before .before .before .args .w)) 0 (c .before .if1 .taken)) (c .bit .ensures)
 
 shared-slice-read-x : tie.Need-shared-slice-read-x
 shared-slice-read-x c = let p = c .before .before .before .pre in omega (arith, left-below _ _ _ (p .0) (c .before .if1 .left), p .1)
 
 returns-2 : tie.Need-returns-2
-unfolding row-value
+unfolding says
 returns-2 c = rw (c .if2 .taken)
 
 shared-slice-read-y : tie.Need-shared-slice-read-y
@@ -27,11 +27,11 @@ shared-slice-read-y c =
     omega (arith, right-below _ _ _ (p .0) k, p .1)
 
 returns-3 : tie.Need-returns-3
-unfolding row-value
+unfolding says
 returns-3 c = rw (c .if3 .taken)
 
 returns-4 : tie.Need-returns-4
-unfolding row-value
+unfolding says
 returns-4 c =
     let k = kind-of (c .before .before .before .before .before .before .args .w) in
     simp (ne-eqb k 0 (c .before .before .before .before .if1 .left), ne-eqb k 1 (c .before .before .if2 .left), ne-eqb k 2 (c .if3 .left))

@@ -16,7 +16,7 @@ unfoldable pub depths : ℕ → List ℕ → List ℕ
 depths p [] = []
 depths p (c ∷ cs) = cond (keyed c) (suc p ∷ depths p cs) (depths (opened p c) cs)
 
--- The nodes of two columns, as many as the shorter one has numbers. For `nodes.keys` and `nodes.depths` they are the nodes of the text:
+-- The nodes of two columns, as many as the shorter one has numbers. For `keys` and `depths` they are the nodes of the text:
 -- `nodes.proofs.ByColumns.columns-token-nodes`.
 unfoldable pub by-columns : (ℕ → Name) → List ℕ → List ℕ → List ℕ → List TokenNode
 by-columns nm cs [] ds = []

@@ -1,5 +1,5 @@
 -- `search::node` meets its contract: one of the nodes, or none. Assumes nothing.
-use mathlib.Core.Path.{sym, ap, _∙_}
+use mathlib.Core.Path.{sym, ap}
 use borrow.Author.Needs.{needs}
 use Rattle.labels.specs.Seeks.{next}
 use Rattle.search.specs.code.Columns.{lent}

@@ -1,6 +1,6 @@
 -- `search::parts` meets its contract. The loop's invariant: the sum so far and the parts from node j on come to the whole sum. Its measure is what is left of
 -- the nodes. Assumes nothing.
-use mathlib.Core.Path.{_≡_, sym, ap, _∙_}
+use mathlib.Core.Path.{_≡_, sym, _∙_}
 use mathlib.Core.Logic.{⊎-elim}
 use mathlib.Core.List.{List}
 use Prim.Native.Nat.{ℕ, _+_, _-_, _≤_, _<_}

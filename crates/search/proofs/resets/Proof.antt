@@ -1,5 +1,4 @@
 -- `search::resets` meets its contract, by what the member is. Assumes nothing.
-use mathlib.Core.Path.{sym, ap, _∙_}
 use borrow.Author.Needs.{needs}
 use Rattle.search.proofs.Searched.{no-member, no-reset, one-reset}
 use Rattle.search.proofs.resets.Statement.{statement}

@@ -1,6 +1,6 @@
 -- `search::seek` meets its contract. The loop's invariant: r is node i, and the search from it on finds what the whole search does. Its measure is what is left of the
 -- nodes. Assumes nothing.
-use mathlib.Core.Path.{_≡_, refl, _∙_}
+use mathlib.Core.Path.{_≡_, _∙_}
 use Prim.Native.Nat.{_-_, _≤_}
 use Rattle.labels.specs.Seeks.{next, seek, begin}
 use Rattle.search.specs.code.Columns.{lent, nodes-from}

@@ -1,5 +1,4 @@
 -- `search::weight` meets its contract, by what the node is. Assumes nothing.
-use mathlib.Core.Path.{sym, ap, _∙_}
 use borrow.Author.Needs.{needs}
 use Rattle.search.proofs.Searched.{weight-leaf, weight-loop, weight-parts, weight-copies, small-product}
 use Rattle.search.proofs.weight.Statement.{statement}
