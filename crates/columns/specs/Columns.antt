@@ -1,14 +1,14 @@
 -- The nodes of a diagram as columns of numbers: what a node is, how many copies of its member it makes, its depth, and the place of its name.
-use mathlib.Core.List.{List, [], _∷_, _++_, map}
+use mathlib.Core.List.{List, _++_, map}
 use Prim.Native.Nat.{ℕ, _-_}
-use lib.ListN.{length, getD, take, replicate}
+use lib.ListN.{length, take, replicate}
 use Rattle.diagram.specs.declared.Kind.{Kind}
 use Rattle.diagram.specs.declared.Kind.the-variants.{Flow, Leaf, And, Or, Xor, All, Some, One, Loop}
 use Rattle.diagram.specs.declared.Node.{Node}
 use Rattle.diagram.specs.declared.Diagram.{Diagram}
 use Rattle.columns.specs.declared.Nodes.{Nodes}
 
--- The kinds in their order. What else is said of a kind alone is a list of nine, one for each.
+-- Which of the kinds it is, in their order.
 abbrev pub kind-index : Kind → ℕ
 kind-index Flow = 0
 kind-index Leaf = 1
@@ -33,11 +33,16 @@ size-number (One size) = size
 size-number Loop = 0
 
 -- 0 a leaf, 1 a loop, 3 to 6 how the parts are joined, as in postfix order: a flow's one after the other; `and` and `all`, `or` and `some`, `xor` and `one`.
-abbrev pub kind-numbers : List ℕ
-kind-numbers = 3 ∷ 0 ∷ 4 ∷ 5 ∷ 6 ∷ 4 ∷ 5 ∷ 6 ∷ 1 ∷ []
-
 abbrev pub kind-number : Kind → ℕ
-kind-number kind = getD kind-numbers (kind-index kind) 0
+kind-number Flow = 3
+kind-number Leaf = 0
+kind-number And = 4
+kind-number Or = 5
+kind-number Xor = 6
+kind-number (All size) = 4
+kind-number (Some size) = 5
+kind-number (One size) = 6
+kind-number Loop = 1
 
 -- An array of 256 that holds these numbers, and zeros after them.
 abbrev pub array-of : List ℕ → List ℕ

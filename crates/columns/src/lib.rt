@@ -53,8 +53,17 @@ pub fn size(kind: Kind) -> u8
 fn number(kind: Kind) -> u8
     ensures { λ r. ⌜ r ≡ kind-number kind ⌝ }
 {
-    let numbers = [3, 0, 4, 5, 6, 4, 5, 6, LOOP];
-    base::byte(&numbers, index(kind))
+    match kind {
+        Kind::Flow => postfix::SEQ,
+        Kind::Leaf => postfix::LEAF,
+        Kind::And => postfix::AND,
+        Kind::Or => postfix::OR,
+        Kind::Xor => postfix::XOR,
+        Kind::All(_) => postfix::AND,
+        Kind::Some(_) => postfix::OR,
+        Kind::One(_) => postfix::XOR,
+        Kind::Loop => LOOP,
+    }
 }
 
 // The columns of a diagram, which holds 256 nodes whatever its count says.

@@ -277,7 +277,7 @@ fn second_pass(ops: &[u8], base: usize, first: FirstResult, out: &mut [u8]) -> u
     rows
 }
 
-// Those rows, the two passes, the row that says finished, E and R; answers how many bytes that is.
+// The constant rows, the two passes, the row that says finished, E and R; answers how many bytes that is.
 fn both_passes(ops: &[u8], events: usize, out: &mut [u8]) -> usize
     requires { ⌜ (length (now ops) ≤ 1024) × (events ≤ 512) ⌝ }
     ensures { λ r. ⌜ Passes (now (ops .entry)) events (now (out .entry)) r (now (out .exit)) ⌝ }

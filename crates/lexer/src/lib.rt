@@ -314,7 +314,7 @@ pub fn skip(text: &[u8], at: usize) -> usize
 }
 
 // The end of the word that starts at `at`.
-pub fn word_end(text: &[u8], at: usize) -> usize
+fn word_end(text: &[u8], at: usize) -> usize
     ensures { λ r. ⌜ r ≡ at + front worded (drop at (now (text .entry))) ⌝ }
 {
     past(text, at, 5, 7)

@@ -40,7 +40,7 @@ pub fn either_row(a: u16, b: u16) -> usize
     3 * layout::KIND + base::wide_short(a) * layout::SIDE + base::wide_short(b)
 }
 
-pub fn event_record(guard: u16, first: u16, count: u16) -> usize
+fn event_record(guard: u16, first: u16, count: u16) -> usize
     ensures { λ r. ⌜ r ≡ event-record guard first count ⌝ }
 {
     base::wide_short(guard) * layout::GUARD
@@ -113,14 +113,14 @@ pub fn no_rows() -> PartRows
 }
 
 // Whether each part of a joint needs something of the other: in a flow, and where one part of two runs.
-pub fn coupled(op: u8) -> bool
+fn coupled(op: u8) -> bool
     ensures { λ r. ⌜ r ≡ coupled-of op ⌝ }
 {
     (op == postfix::SEQ) | (op == postfix::XOR)
 }
 
 // How many rows a number has in the second pass.
-pub fn second_count(op: u8) -> u16
+fn second_count(op: u8) -> u16
     ensures { λ r. ⌜ (r ≡ second-count-of op) × (r ≤ 2) ⌝ }
 {
     if coupled(op) {

@@ -3,7 +3,7 @@ ghost use mathlib.Core.List.{List};
 ghost use Prim.Native.Nat.{ℕ, _+_, _-_, _<_};
 ghost use lib.ListN.{getD, replicate};
 ghost use Rattle.columns.specs.declared.Nodes.{Nodes};
-ghost use Rattle.labels.specs.Values.{push as pushed};
+ghost use Rattle.labels.specs.Values.{values as values-of, push as pushed};
 ghost use Rattle.labels.specs.Weights.{parts as parts-of, resets as resets-of, weight-by};
 ghost use Rattle.labels.specs.Seeks.{next, entered as entered-of, inside as inside-of, turn as turn-of, seek as seek-of, begin, spot-of};
 ghost use Rattle.search.specs.code.Columns.{lent, nodes-from, weighed};
@@ -214,6 +214,18 @@ fn node<'a>(
     }
 }
 
+// Outside every replicator.
+fn no_values() -> Values
+    ensures { λ r. ⌜ r ≡ values-of 0 0 0 0 ⌝ }
+{
+    Values {
+        count: 0,
+        first: 0,
+        second: 0,
+        third: 0,
+    }
+}
+
 // What an event number stands for, by the nodes in the order of the text; no event has a name at place 0.
 pub fn seek<'a>(
     kinds: &'a [u8],
@@ -226,12 +238,7 @@ pub fn seek<'a>(
 ) -> Spot
     ensures { λ r. ⌜ r ≡ seek-of (nodes-from (lent (now (kinds .entry)) (now (sizes .entry)) (now (depths .entry)) (now (names .entry)) count) (now (weights .entry)) 0 count) (begin event) ⌝ }
 {
-    let none = Values {
-        count: 0,
-        first: 0,
-        second: 0,
-        third: 0,
-    };
+    let none = no_values();
     let mut s = Search {
         above: 0,
         rest: event,

@@ -20,9 +20,9 @@ abbrev μ-loop : tie.MeasureT-loop
 
 loop-holds : tie.Need-loop-holds Inv-loop μ-loop
 loop-holds c =
-    let a = c .before .before .before .before .before .before .args in
+    let a = c .before .before .before .before .before .before .before .args in
     let z : a .count - 0 ≡ a .count = omega arith in
-    (omega arith, c .node .ensures, rw z)
+    (omega arith, c .node .ensures, rw (z, c .before .no-values .ensures))
 
 returns : tie.Need-returns Inv-loop μ-loop
 returns c =
@@ -42,10 +42,12 @@ loop-again c =
     )
 
 returns-2 : tie.Need-returns-2 Inv-loop μ-loop
-returns-2 c = let l = c .before .loop in seek-end _ _ (l .i) _ (l .s) (c .loop-test .left) ∙ l .inv .2
+returns-2 c =
+    let l = c .before .loop in
+    rw (c .before .before .before .no-values .ensures) (seek-end _ _ (l .i) _ (l .s) (c .loop-test .left) ∙ l .inv .2)
 
 pub seek-spec : {M : Type 1} → statement M
 seek-spec =
     tie.close
-    (tie.spec Inv-loop μ-loop (λ c κs. search needs) loop-holds (λ c. search needs) (λ c κs. search needs) (λ c κs. search needs)
+    (tie.spec Inv-loop μ-loop (λ c κs. search needs) (λ c κs. search needs) loop-holds (λ c. search needs) (λ c κs. search needs) (λ c κs. search needs)
     (λ c. search needs) returns (λ c. search needs) (λ c. search needs) loop-again returns-2)
