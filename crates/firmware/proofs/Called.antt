@@ -23,29 +23,29 @@ module _ (t s : List ℕ) (e : ℕ) where
   step-short h = (rw h, rw h)
 
   module _ (h : eqb (length s) 64 ≡ true) (bits : List ℕ) (B : bits ≡ words-of s) (r : Stepped) (R : r ≡ step-of t (record { bits = bits }) e) where
-    pub step-told : (n : ℕ) (out : List ℕ) → n ≡ number (r .answer) → out ≡ left-bytes s (r .after .bits) (r .answer)
+    pub step-called : (n : ℕ) (out : List ℕ) → n ≡ number (r .answer) → out ≡ left-bytes s (r .after .bits) (r .answer)
         → (n ≡ step-number t s e) × (out ≡ step-bytes t s e)
     unfolding step-number step-bytes
-    step-told n out q o = (rw (h, ← B, ← R) q, rw (h, ← B, ← R) o)
+    step-called n out q o = (rw (h, ← B, ← R) q, rw (h, ← B, ← R) o)
 
 module _ (t s : List ℕ) where
   pub finished-short : eqb (length s) 64 ≡ false → 1 ≡ finished-number t s
   unfolding finished-number
   finished-short h = rw h
 
-  pub finished-told : eqb (length s) 64 ≡ true → (bits : List ℕ) → bits ≡ words-of s → (f g : Finish) → f ≡ finished-of t (record { bits = bits }) → f ≡ g
+  pub finished-called : eqb (length s) 64 ≡ true → (bits : List ℕ) → bits ≡ words-of s → (f g : Finish) → f ≡ finished-of t (record { bits = bits }) → f ≡ g
       → finish-number g ≡ finished-number t s
   unfolding finished-number
-  finished-told h bits B f g F G = rw (h, ← B, ← F, G)
+  finished-called h bits B f g F G = rw (h, ← B, ← F, G)
 
 module _ (t s lent : List ℕ) where
   pub offer-short : eqb (length s) 64 ≡ false → (1 ≡ offer-number t s lent) × (lent ≡ offer-bytes t s lent)
   unfolding offer-number offer-bytes
   offer-short h = (rw h, rw h)
 
-  pub offer-told : eqb (length s) 64 ≡ true → (bits : List ℕ) → bits ≡ words-of s → (a : Answer) (n : ℕ) (out : List ℕ)
+  pub offer-called : eqb (length s) 64 ≡ true → (bits : List ℕ) → bits ≡ words-of s → (a : Answer) (n : ℕ) (out : List ℕ)
       → (a ≡ offer-of t (record { bits = bits }) lent) × (out ≡ offer-left t (record { bits = bits }) lent (offer-of t (record { bits = bits }) lent))
       → n ≡ number a → (n ≡ offer-number t s lent) × (out ≡ offer-bytes t s lent)
   unfolding offer-number offer-bytes
-  offer-told h bits B a n out A N =
+  offer-called h bits B a n out A N =
       (rw (h, ← B) (N ∙ ap number (A .0)), rw (h, ← B) (A .1))

@@ -41,22 +41,22 @@ unfolding words-of field blank-record
 blank-bytes = refl
 
 -- A refusal has a number other than 0, so 0 says that the call was done.
-abbrev told-number : Report → ℕ
-told-number r = r .number
+abbrev report-number : Report → ℕ
+report-number r = r .number
 
 not-ready-number : (t bits : List ℕ) (r : Report) → NotReady t bits r → r .number ≡ 0 → ⊥
-not-ready-number t bits r (unsound q s) z = let n : _≡_ {A = ℕ} 12 0 = sym (ap told-number q) ∙ z in omega (arith, n)
-not-ready-number t bits r (bit-past q s p) z = let n : _≡_ {A = ℕ} 13 0 = sym (ap told-number q) ∙ z in omega (arith, n)
+not-ready-number t bits r (unsound q s) z = let n : _≡_ {A = ℕ} 12 0 = sym (ap report-number q) ∙ z in omega (arith, n)
+not-ready-number t bits r (bit-past q s p) z = let n : _≡_ {A = ℕ} 13 0 = sym (ap report-number q) ∙ z in omega (arith, n)
 
 step-zero : (t : List ℕ) (before : Record) (e : ℕ) (s : Stepped) → Step-answer t before e s → number (s .answer) ≡ 0 → s .answer ≡ Done
 step-zero t before e s (event-taken q k) z = ap (λ (x : Stepped). x .answer) q
 step-zero t before e s (step-not-ready w k) z = absurd (not-ready-number t (before .bits) (report (s .answer)) w z)
-step-zero t before e s (past-events q k r h) z = let n : _≡_ {A = ℕ} 14 0 = sym (ap told-number q) ∙ z in absurd (omega (arith, n))
-step-zero t before e s (guard-says-no q k r h y) z = let n : _≡_ {A = ℕ} 15 0 = sym (ap told-number q) ∙ z in absurd (omega (arith, n))
+step-zero t before e s (past-events q k r h) z = let n : _≡_ {A = ℕ} 14 0 = sym (ap report-number q) ∙ z in absurd (omega (arith, n))
+step-zero t before e s (guard-says-no q k r h y) z = let n : _≡_ {A = ℕ} 15 0 = sym (ap report-number q) ∙ z in absurd (omega (arith, n))
 
 offer-zero : (t : List ℕ) (before : Record) (lent : List ℕ) (a : Answer) (left : List ℕ) → Offer-answer t before lent a left → number a ≡ 0 → a ≡ Done
 offer-zero t before lent a left (offer-made q h r l) z = q
-offer-zero t before lent a left (buffer-short q h l) z = let n : _≡_ {A = ℕ} 1 0 = sym (ap told-number q) ∙ z in absurd (omega (arith, n))
+offer-zero t before lent a left (buffer-short q h l) z = let n : _≡_ {A = ℕ} 1 0 = sym (ap report-number q) ∙ z in absurd (omega (arith, n))
 offer-zero t before lent a left (offer-not-ready h w l) z = absurd (not-ready-number t (before .bits) (report a) w z)
 
 module _ (t s : List ℕ) (e : ℕ) (b : Bytes s) where

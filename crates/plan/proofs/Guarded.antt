@@ -24,7 +24,7 @@ use Rattle.plan.proofs.RowsLower.{bit-first, not-first, both-first, eit
 use Rattle.plan.proofs.RecordsKept.{Kept as Kept-record, records-kept}
 use Rattle.plan.proofs.PlanTrue.{plan-true}
 use Rattle.plan.proofs.GuardsTrue.{guards-true}
-use Rattle.plan.proofs.Tabled.{Kept, told, head}
+use Rattle.plan.proofs.Tabled.{Kept, agrees, head}
 
 and-same : (b : Bool) → (b && b) ≡ b
 and-same true = refl
@@ -120,7 +120,7 @@ module _ (p : Process) (n : ℕ) (numbered : Numbered p 0) (its-size : size p �
 
   pub plan-agrees : Agrees p n (planned p)
   plan-agrees =
-      subst (Agrees p n) same (told n (rows-of p) (records-of p) kept p guarded over (λ e i h. rw (zero-add e) at (record-kept e h .its-bits i)))
+      subst (Agrees p n) same (agrees n (rows-of p) (records-of p) kept p guarded over (λ e i h. rw (zero-add e) at (record-kept e h .its-bits i)))
 
   pub plan-rows : rows (planned p) ≡ length (rows-of p)
   plan-rows = sym (ap rows same) ∙ head n (rows-of p) (records-of p) kept .1

@@ -17,7 +17,7 @@ use Rattle.postfix.specs.Fold.{fold}
 use Rattle.plan.specs.Plan.{Plan, Guards, joined, plan-of, later-gate, earlier-gate, joint-words, guards-of}
 use Rattle.plan.specs.declared.PartRows.{PartRows}
 use Rattle.layout.specs.Values.{says}
-use Rattle.plan.proofs.Says.{Obeys, Tells, Below}
+use Rattle.plan.proofs.Says.{Obeys, PartAgrees, Below}
 use Rattle.layout.proofs.Decoded.{both-says}
 use Rattle.layout.proofs.Decoded.{record-fields}
 use Rattle.plan.proofs.Within.{obeys-split, records-cases, one-record, below-more, join-length, plan-below}
@@ -71,7 +71,7 @@ module _ (s : Bits) (v : ℕ → Bool) where
 
   -- ---- the rows of a joint
   module _ (p q : Process) (u k m lo hi : ℕ) (a b : PartRows) (room : u ≤ 16384) (small : m < 16384) (la : Below u lo a) (lb : Below u hi b)
-      (t : Tells p s v a) (r : Tells q s v b) where
+      (t : PartAgrees p s v a) (r : PartAgrees q s v b) where
     later-true : (j : Joint) → Obeys s v k (joint-words j m (join-piece j u a b .needs)) → v (later-gate j k m) ≡ (v m && later-ok j p s)
     later-true seq h = gate-says k m (a .done) (complete p s) small (omega arith) (t .its-done) (row-says s v k _ 0 k h (omega arith) (omega arith))
     later-true and h = sym (and-true (v m))
@@ -99,7 +99,7 @@ module _ (s : Bits) (v : ℕ → Bool) where
     obeys-first : Obeys s v u (plan-of p u .words)
     obeys-second : Obeys s v k (guards-of p u k m .words)
 
-  stands-true : (p : Process) (u k m lo : ℕ) → Stands p u k m lo → Tells p s v (plan-of p u .part)
+  stands-true : (p : Process) (u k m lo : ℕ) → Stands p u k m lo → PartAgrees p s v (plan-of p u .part)
   stands-true p u k m lo c = plan-true s v p u lo (c .numbered) (c .few) (c .low) (c .room-first) (c .on) (c .obeys-first)
 
   -- The body of a loop over a flow.

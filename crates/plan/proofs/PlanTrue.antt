@@ -18,7 +18,7 @@ use Rattle.postfix.specs.Fold.{fold}
 use Rattle.plan.specs.Plan.{joined, plan-of}
 use Rattle.plan.specs.declared.PartRows.{PartRows}
 use Rattle.layout.specs.Values.{says}
-use Rattle.plan.proofs.Says.{Obeys, Tells, Below}
+use Rattle.plan.proofs.Says.{Obeys, PartAgrees, Below}
 use Rattle.layout.proofs.Decoded.{bit-says, not-says, both-says, either-says}
 use Rattle.plan.proofs.Within.{obeys-split, below-more, settled-below, join-length, plan-below}
 
@@ -49,16 +49,16 @@ module _ (s : Bits) (v : ℕ → Bool) where
       let b : v k ≡ s n = row-says k _ 0 k h (omega arith) (omega arith) ∙ bit-says s v n (omega arith) in
       (b, row-says k _ 1 (k + 1) h (omega arith) (omega arith) ∙ (not-says s v k (omega arith) ∙ ap not b))
 
-  event-true : (n : ℕ) (l : Event) (k : ℕ) → v 2 ≡ true → (v k ≡ s n) × (v (k + 1) ≡ not (s n)) → Tells (event n l) s v (event-piece k n .part)
+  event-true : (n : ℕ) (l : Event) (k : ℕ) → v 2 ≡ true → (v k ≡ s n) × (v (k + 1) ≡ not (s n)) → PartAgrees (event n l) s v (event-piece k n .part)
   unfolding begun complete
   event-true n l k on h = record { its-begun = h .0; its-idle = h .1; its-done = h .0; its-settled = λ z. on ∙ sym (or-not-self (s n)) }
 
-  again-true : (n : ℕ) (l : Event) (k : ℕ) → v 2 ≡ true → (v k ≡ s n) × (v (k + 1) ≡ not (s n)) → Tells (again n l) s v (again-piece k n .part)
+  again-true : (n : ℕ) (l : Event) (k : ℕ) → v 2 ≡ true → (v k ≡ s n) × (v (k + 1) ≡ not (s n)) → PartAgrees (again n l) s v (again-piece k n .part)
   unfolding begun complete
   again-true n l k on h = record { its-begun = h .0; its-idle = h .1; its-done = on; its-settled = λ z. on }
 
-  rounds-true : (p : Process) (r : ℕ) (l : Event) (k lo : ℕ) (m : PartRows) → r < 512 → k + 3 ≤ 16384 → Below k lo m → Tells p s v m
-      → Obeys s v k (rounds-piece k r m .words) → Tells (rounds p r l) s v (rounds-piece k r m .part)
+  rounds-true : (p : Process) (r : ℕ) (l : Event) (k lo : ℕ) (m : PartRows) → r < 512 → k + 3 ≤ 16384 → Below k lo m → PartAgrees p s v m
+      → Obeys s v k (rounds-piece k r m .words) → PartAgrees (rounds p r l) s v (rounds-piece k r m .part)
   unfolding begun complete
   rounds-true p r l k lo m small room low t h =
       let c : v k ≡ s r = row-says k _ 0 k h (omega arith) (omega arith) ∙ bit-says s v r (omega arith) in
@@ -75,7 +75,7 @@ module _ (s : Bits) (v : ℕ → Bool) where
       }
 
   -- A part is settled by its own row or by the new one.
-  settled-true : (p : Process) (k lo : ℕ) (m : PartRows) → k ≤ 16384 → Below k lo m → Tells p s v m → Obeys s v k (settling m)
+  settled-true : (p : Process) (k lo : ℕ) (m : PartRows) → k ≤ 16384 → Below k lo m → PartAgrees p s v m → Obeys s v k (settling m)
       → v (settled-row k m) ≡ (complete p s || not (begun p s))
   settled-true p k lo m room a t h = by-cases (eqb (m .settled) 0) new own
     where
@@ -91,7 +91,7 @@ module _ (s : Bits) (v : ℕ → Bool) where
       own e = rw e (t .its-settled (eqb-false (m .settled) 0 e))
 
   module _ (p q : Process) (k lo hi : ℕ) (m n : PartRows) (room : k ≤ 16384) (a : Below k lo m) (b : Below k hi n)
-      (t : Tells p s v m) (r : Tells q s v n) where
+      (t : PartAgrees p s v m) (r : PartAgrees q s v n) where
     -- What the pieces of all joints share: the rows that a part is begun, and that none is.
     one-begun : (ws : List ℕ) → Obeys s v k (either-row (m .begun) (n .begun) ∷ not-row k ∷ ws) → v k ≡ (begun p s || begun q s)
     one-begun ws h =
@@ -103,7 +103,7 @@ module _ (s : Bits) (v : ℕ → Bool) where
 
     -- A joint that has one row more, by which it is complete.
     three-true : (j : Joint) (w : ℕ) → Obeys s v k (either-row (m .begun) (n .begun) ∷ not-row k ∷ w ∷ []) → says w s v ≡ complete (join j p q) s
-        → Tells (join j p q) s v (part-rows k (k + 1) (k + 2) 0 (m .first))
+        → PartAgrees (join j p q) s v (part-rows k (k + 1) (k + 2) 0 (m .first))
     unfolding begun
     three-true j w h c = record {
       its-begun = one-begun (w ∷ []) h;
@@ -120,7 +120,7 @@ module _ (s : Bits) (v : ℕ → Bool) where
 
     -- Either part or both, which are settled by rows x and y.
     some-true : (x y : ℕ) → k + 4 ≤ 16384 → x < k → y < k → v x ≡ (complete p s || not (begun p s)) → v y ≡ (complete q s || not (begun q s))
-        → Obeys s v k (settled-piece k m n x y .words) → Tells (join or p q) s v (settled-piece k m n x y .part)
+        → Obeys s v k (settled-piece k m n x y .words) → PartAgrees (join or p q) s v (settled-piece k m n x y .part)
     unfolding begun complete
     some-true x y more f g c d h =
         let w : v (k + 2) ≡ ((complete p s || not (begun p s)) && (complete q s || not (begun q s))) =
@@ -138,7 +138,7 @@ module _ (s : Bits) (v : ℕ → Bool) where
 
   -- The same, with the rows that settle the parts.
   choice-true : (p q : Process) (k lo hi : ℕ) (m n : PartRows) → k + length (some-piece k m n .words) ≤ 16384 → Below k lo m → Below k hi n
-      → Tells p s v m → Tells q s v n → Obeys s v k (some-piece k m n .words) → Tells (join or p q) s v (some-piece k m n .part)
+      → PartAgrees p s v m → PartAgrees q s v n → Obeys s v k (some-piece k m n .words) → PartAgrees (join or p q) s v (some-piece k m n .part)
   choice-true p q k lo hi m n room a b t r h =
       let i : ℕ = k + length (settling m) in
       let x : ℕ = settled-row k m in
@@ -157,8 +157,8 @@ module _ (s : Bits) (v : ℕ → Bool) where
 
   -- Any joint.
   join-true : (j : Joint) (p q : Process) (k lo hi : ℕ) (m n : PartRows) → k + length (join-piece j k m n .words) ≤ 16384
-      → Below k lo m → Below k hi n → Tells p s v m → Tells q s v n → Obeys s v k (join-piece j k m n .words)
-      → Tells (join j p q) s v (join-piece j k m n .part)
+      → Below k lo m → Below k hi n → PartAgrees p s v m → PartAgrees q s v n → Obeys s v k (join-piece j k m n .words)
+      → PartAgrees (join j p q) s v (join-piece j k m n .part)
   unfolding complete
   join-true seq p q k lo hi m n room a b t r h =
       three-true p q k lo hi m n (omega arith) a b t r seq (both-row (m .done) (n .done)) h (both-done p q k lo hi m n (omega arith) a b t r)
@@ -171,7 +171,7 @@ module _ (s : Bits) (v : ℕ → Bool) where
   -- ---- the process
   -- Where the values are those of a process's rows, its rows say of it what the bits say.
   pub plan-true : (p : Process) (k lo : ℕ) → Numbered p lo → lo + size p ≤ 512 → 3 ≤ k → k + length (plan-of p k .words) ≤ 16384 → v 2 ≡ true
-      → Obeys s v k (plan-of p k .words) → Tells p s v (plan-of p k .part)
+      → Obeys s v k (plan-of p k .words) → PartAgrees p s v (plan-of p k .part)
   unfolding fold Numbered size
   plan-true (event n l) k lo num few g room on h = event-true n l k on (leaf-rows n k (omega (arith, num)) (omega arith) h)
   plan-true (join j p q) k lo num few g room on h =

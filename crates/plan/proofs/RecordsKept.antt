@@ -68,7 +68,7 @@ each-join Q lo m n xs ys z f g i h = records-cases (λ (w : ℕ). Q w (lo + i)) 
     there : (j : ℕ) → i ≡ m + j → j < n → Q (getD ys j 0) (lo + i)
     there j e k = let a : lo + m + j ≡ lo + i = omega arith in rw (← a) (g j k)
 
--- A record is kept as well where the same bits are told in another way.
+-- A record is kept as well where the same bits are given in another way.
 kept-to : (bound : ℕ) (cl dl : ℕ → ℕ → Bool) (w e : ℕ) → ((i : ℕ) → cl e i ≡ dl e i) → Kept bound cl w e → Kept bound dl w e
 kept-to bound cl dl w e same k =
     record { guard-below = k .guard-below; its-run = k .its-run; small = k .small; its-bits = λ i. k .its-bits i ∙ same i }

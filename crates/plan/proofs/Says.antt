@@ -17,7 +17,7 @@ Obeys s v k [] = Unit {0}
 Obeys s v k (w ∷ ws) = (v k ≡ says w s v) × Obeys s v (suc k) ws
 
 -- The rows of a part say of a process what the bits say.
-pub record Tells (p : Process) (s : Bits) (v : ℕ → Bool) (m : PartRows) : Type 0 where
+pub record PartAgrees (p : Process) (s : Bits) (v : ℕ → Bool) (m : PartRows) : Type 0 where
   pub its-begun : v (m .begun) ≡ begun p s
   pub its-idle : v (m .idle) ≡ not (begun p s)
   pub its-done : v (m .done) ≡ complete p s

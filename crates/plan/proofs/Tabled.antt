@@ -103,8 +103,8 @@ module _ (n : ℕ) (ws rs : List ℕ) (k : Kept n ws rs) where
       (guarded : (s : Bits) (v : ℕ → Bool) → Obeys s v 0 ws → (e : ℕ) → e < n → v (guard-of (getD rs e 0)) ≡ enabled p s e)
       (over : (s : Bits) (v : ℕ → Bool) → Obeys s v 0 ws → v (length ws - 1) ≡ complete p s)
       (clearing : (e i : ℕ) → e < n → (leb (first-of (getD rs e 0)) i && ltb i (first-of (getD rs e 0) + count-of (getD rs e 0))) ≡ clears p e i) where
-    pub told : Agrees p n t
-    told = record {
+    pub agrees : Agrees p n t
+    agrees = record {
       its-sound = is-sound;
       its-events = head .0;
       its-guards = λ bits e h. rw (record-read e h) (guarded (bit-at bits) (λ i. getD (values-of t bits) i false) (values-right bits) e h);

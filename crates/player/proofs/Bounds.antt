@@ -19,7 +19,7 @@ use Rattle.table.specs.Steps.{finished-of}
 use Rattle.table.specs.declared.Answer.{Answer}
 use Rattle.table.specs.declared.Answer.the-variants.{Done, Refused}
 use Rattle.table.specs.declared.Finish.{Finish}
-use Rattle.table.specs.declared.Finish.the-variants.{No, Yes, Refused as Unasked}
+use Rattle.table.specs.declared.Finish.the-variants.{No, Yes, Refused as FinishRefused}
 use Rattle.table.specs.declared.Stepped.{Stepped}
 use Rattle.said.specs.Lines.{onto, lines, first, rest, event-lines}
 use Rattle.player.specs.Shown.{item, chosen, events-line, next-bits, state-text, answer-text, answer-line, stepped-text, said-step, opening-text, finish-text, closing-text}
@@ -77,7 +77,7 @@ answer-short (Refused number place) = refused-most number place
 finish-short : (f : Finish) → length (finish-text f) ≤ 50
 finish-short Yes = omega arith
 finish-short No = omega arith
-finish-short (Unasked number place) = refused-most number place
+finish-short (FinishRefused number place) = refused-most number place
 
 stepped-short : (listing table said : List ℕ) (s : Stepped) → length (stepped-text listing table said s) ≤ 6 * length listing + length said + 68
 unfolding stepped-text answer-line

@@ -12,7 +12,7 @@ use Rattle.table.specs.Steps.{step-of, finished-of, offer-of, offer-left}
 use Rattle.table.specs.declared.Answer.{Answer}
 use Rattle.table.specs.declared.Answer.the-variants.{Done, Refused}
 use Rattle.table.specs.declared.Finish.{Finish}
-use Rattle.table.specs.declared.Finish.the-variants.{No, Yes, Refused as Unasked}
+use Rattle.table.specs.declared.Finish.the-variants.{No, Yes, Refused as FinishRefused}
 use Rattle.table.specs.declared.Stepped.{Stepped}
 use Rattle.output.specs.Lines.{refused-line}
 use Rattle.said.specs.Lines.{lines, first, event-lines}
@@ -64,7 +64,7 @@ opening-text listing table = (first (lines listing) ++ bytes "\n") ++ state-text
 abbrev pub finish-text : Finish → List ℕ
 finish-text Yes = bytes "finished\n"
 finish-text No = bytes "not finished\n"
-finish-text (Unasked number place) = refused-line number place
+finish-text (FinishRefused number place) = refused-line number place
 
 unfoldable pub closing-text : List ℕ → Record → List ℕ
 closing-text table r = finish-text (finished-of table r)

@@ -79,7 +79,7 @@ new-others : (m n : Name) (ns : List Name) → new m (n ∷ ns) ≡ true → new
 new-others m n ns h = and-r (not (same m n)) (new m ns) h
 
 -- The process of a node's copy for the values `vs`, its events told apart: they have some of the names `all`, of which `ns` are left for the nodes after it.
-record Told (p : Process) (vs : List ℕ) (ns all : List Name) : Type 0 where
+record Distinct (p : Process) (vs : List ℕ) (ns all : List Name) : Type 0 where
   -- a name that is none of `all` is no event's, and none of those left
   named : (x : ℕ) (l : Event) → Has p x l → new (l .name) all ≡ true → ⊥
   fewer : (m : Name) → new m all ≡ true → new m ns ≡ true
@@ -89,9 +89,9 @@ record Told (p : Process) (vs : List ℕ) (ns all : List Name) : Type 0 where
   valued : (x : ℕ) (l : Event) → Has p x l → Starts vs (l .values)
   once : (x y : ℕ) (l : Event) → Has p x l → Has p y l → x ≡ y
 
-told-one : {p : Process} {n : ℕ} {l : Event} {vs : List ℕ} (ns : List Name) → Only p n l → l .values ≡ vs → differ (l .name ∷ ns) ≡ true
-    → Told p vs ns (l .name ∷ ns)
-told-one {l = l} {vs = vs} ns only e h = record {
+distinct-one : {p : Process} {n : ℕ} {l : Event} {vs : List ℕ} (ns : List Name) → Only p n l → l .values ≡ vs → differ (l .name ∷ ns) ≡ true
+    → Distinct p vs ns (l .name ∷ ns)
+distinct-one {l = l} {vs = vs} ns only e h = record {
   named = λ x k i t. new-first (k .name) (l .name) ns t (ap (λ (a : Event). a .name) (only x k i .1));
   fewer = λ m t. new-others m (l .name) ns t;
   left = and-r (new (l .name) ns) (differ ns) h;
@@ -101,8 +101,8 @@ told-one {l = l} {vs = vs} ns only e h = record {
 }
 
 -- One name more, which no event has.
-told-more : (n : Name) {p : Process} {vs : List ℕ} {ns all : List Name} → Told p vs ns all → Told p vs ns (n ∷ all)
-told-more n {all = all} P = record {
+distinct-more : (n : Name) {p : Process} {vs : List ℕ} {ns all : List Name} → Distinct p vs ns all → Distinct p vs ns (n ∷ all)
+distinct-more n {all = all} P = record {
   named = λ x l i t. P .named x l i (new-others (l .name) n all t);
   fewer = λ m t. P .fewer m (new-others m n all t);
   left = P .left;
@@ -112,8 +112,8 @@ told-more n {all = all} P = record {
 }
 
 -- Two parts, the names of the second being left by the first.
-told-both : {w p q : Process} {vs : List ℕ} {ns mid all : List Name} → Of-both w p q → Told p vs mid all → Told q vs ns mid → Told w vs ns all
-told-both {p = p} {q = q} of P Q = record {
+distinct-both : {w p q : Process} {vs : List ℕ} {ns mid all : List Name} → Of-both w p q → Distinct p vs mid all → Distinct q vs ns mid → Distinct w vs ns all
+distinct-both {p = p} {q = q} of P Q = record {
   named = λ x l i t. ⊎-elim (λ k. P .named x l k t) (λ k. Q .named x l k (P .fewer (l .name) t)) (of x l i);
   fewer = λ m t. Q .fewer m (P .fewer m t);
   left = Q .left;
@@ -128,13 +128,13 @@ told-both {p = p} {q = q} of P Q = record {
     same-side x y l (inr i) (inl k) = absurd (Q .named x l i (P .free y l k))
     same-side x y l (inr i) (inr k) = Q .once x y l i k
 
-told-join : (j : Joint) {p q : Process} {vs : List ℕ} {ns mid all : List Name} → Told p vs mid all → Told q vs ns mid → Told (join j p q) vs ns all
-told-join j {p} {q} P Q = told-both (in-join j p q) P Q
+distinct-join : (j : Joint) {p q : Process} {vs : List ℕ} {ns mid all : List Name} → Distinct p vs mid all → Distinct q vs ns mid → Distinct (join j p q) vs ns all
+distinct-join j {p} {q} P Q = distinct-both (in-join j p q) P Q
 
 -- The copies share their names; their values tell them apart.
-told-copies : (j : Joint) (copy : ℕ → Process) {vs : List ℕ} {ns all : List Name} → ((v : ℕ) → Told (copy v) (vs ++ (v ∷ [])) ns all) → (last : ℕ)
-    → Told (copies j copy last) vs ns all
-told-copies j copy {vs} f last = record {
+distinct-copies : (j : Joint) (copy : ℕ → Process) {vs : List ℕ} {ns all : List Name} → ((v : ℕ) → Distinct (copy v) (vs ++ (v ∷ [])) ns all) → (last : ℕ)
+    → Distinct (copies j copy last) vs ns all
+distinct-copies j copy {vs} f last = record {
   named = λ x l i. let k = in-copies j copy last x l i in f (k .0) .named x l (k .1);
   fewer = f 0 .fewer;
   left = f 0 .left;
@@ -158,56 +158,56 @@ reset-valued f vs = refl
 
 -- A flow whose body is told, as a member and as the body of a loop, whose reset has the flow's own name.
 module _ (ns : List Name) (vs : List ℕ) where
-  told-inner : (f : Flow) (p : Process) → differ (flow-names f ns) ≡ true → (differ (below f ns) ≡ true → Told p vs ns (below f ns)) → Told p vs ns (flow-names f ns)
+  distinct-inner : (f : Flow) (p : Process) → differ (flow-names f ns) ≡ true → (differ (below f ns) ≡ true → Distinct p vs ns (below f ns)) → Distinct p vs ns (flow-names f ns)
   unfolding flow-names
-  told-inner (flow n ps sw c r cs) p h body =
+  distinct-inner (flow n ps sw c r cs) p h body =
       let all = child-names c (children-names cs ns) in
-      told-more n (body (and-r (new n all) (differ all) h))
+      distinct-more n (body (and-r (new n all) (differ all) h))
 
-  told-rounds : (f : Flow) (p : Process) (e : ℕ) → differ (flow-names f ns) ≡ true → (differ (below f ns) ≡ true → Told p vs ns (below f ns))
-      → Told (rounds p e (reset-of f vs)) vs ns (flow-names f ns)
+  distinct-rounds : (f : Flow) (p : Process) (e : ℕ) → differ (flow-names f ns) ≡ true → (differ (below f ns) ≡ true → Distinct p vs ns (below f ns))
+      → Distinct (rounds p e (reset-of f vs)) vs ns (flow-names f ns)
   unfolding flow-names
-  told-rounds (flow n ps sw c r cs) p e h body =
+  distinct-rounds (flow n ps sw c r cs) p e h body =
       let all = child-names c (children-names cs ns) in
       let reset = reset-of (flow n ps sw c r cs) vs in
-      told-both (in-rounds p e reset) (told-one all (in-leaf e reset) (reset-valued (flow n ps sw c r cs) vs) h) (body (and-r (new n all) (differ all) h))
+      distinct-both (in-rounds p e reset) (distinct-one all (in-leaf e reset) (reset-valued (flow n ps sw c r cs) vs) h) (body (and-r (new n all) (differ all) h))
 
 -- Each copy of a node, by the shape of `flow-process`.
 mutual
   unfolding flow-process flow-names
 
-  flow-told : (f : Flow) (ns : List Name) → differ (below f ns) ≡ true → (vs : List ℕ) (e : ℕ) → Told (flow-process f vs e) vs ns (below f ns)
-  flow-told (flow n ps sw c r cs) ns h vs e = children-told cs ns vs _ _ (child-told c (children-names cs ns) h vs e)
+  flow-distinct : (f : Flow) (ns : List Name) → differ (below f ns) ≡ true → (vs : List ℕ) (e : ℕ) → Distinct (flow-process f vs e) vs ns (below f ns)
+  flow-distinct (flow n ps sw c r cs) ns h vs e = children-distinct cs ns vs _ _ (child-distinct c (children-names cs ns) h vs e)
 
-  children-told : (cs : Children) (ns : List Name) (vs : List ℕ) (p : Process) (e : ℕ) {all : List Name} → Told p vs (children-names cs ns) all
-      → Told (children-process cs vs p e) vs ns all
-  children-told none ns vs p e P = P
-  children-told (next c r cs) ns vs p e P = children-told cs ns vs _ _ (told-join seq P (child-told c (children-names cs ns) (P .left) vs e))
+  children-distinct : (cs : Children) (ns : List Name) (vs : List ℕ) (p : Process) (e : ℕ) {all : List Name} → Distinct p vs (children-names cs ns) all
+      → Distinct (children-process cs vs p e) vs ns all
+  children-distinct none ns vs p e P = P
+  children-distinct (next c r cs) ns vs p e P = children-distinct cs ns vs _ _ (distinct-join seq P (child-distinct c (children-names cs ns) (P .left) vs e))
 
-  child-told : (c : Child) (ns : List Name) → differ (child-names c ns) ≡ true → (vs : List ℕ) (e : ℕ) → Told (child-process c vs e) vs ns (child-names c ns)
-  child-told (plain m) ns h vs e = member-told m ns h vs e
-  child-told (loop m) ns h vs e = loop-told m ns h vs e
-  child-told (group y a b ms) ns h vs e =
-      let A = member-told a (member-names b (members-names ms ns)) h vs e in
-      members-told ms ns (joint y) vs _ _ (told-join (joint y) A (member-told b (members-names ms ns) (A .left) vs _))
-  child-told (replicator y par size m) ns h vs e = told-copies (joint y) _ (λ v. member-told m ns h (vs ++ (v ∷ [])) _) (size - 1)
+  child-distinct : (c : Child) (ns : List Name) → differ (child-names c ns) ≡ true → (vs : List ℕ) (e : ℕ) → Distinct (child-process c vs e) vs ns (child-names c ns)
+  child-distinct (plain m) ns h vs e = member-distinct m ns h vs e
+  child-distinct (loop m) ns h vs e = loop-distinct m ns h vs e
+  child-distinct (group y a b ms) ns h vs e =
+      let A = member-distinct a (member-names b (members-names ms ns)) h vs e in
+      members-distinct ms ns (joint y) vs _ _ (distinct-join (joint y) A (member-distinct b (members-names ms ns) (A .left) vs _))
+  child-distinct (replicator y par size m) ns h vs e = distinct-copies (joint y) _ (λ v. member-distinct m ns h (vs ++ (v ∷ [])) _) (size - 1)
 
-  loop-told : (m : Member) (ns : List Name) → differ (member-names m ns) ≡ true → (vs : List ℕ) (e : ℕ) → Told (loop-process m vs e) vs ns (member-names m ns)
-  loop-told (leaf n) ns h vs e = told-one ns (in-again e (leaf-copy n vs)) refl h
-  loop-told (inner f) ns h vs e = told-rounds ns vs f _ _ h (λ k. flow-told f ns k vs e)
+  loop-distinct : (m : Member) (ns : List Name) → differ (member-names m ns) ≡ true → (vs : List ℕ) (e : ℕ) → Distinct (loop-process m vs e) vs ns (member-names m ns)
+  loop-distinct (leaf n) ns h vs e = distinct-one ns (in-again e (leaf-copy n vs)) refl h
+  loop-distinct (inner f) ns h vs e = distinct-rounds ns vs f _ _ h (λ k. flow-distinct f ns k vs e)
 
-  member-told : (m : Member) (ns : List Name) → differ (member-names m ns) ≡ true → (vs : List ℕ) (e : ℕ) → Told (member-process m vs e) vs ns (member-names m ns)
-  member-told (leaf n) ns h vs e = told-one ns (in-leaf e (leaf-copy n vs)) refl h
-  member-told (inner f) ns h vs e = told-inner ns vs f _ h (λ k. flow-told f ns k vs e)
+  member-distinct : (m : Member) (ns : List Name) → differ (member-names m ns) ≡ true → (vs : List ℕ) (e : ℕ) → Distinct (member-process m vs e) vs ns (member-names m ns)
+  member-distinct (leaf n) ns h vs e = distinct-one ns (in-leaf e (leaf-copy n vs)) refl h
+  member-distinct (inner f) ns h vs e = distinct-inner ns vs f _ h (λ k. flow-distinct f ns k vs e)
 
-  members-told : (ms : Members) (ns : List Name) (j : Joint) (vs : List ℕ) (p : Process) (e : ℕ) {all : List Name} → Told p vs (members-names ms ns) all
-      → Told (members-process ms j vs p e) vs ns all
-  members-told end ns j vs p e P = P
-  members-told (also m ms) ns j vs p e P = members-told ms ns j vs _ _ (told-join j P (member-told m (members-names ms ns) (P .left) vs e))
+  members-distinct : (ms : Members) (ns : List Name) (j : Joint) (vs : List ℕ) (p : Process) (e : ℕ) {all : List Name} → Distinct p vs (members-names ms ns) all
+      → Distinct (members-process ms j vs p e) vs ns all
+  members-distinct end ns j vs p e P = P
+  members-distinct (also m ms) ns j vs p e P = members-distinct ms ns j vs _ _ (distinct-join j P (member-distinct m (members-names ms ns) (P .left) vs e))
 
 -- The event of a number, its mark, name and values, is no other number's.
 pub no-event-twice : (d : Flow) → flow-sized d ≡ true → differ (flow-names d []) ≡ true → (e f : ℕ) → e < flow-events d → f < flow-events d
     → event-of (expand d) e ≡ event-of (expand d) f → e ≡ f
 no-event-twice d s h e f i k q =
-    let all = told-inner [] [] d (expand d) h (λ r. flow-told d [] r [] 0) in
+    let all = distinct-inner [] [] d (expand d) h (λ r. flow-distinct d [] r [] 0) in
     all .once e f (event-of (expand d) f) record { owned = expand-events d s e .1 i; its-event = q } record { owned = expand-events d s f .1 k; its-event = refl }

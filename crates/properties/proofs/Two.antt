@@ -32,7 +32,7 @@ again text d p left k o q m n =
     let r = reads-met text o m in
     let s = reads-met (written p left) q n in
     record {
-      told = rw (w, x) (a .reported);
+      reported = rw (w, x) (a .reported);
       done = rw (s, w) (a .done);
       same = rw (s, r, w) (a .same);
       shows = rw r (a .shows);

@@ -8,7 +8,7 @@ use Rattle.table.specs.Bounds.{Check-answer, Step-answer, Finish-answer, Offer-
 use Rattle.table.specs.declared.Answer.{Answer}
 use Rattle.table.specs.declared.Finish.{Finish}
 use Rattle.table.specs.declared.Stepped.{Stepped}
-use Rattle.firmware.specs.Bounds.{Check-told, Step-told, Finish-told, Offer-told}
+use Rattle.firmware.specs.Bounds.{Check-bounded, Step-bounded, Finish-bounded, Offer-bounded}
 use Rattle.reading.specs.Bounds as reader
 use Rattle.reading.specs.declared.ReadResult.{ReadResult}
 use Rattle.printer.specs.Bounds as printer
@@ -41,7 +41,7 @@ abbrev pub Free : {Lifetimes : Type 0} {Args : Lifetimes → Type 0} → ((κs :
 Free {Lifetimes} {Args} asked = (κs : Lifetimes) (args : Args κs) → asked κs args
 
 -- "a public call has no `requires`"
-pub record Unasked : Type 0 where
+pub record NothingAsked : Type 0 where
   pub read : Free read-reads.Asked
   pub print : Free print-reads.Asked
   pub translate : Free translate-reads.Asked
@@ -60,7 +60,7 @@ pub record Unasked : Type 0 where
 
 -- Each relation on the right gives the result, or the refusal by its own condition with every lent byte as it was, and admits one answer only.
 pub record Property-1 : Type 0 where
-  pub nothing-asked : Unasked
+  pub nothing-asked : NothingAsked
   pub read : (text : List ℕ) (o : ReadResult) → Reads text o → reader.Bounded text o
   pub print : (text lent : List ℕ) (p : Printed) (left : List ℕ) → Prints text lent p left → printer.Bounded text lent p left
   pub translate : (text lent : List ℕ) (r : Translated) (left : List ℕ) → Translates text lent r left → translator.Bounded text lent r left
@@ -73,7 +73,7 @@ pub record Property-1 : Type 0 where
   pub offer : (t : List ℕ) (before : Record) (lent : List ℕ) (a : Answer) (left : List ℕ) → Offers t before lent a left → Offer-answer t before lent a left
   -- the record that is lent to the thin call is then what the step by value would have returned
   pub update : (t : List ℕ) (lent : Record) (e : ℕ) (a : Answer) (left : Record) → Updates t lent e a left → Step-answer t lent e (record { answer = a; after = left })
-  pub c-check : (t : List ℕ) (n : ℕ) → C-checks t n → Check-told t n
-  pub c-step : (t bytes : List ℕ) (e n : ℕ) (left : List ℕ) → C-steps t bytes e n left → Step-told t bytes e n left
-  pub c-finished : (t bytes : List ℕ) (n : ℕ) → C-finishes t bytes n → Finish-told t bytes n
-  pub c-offer : (t bytes lent : List ℕ) (n : ℕ) (left : List ℕ) → C-offers t bytes lent n left → Offer-told t bytes lent n left
+  pub c-check : (t : List ℕ) (n : ℕ) → C-checks t n → Check-bounded t n
+  pub c-step : (t bytes : List ℕ) (e n : ℕ) (left : List ℕ) → C-steps t bytes e n left → Step-bounded t bytes e n left
+  pub c-finished : (t bytes : List ℕ) (n : ℕ) → C-finishes t bytes n → Finish-bounded t bytes n
+  pub c-offer : (t bytes lent : List ℕ) (n : ℕ) (left : List ℕ) → C-offers t bytes lent n left → Offer-bounded t bytes lent n left

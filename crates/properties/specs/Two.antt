@@ -28,7 +28,7 @@ pub record Printing (text : List ℕ) (d : Flow) (p : Printed) (left : List ℕ)
 -- What was written, read again, is done, with the same diagram: the same nodes and counts, places aside, and the same names at those places; both show the one
 -- tree.
 pub record Again (text : List ℕ) (d : Flow) (p : Printed) (left : List ℕ) (o again : ReadResult) : Type 0 where
-  pub told : report p ≡ result (length (written p left) ∷ [])
+  pub reported : report p ≡ result (length (written p left) ∷ [])
   pub done : again .answer ≡ Done
   pub same : Same (written p left) (again .diagram) text (o .diagram)
   pub shows : Shows text d (o .diagram)

@@ -72,13 +72,13 @@ clean-names (h ∷ hs) before =
 
 -- The nodes' names are the tree's.
 record Says (hs : List TokenNode) (ns : List Name) : Type 0 where
-  told : used hs ≡ ns
+  same-names : used hs ≡ ns
 
 says-own : (h : TokenNode) {hs : List TokenNode} {ns : List Name} → titled h ≡ true → Says hs ns → Says (h ∷ hs) (h .name ∷ ns)
-says-own h e s = record { told = rw (e, s .told) }
+says-own h e s = record { same-names = rw (e, s .same-names) }
 
 says-untitled : (h : TokenNode) {hs : List TokenNode} {ns : List Name} → titled h ≡ false → Says hs ns → Says (h ∷ hs) ns
-says-untitled h e s = record { told = rw (e, s .told) }
+says-untitled h e s = record { same-names = rw (e, s .same-names) }
 
 mutual
   unfolding flow-token-nodes flow-names
@@ -110,7 +110,7 @@ mutual
 
 clean-flow : (d : Flow) → clean (fault names-kept [] (flow-token-nodes d false 1 0 [])) ≡ differ (flow-names d [])
 clean-flow d =
-    let s : used (flow-token-nodes d false 1 0 []) ≡ flow-names d [] = flow-says d false 1 0 (record { told = refl }) .told in
+    let s : used (flow-token-nodes d false 1 0 []) ≡ flow-names d [] = flow-says d false 1 0 (record { same-names = refl }) .same-names in
     rw (clean-names (flow-token-nodes d false 1 0 []) [], s, all-new-first (flow-names d []))
 
 pub names-kept-iff : (d : Flow) → (first-twice [] (flow-placed-nodes d [] 1 0 []) ≡ Nothing) ↔ (differ (flow-names d []) ≡ true)

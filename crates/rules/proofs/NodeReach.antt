@@ -15,7 +15,7 @@ use Rattle.grammar.proofs.Codes.{coded-opening, coded-closing, coded-comma, cod
 use Rattle.rules.specs.TokenNodes.{flowing, copying, reach, extent, solid-of}
 use Rattle.rules.proofs.Trees.{group-code, replicator-code}
 use Rattle.rules.proofs.Around.{group-copies, group-flows, replicator-copies, replicator-flows}
-use Rattle.rules.proofs.NodeTokens.{pars-append, flow-append, child-append, member-append, group-told, replicator-told, all-told, flow-told, children-told, child-told, member-told, members-told}
+use Rattle.rules.proofs.NodeTokens.{pars-append, flow-append, child-append, member-append, group-coded, replicator-coded, all-coded, flow-coded, children-coded, child-coded, member-coded, members-coded}
 
 -- The tokens us come down to ts, with every parenthesis between them ended.
 abbrev Balanced : List Name → List Name → Type 0
@@ -76,14 +76,14 @@ replicator-high one = omega arith
 ref-balanced : (r : Bool) (ts : List Name) → Balanced (ref-tokens r ts) ts
 ref-balanced r ts = pair (bit r ∷ closing ∷ ts) ts (over (bit r) (closing ∷ ts) (closing ∷ ts) (bit-high r) (level (closing ∷ ts)))
 
-pars-balanced : (ps : List Name) → all-told ps → (ts vs : List Name) → Balanced ts vs → Balanced (pars-tokens ps ts) vs
+pars-balanced : (ps : List Name) → all-coded ps → (ts vs : List Name) → Balanced ts vs → Balanced (pars-tokens ps ts) vs
 pars-balanced [] h ts vs f = f
 pars-balanced (p ∷ ps) h ts vs f =
     over comma (p ∷ pars-tokens ps ts) vs comma-high
     (over p (pars-tokens ps ts) vs (omega (arith, h .0)) (pars-balanced ps (h .1) ts vs f))
 
 -- `name,par,..,sw`
-titled : (n : Name) (ps : List Name) (sw : Bool) (ts : List Name) → code n ≡ 6 → all-told ps → Balanced (n ∷ pars-tokens ps (comma ∷ bit sw ∷ closing ∷ ts)) (closing ∷ ts)
+titled : (n : Name) (ps : List Name) (sw : Bool) (ts : List Name) → code n ≡ 6 → all-coded ps → Balanced (n ∷ pars-tokens ps (comma ∷ bit sw ∷ closing ∷ ts)) (closing ∷ ts)
 titled n ps sw ts e h =
     over n (pars-tokens ps (comma ∷ bit sw ∷ closing ∷ ts)) (closing ∷ ts) (omega arith)
     (pars-balanced ps h (comma ∷ bit sw ∷ closing ∷ ts) (closing ∷ ts)
@@ -101,9 +101,9 @@ listed : (us : List Name) (r : Bool) (vs ts : List Name) → Balanced us (ref-to
 listed us r vs ts f g = then us (ref-tokens r vs) ts f (then (ref-tokens r vs) vs ts (ref-balanced r vs) g)
 
 mutual
-  unfolding flow-tokens children-tokens child-tokens member-tokens members-tokens flow-told children-told child-told member-told members-told
+  unfolding flow-tokens children-tokens child-tokens member-tokens members-tokens flow-coded children-coded child-coded member-coded members-coded
 
-  flow-balanced : (f : Flow) → flow-told f → (ts : List Name) → Balanced (flow-tokens f ts) ts
+  flow-balanced : (f : Flow) → flow-coded f → (ts : List Name) → Balanced (flow-tokens f ts) ts
   flow-balanced (flow n ps sw c r cs) h ts =
       let us = children-tokens cs (closing ∷ ts) in
       let vs = opening ∷ child-tokens c (ref-tokens r us) in
@@ -113,13 +113,13 @@ mutual
       (pair (child-tokens c (ref-tokens r us)) ts
       (listed (child-tokens c (ref-tokens r us)) r us (closing ∷ ts) (child-balanced c (h .2) (ref-tokens r us)) (children-balanced cs (h .3) (closing ∷ ts)))))
 
-  children-balanced : (cs : Children) → children-told cs → (ts : List Name) → Balanced (children-tokens cs ts) ts
+  children-balanced : (cs : Children) → children-coded cs → (ts : List Name) → Balanced (children-tokens cs ts) ts
   children-balanced none h ts = level ts
   children-balanced (next c r cs) h ts =
       let us = children-tokens cs ts in
       listed (child-tokens c (ref-tokens r us)) r us ts (child-balanced c (h .0) (ref-tokens r us)) (children-balanced cs (h .1) ts)
 
-  child-balanced : (c : Child) → child-told c → (ts : List Name) → Balanced (child-tokens c ts) ts
+  child-balanced : (c : Child) → child-coded c → (ts : List Name) → Balanced (child-tokens c ts) ts
   child-balanced (plain m) h ts = member-balanced m h ts
   child-balanced (loop m) h ts =
       let us = member-tokens m (closing ∷ ts) in
@@ -128,24 +128,24 @@ mutual
       let us = members-tokens ms (closing ∷ ts) in
       let vs = member-tokens b us in
       let ws = member-tokens a vs in
-      over (group-key y) (opening ∷ ws) ts (omega (arith, group-told y, group-high y))
+      over (group-key y) (opening ∷ ws) ts (omega (arith, group-coded y, group-high y))
       (pair ws ts
       (then ws vs (closing ∷ ts) (member-balanced a (h .0) vs)
       (then vs us (closing ∷ ts) (member-balanced b (h .1) us) (members-balanced ms (h .2) (closing ∷ ts)))))
   child-balanced (replicator y par size m) h ts =
       let us = member-tokens m (closing ∷ ts) in
       let vs = par ∷ colon ∷ digits size ∷ closing ∷ opening ∷ us in
-      over (replicator-key y) (opening ∷ vs) ts (omega (arith, replicator-told y, replicator-high y))
+      over (replicator-key y) (opening ∷ vs) ts (omega (arith, replicator-coded y, replicator-high y))
       (then (opening ∷ vs) (opening ∷ us) ts (pair vs (opening ∷ us) (sized par size (opening ∷ us) (h .0) (h .1)))
       (pair us ts (member-balanced m (h .2) (closing ∷ ts))))
 
-  member-balanced : (m : Member) → member-told m → (ts : List Name) → Balanced (member-tokens m ts) ts
+  member-balanced : (m : Member) → member-coded m → (ts : List Name) → Balanced (member-tokens m ts) ts
   member-balanced (leaf n) h ts =
       over (key 1) (opening ∷ n ∷ closing ∷ ts) ts (omega (arith, coded-key 1 (omega arith) .number))
       (pair (n ∷ closing ∷ ts) ts (over n (closing ∷ ts) (closing ∷ ts) (omega arith) (level (closing ∷ ts))))
   member-balanced (inner f) h ts = flow-balanced f h ts
 
-  members-balanced : (ms : Members) → members-told ms → (ts : List Name) → Balanced (members-tokens ms ts) ts
+  members-balanced : (ms : Members) → members-coded ms → (ts : List Name) → Balanced (members-tokens ms ts) ts
   members-balanced end h ts = level ts
   members-balanced (also m ms) h ts =
       let us = members-tokens ms ts in
@@ -172,8 +172,8 @@ two-pairs t c pre us vs ts k e q f g =
     rw (k, e, after (opening ∷ pre) (opening ∷ us) (opening ∷ vs) (reach 0 (map code (opening ∷ us))) (ap (λ (l : List Name). opening ∷ l) q) h)
     (omega (arith, h, closed vs ts g))
 
-flow-ends : (f : Flow) → flow-told f → (ts : List Name) → Ends (flow-tokens f ts) ts
-unfolding flow-tokens children-tokens flow-told children-told
+flow-ends : (f : Flow) → flow-coded f → (ts : List Name) → Ends (flow-tokens f ts) ts
+unfolding flow-tokens children-tokens flow-coded children-coded
 flow-ends (flow n ps sw c r cs) h ts =
     let us = child-tokens c (ref-tokens r (children-tokens cs (closing ∷ ts))) in
     let front = comma ∷ bit sw ∷ closing ∷ [] in
@@ -181,25 +181,25 @@ flow-ends (flow n ps sw c r cs) h ts =
     (ap (λ (l : List Name). n ∷ l) (pars-append ps front (opening ∷ us))) (titled n ps sw (opening ∷ us) (h .0) (h .1))
     (children-balanced (next c r cs) (h .2, h .3) (closing ∷ ts))
 
-member-ends : (m : Member) → member-told m → (ts : List Name) → Ends (member-tokens m ts) ts
-unfolding member-tokens member-told
+member-ends : (m : Member) → member-coded m → (ts : List Name) → Ends (member-tokens m ts) ts
+unfolding member-tokens member-coded
 member-ends (leaf n) h ts =
     one-pair (key 1) 8 (n ∷ closing ∷ ts) ts (coded-key 1 (omega arith) .number) refl
     (over n (closing ∷ ts) (closing ∷ ts) (omega arith) (level (closing ∷ ts)))
 member-ends (inner f) h ts = flow-ends f h ts
 
-child-ends : (c : Child) → child-told c → (ts : List Name) → Ends (child-tokens c ts) ts
-unfolding child-tokens members-tokens child-told members-told
+child-ends : (c : Child) → child-coded c → (ts : List Name) → Ends (child-tokens c ts) ts
+unfolding child-tokens members-tokens child-coded members-coded
 child-ends (plain m) h ts = member-ends m h ts
 child-ends (loop m) h ts =
     one-pair (key 8) 15 (member-tokens m (closing ∷ ts)) ts (coded-key 8 (omega arith) .number) refl (member-balanced m h (closing ∷ ts))
 child-ends (group y a b ms) h ts =
-    one-pair (group-key y) (group-code y) (members-tokens (also a (also b ms)) (closing ∷ ts)) ts (group-told y) (rw (group-flows y, group-copies y))
+    one-pair (group-key y) (group-code y) (members-tokens (also a (also b ms)) (closing ∷ ts)) ts (group-coded y) (rw (group-flows y, group-copies y))
     (members-balanced (also a (also b ms)) (h .0, (h .1, h .2)) (closing ∷ ts))
 child-ends (replicator y par size m) h ts =
     let us = member-tokens m (closing ∷ ts) in
     let front = par ∷ colon ∷ digits size ∷ closing ∷ [] in
-    two-pairs (replicator-key y) (replicator-code y) front (front ++ (opening ∷ us)) us ts (replicator-told y) (rw (replicator-flows y, replicator-copies y)) refl
+    two-pairs (replicator-key y) (replicator-code y) front (front ++ (opening ∷ us)) us ts (replicator-coded y) (rw (replicator-flows y, replicator-copies y)) refl
     (sized par size (opening ∷ us) (h .0) (h .1)) (member-balanced m (h .2) (closing ∷ ts))
 
 -- What `solid-of` looks for after a node.
@@ -217,11 +217,11 @@ solid-by pre us ts q e =
     ap₂ {C = Bool} (λ (a b : ℕ). eqb a 1 && eqb b 17) (past (map code us) (map code ts) n 0 n d (omega arith))
     (past (map code us) (map code ts) n 1 (suc n) d (omega arith))
 
-pub flow-solid : (f : Flow) → flow-told f → (ts : List Name) → solid-of (map code (flow-tokens f ts)) ≡ follows (map code ts)
+pub flow-solid : (f : Flow) → flow-coded f → (ts : List Name) → solid-of (map code (flow-tokens f ts)) ≡ follows (map code ts)
 flow-solid f h ts = solid-by (flow-tokens f []) (flow-tokens f ts) ts (flow-append f [] ts) (flow-ends f h ts)
 
-pub member-solid : (m : Member) → member-told m → (ts : List Name) → solid-of (map code (member-tokens m ts)) ≡ follows (map code ts)
+pub member-solid : (m : Member) → member-coded m → (ts : List Name) → solid-of (map code (member-tokens m ts)) ≡ follows (map code ts)
 member-solid m h ts = solid-by (member-tokens m []) (member-tokens m ts) ts (member-append m [] ts) (member-ends m h ts)
 
-pub child-solid : (c : Child) → child-told c → (ts : List Name) → solid-of (map code (child-tokens c ts)) ≡ follows (map code ts)
+pub child-solid : (c : Child) → child-coded c → (ts : List Name) → solid-of (map code (child-tokens c ts)) ≡ follows (map code ts)
 child-solid c h ts = solid-by (child-tokens c []) (child-tokens c ts) ts (child-append c [] ts) (child-ends c h ts)

@@ -76,44 +76,44 @@ pub members-long : (ms : Members) → Long (members-tokens ms)
 members-long ms = long (members-tokens ms) (members-append ms)
 
 -- The numbers of the keywords of a way.
-pub group-told : (y : Way) → code (group-key y) ≡ group-code y
-group-told all = coded-key 2 (omega arith) .number
-group-told some = coded-key 3 (omega arith) .number
-group-told one = coded-key 4 (omega arith) .number
+pub group-coded : (y : Way) → code (group-key y) ≡ group-code y
+group-coded all = coded-key 2 (omega arith) .number
+group-coded some = coded-key 3 (omega arith) .number
+group-coded one = coded-key 4 (omega arith) .number
 
-pub replicator-told : (y : Way) → code (replicator-key y) ≡ replicator-code y
-replicator-told all = coded-key 5 (omega arith) .number
-replicator-told some = coded-key 6 (omega arith) .number
-replicator-told one = coded-key 7 (omega arith) .number
+pub replicator-coded : (y : Way) → code (replicator-key y) ≡ replicator-code y
+replicator-coded all = coded-key 5 (omega arith) .number
+replicator-coded some = coded-key 6 (omega arith) .number
+replicator-coded one = coded-key 7 (omega arith) .number
 
 -- The names have the number of names, and the sizes those of numerals.
-abbrev pub all-told : List Name → Type 0
-all-told [] = Unit {0}
-all-told (p ∷ ps) = (code p ≡ 6) × all-told ps
+abbrev pub all-coded : List Name → Type 0
+all-coded [] = Unit {0}
+all-coded (p ∷ ps) = (code p ≡ 6) × all-coded ps
 
 unfoldable mutual
-  pub flow-told : Flow → Type 0
-  flow-told (flow n ps sw c r cs) = (code n ≡ 6) × all-told ps × child-told c × children-told cs
+  pub flow-coded : Flow → Type 0
+  flow-coded (flow n ps sw c r cs) = (code n ≡ 6) × all-coded ps × child-coded c × children-coded cs
 
-  pub children-told : Children → Type 0
-  children-told none = Unit {0}
-  children-told (next c r cs) = child-told c × children-told cs
+  pub children-coded : Children → Type 0
+  children-coded none = Unit {0}
+  children-coded (next c r cs) = child-coded c × children-coded cs
 
-  pub child-told : Child → Type 0
-  child-told (plain m) = member-told m
-  child-told (loop m) = member-told m
-  child-told (group y a b ms) = member-told a × member-told b × members-told ms
-  child-told (replicator y par size m) = (code par ≡ 6) × (code (digits size) ≡ 16 + size) × member-told m
+  pub child-coded : Child → Type 0
+  child-coded (plain m) = member-coded m
+  child-coded (loop m) = member-coded m
+  child-coded (group y a b ms) = member-coded a × member-coded b × members-coded ms
+  child-coded (replicator y par size m) = (code par ≡ 6) × (code (digits size) ≡ 16 + size) × member-coded m
 
-  pub member-told : Member → Type 0
-  member-told (leaf n) = code n ≡ 6
-  member-told (inner f) = flow-told f
+  pub member-coded : Member → Type 0
+  member-coded (leaf n) = code n ≡ 6
+  member-coded (inner f) = flow-coded f
 
-  pub members-told : Members → Type 0
-  members-told end = Unit {0}
-  members-told (also m ms) = member-told m × members-told ms
+  pub members-coded : Members → Type 0
+  members-coded end = Unit {0}
+  members-coded (also m ms) = member-coded m × members-coded ms
 
-all-tell : (ps : List Name) → all-named ps ≡ true → all-told ps
+all-tell : (ps : List Name) → all-named ps ≡ true → all-coded ps
 all-tell [] h = tt
 all-tell (p ∷ ps) h = (coded-name p (and-l (named p) (all-named ps) h) .number, all-tell ps (and-r (named p) (all-named ps) h))
 
@@ -122,9 +122,9 @@ both : (a b : Bool) → (a && b) ≡ true → (a ≡ true) × (b ≡ true)
 both a b h = (and-l a b h, and-r a b h)
 
 mutual
-  unfolding flow-named flow-sized flow-told children-named children-sized children-told child-named child-sized child-told member-named member-sized member-told members-named members-sized members-told
+  unfolding flow-named flow-sized flow-coded children-named children-sized children-coded child-named child-sized child-coded member-named member-sized member-coded members-named members-sized members-coded
 
-  pub flow-tell : (f : Flow) → flow-named f ≡ true → flow-sized f ≡ true → flow-told f
+  pub flow-tell : (f : Flow) → flow-named f ≡ true → flow-sized f ≡ true → flow-coded f
   flow-tell (flow n ps sw c r cs) h g =
       let a = both (named n && all-named ps) (child-named c && children-named cs) h in
       let b = both (named n) (all-named ps) (a .0) in
@@ -132,14 +132,14 @@ mutual
       let s = both (child-sized c) (children-sized cs) g in
       (coded-name n (b .0) .number, all-tell ps (b .1), child-tell c (d .0) (s .0), children-tell cs (d .1) (s .1))
 
-  children-tell : (cs : Children) → children-named cs ≡ true → children-sized cs ≡ true → children-told cs
+  children-tell : (cs : Children) → children-named cs ≡ true → children-sized cs ≡ true → children-coded cs
   children-tell none h g = tt
   children-tell (next c r cs) h g =
       let a = both (child-named c) (children-named cs) h in
       let s = both (child-sized c) (children-sized cs) g in
       (child-tell c (a .0) (s .0), children-tell cs (a .1) (s .1))
 
-  child-tell : (c : Child) → child-named c ≡ true → child-sized c ≡ true → child-told c
+  child-tell : (c : Child) → child-named c ≡ true → child-sized c ≡ true → child-coded c
   child-tell (plain m) h g = member-tell m h g
   child-tell (loop m) h g = member-tell m h g
   child-tell (group y a b ms) h g =
@@ -156,11 +156,11 @@ mutual
         member-tell m (p .1) (s .1),
       )
 
-  member-tell : (m : Member) → member-named m ≡ true → member-sized m ≡ true → member-told m
+  member-tell : (m : Member) → member-named m ≡ true → member-sized m ≡ true → member-coded m
   member-tell (leaf n) h g = coded-name n h .number
   member-tell (inner f) h g = flow-tell f h g
 
-  members-tell : (ms : Members) → members-named ms ≡ true → members-sized ms ≡ true → members-told ms
+  members-tell : (ms : Members) → members-named ms ≡ true → members-sized ms ≡ true → members-coded ms
   members-tell end h g = tt
   members-tell (also m ms) h g =
       let a = both (member-named m) (members-named ms) h in

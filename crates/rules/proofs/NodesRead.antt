@@ -17,7 +17,7 @@ use Rattle.grammar.proofs.Codes.{coded-opening, coded-closing, coded-comma, cod
 use Rattle.grammar.proofs.LimitedFrom.{numeral-unkeyed}
 use Rattle.rules.specs.TokenNodes.{TokenNode, flowing, leafy, copying, solid-of, par-count, strong-of, pars-back, token-node, token-nodes}
 use Rattle.rules.proofs.Trees.{group-code, replicator-code, simple, flow-token-nodes, children-token-nodes, child-token-nodes, member-token-nodes, members-token-nodes}
-use Rattle.rules.proofs.NodeTokens.{pars-append, child-append, member-append, pars-long, children-long, child-long, member-long, members-long, group-told, replicator-told, all-told, flow-told, children-told, child-told, member-told, members-told, flow-tell}
+use Rattle.rules.proofs.NodeTokens.{pars-append, child-append, member-append, pars-long, children-long, child-long, member-long, members-long, group-coded, replicator-coded, all-coded, flow-coded, children-coded, child-coded, member-coded, members-coded, flow-tell}
 use Rattle.rules.proofs.NodeReach.{follows, flow-solid, member-solid, child-solid}
 
 -- The name function gives the bytes of each token that is a name, of those of which the first has the number k.
@@ -64,23 +64,23 @@ members-follows end ts h = h
 members-follows (also m ms) ts h = member-follows m (members-tokens ms ts)
 
 -- The pars of a flow are counted, and the number after them is its sw.
-pars-counted : (ps : List Name) (sw : Bool) (ts : List Name) → all-told ps → par-count (map code (pars-tokens ps (comma ∷ bit sw ∷ ts))) ≡ length ps
+pars-counted : (ps : List Name) (sw : Bool) (ts : List Name) → all-coded ps → par-count (map code (pars-tokens ps (comma ∷ bit sw ∷ ts))) ≡ length ps
 unfolding par-count
 pars-counted [] sw ts h = rw (coded-bit sw .number, ne-eqb (16 + bit-value sw) 6 (λ e. omega arith))
 pars-counted (p ∷ ps) sw ts h = rw (h .0) (ap suc (pars-counted ps sw ts (h .1)))
 
-bit-told : (sw : Bool) → eqb (code (bit sw)) 17 ≡ sw
-bit-told false = rw (coded-bit false .number) refl
-bit-told true = rw (coded-bit true .number) refl
+bit-coded : (sw : Bool) → eqb (code (bit sw)) 17 ≡ sw
+bit-coded false = rw (coded-bit false .number) refl
+bit-coded true = rw (coded-bit true .number) refl
 
 -- The number that stands after the pars.
-last-told : (ps : List Name) (sw : Bool) (ts : List Name) (j : ℕ) → j ≡ length ps + length ps + 1 → getD (map code (pars-tokens ps (comma ∷ bit sw ∷ ts))) j 0 ≡ code (bit sw)
-last-told [] sw ts j e = rw e refl
-last-told (p ∷ ps) sw ts j e = let q : j ≡ suc (suc (length ps + length ps + 1)) = omega arith in rw q (last-told ps sw ts (length ps + length ps + 1) refl)
+last-coded : (ps : List Name) (sw : Bool) (ts : List Name) (j : ℕ) → j ≡ length ps + length ps + 1 → getD (map code (pars-tokens ps (comma ∷ bit sw ∷ ts))) j 0 ≡ code (bit sw)
+last-coded [] sw ts j e = rw e refl
+last-coded (p ∷ ps) sw ts j e = let q : j ≡ suc (suc (length ps + length ps + 1)) = omega arith in rw q (last-coded ps sw ts (length ps + length ps + 1) refl)
 
-strong-told : (ps : List Name) (sw : Bool) (ts : List Name) → all-told ps → strong-of (map code (pars-tokens ps (comma ∷ bit sw ∷ ts))) ≡ sw
+strong-coded : (ps : List Name) (sw : Bool) (ts : List Name) → all-coded ps → strong-of (map code (pars-tokens ps (comma ∷ bit sw ∷ ts))) ≡ sw
 unfolding strong-of
-strong-told ps sw ts h = rw (pars-counted ps sw ts h, last-told ps sw ts (length ps + length ps + 1) refl) (bit-told sw)
+strong-coded ps sw ts h = rw (pars-counted ps sw ts h, last-coded ps sw ts (length ps + length ps + 1) refl) (bit-coded sw)
 
 module _ (nm : ℕ → Name) where
   -- Agreement on what stands after the tokens xs.
@@ -93,7 +93,7 @@ module _ (nm : ℕ → Name) where
   pars-more k zero = ap (λ (j : ℕ). nm j ∷ []) (omega arith)
   pars-more k (suc m) = ap₂ {C = List Name} (λ (j : ℕ) (l : List Name). nm j ∷ l) (omega arith) (pars-more k m)
 
-  pars-read : (ps ts : List Name) (k m : ℕ) → m ≡ k + 1 → all-told ps → Agrees nm k (pars-tokens ps ts) → pars-back nm m (length ps) ≡ reverse ps
+  pars-read : (ps ts : List Name) (k m : ℕ) → m ≡ k + 1 → all-coded ps → Agrees nm k (pars-tokens ps ts) → pars-back nm m (length ps) ≡ reverse ps
   pars-read [] ts k m e h a = refl
   pars-read (p ∷ ps) ts k m e h a =
       pars-more m (length ps)
@@ -136,7 +136,7 @@ module _ (nm : ℕ → Name) where
   ref-read : (p k m : ℕ) (r : Bool) (ts : List Name) → m ≡ k + 3 → token-nodes nm p k (map code (ref-tokens r ts)) ≡ token-nodes nm p m (map code ts)
   ref-read p k m r ts e = open-read p k (suc k) (bit r ∷ closing ∷ ts) refl ∙ bit-read p (suc k) m r ts (omega arith)
 
-  pars-over : (p k m : ℕ) (ps ts : List Name) → all-told ps → m ≡ k + 2 * length ps → token-nodes nm p k (map code (pars-tokens ps ts)) ≡ token-nodes nm p m (map code ts)
+  pars-over : (p k m : ℕ) (ps ts : List Name) → all-coded ps → m ≡ k + 2 * length ps → token-nodes nm p k (map code (pars-tokens ps ts)) ≡ token-nodes nm p m (map code ts)
   pars-over p k m [] ts h e = moved p (map code ts) (omega arith)
   pars-over p k m (q ∷ ps) ts h e =
       over-read p k 3 comma (q ∷ pars-tokens ps ts) (coded-comma .number) refl (omega arith) ∙ over-read p (suc k) 6 q (pars-tokens ps ts) (h .0) refl (omega arith) ∙ pars-over p (suc (suc k)) m ps ts (h .1) (omega arith)
@@ -193,7 +193,7 @@ module _ (nm : ℕ → Name) where
       (ap (λ (l : List Name). key 0 ∷ opening ∷ n ∷ l) (pars-append ps front us)) (omega (arith, pars-long ps front))
 
   -- A flow up to its first child.
-  flow-front : (p k : ℕ) (n : Name) (ps : List Name) (sw : Bool) (us : List Name) (b : Bool) → code n ≡ 6 → all-told ps
+  flow-front : (p k : ℕ) (n : Name) (ps : List Name) (sw : Bool) (us : List Name) (b : Bool) → code n ≡ 6 → all-coded ps
       → Agrees nm k (key 0 ∷ opening ∷ n ∷ pars-tokens ps (comma ∷ bit sw ∷ closing ∷ opening ∷ us))
       → solid-of (map code (key 0 ∷ opening ∷ n ∷ pars-tokens ps (comma ∷ bit sw ∷ closing ∷ opening ∷ us))) ≡ b
       → token-nodes nm p k (map code (key 0 ∷ opening ∷ n ∷ pars-tokens ps (comma ∷ bit sw ∷ closing ∷ opening ∷ us)))
@@ -207,7 +207,7 @@ module _ (nm : ℕ → Name) where
       (on k (key 0 ∷ opening ∷ n ∷ []) vs (key 0 ∷ opening ∷ n ∷ vs) (k + 3) refl refl a)) in
       let c = coded-key 0 (omega arith) .number in
       node-read p k 7 (k + 2) (key 0) (n ∷ vs) (flow-node k (suc p) n (reverse ps) sw b) c refl
-      (flow-token-node (suc p) k (key 0) n (reverse ps) sw vs b c (a 2 e) q (strong-told ps sw (closing ∷ opening ∷ us) h) s) refl
+      (flow-token-node (suc p) k (key 0) n (reverse ps) sw vs b c (a 2 e) q (strong-coded ps sw (closing ∷ opening ∷ us) h) s) refl
       ∙ ap (λ (l : List TokenNode). flow-node k (suc p) n (reverse ps) sw b ∷ l)
       (over-read (suc p) (k + 2) 6 n vs e refl (omega arith)
       ∙ pars-over (suc p) (suc (k + 2)) (k + 3 + 2 * length ps) ps (comma ∷ bit sw ∷ closing ∷ opening ∷ us) h (omega arith)
@@ -224,9 +224,9 @@ module _ (nm : ℕ → Name) where
       ∷ token-nodes nm (suc p) (k + 7) (map code us)
   replicator-front p k size y par us b e g a s =
       let h : TokenNode = copy-node k (suc p) (replicator-code y) par size b in
-      node-read p k (replicator-code y) (k + 2) (replicator-key y) (par ∷ colon ∷ digits size ∷ closing ∷ opening ∷ us) h (replicator-told y)
+      node-read p k (replicator-code y) (k + 2) (replicator-key y) (par ∷ colon ∷ digits size ∷ closing ∷ opening ∷ us) h (replicator-coded y)
       (replicator-builds y .0)
-      (replicator-token-node (suc p) k (replicator-code y) size (replicator-key y) par par colon (digits size) (closing ∷ opening ∷ us) b (replicator-told y)
+      (replicator-token-node (suc p) k (replicator-code y) size (replicator-key y) par par colon (digits size) (closing ∷ opening ∷ us) b (replicator-coded y)
       (replicator-builds y) g a s) refl
       ∙ ap (λ (l : List TokenNode). h ∷ l)
       (over-read (suc p) (k + 2) 6 par (colon ∷ digits size ∷ closing ∷ opening ∷ us) e refl (omega arith)
@@ -237,9 +237,9 @@ module _ (nm : ℕ → Name) where
 
   mutual
     -- The nodes of a part's tokens, and then those of ts: these are the part's own nodes, and then those of ts.
-    unfolding flow-tokens children-tokens child-tokens member-tokens members-tokens flow-told children-told child-told member-told members-told flow-token-nodes children-token-nodes child-token-nodes member-token-nodes members-token-nodes
+    unfolding flow-tokens children-tokens child-tokens member-tokens members-tokens flow-coded children-coded child-coded member-coded members-coded flow-token-nodes children-token-nodes child-token-nodes member-token-nodes members-token-nodes
 
-    flow-read : (f : Flow) (b : Bool) (p k : ℕ) (ts : List Name) → flow-told f → Agrees nm k (flow-tokens f ts) → follows (map code ts) ≡ b
+    flow-read : (f : Flow) (b : Bool) (p k : ℕ) (ts : List Name) → flow-coded f → Agrees nm k (flow-tokens f ts) → follows (map code ts) ≡ b
         → token-nodes nm p k (map code (flow-tokens f ts)) ≡ flow-token-nodes f b (suc p) k (token-nodes nm p (k + length (flow-tokens f [])) (map code ts))
     flow-read (flow n ps sw c r cs) b p k ts h a s =
         let us = children-tokens cs (closing ∷ ts) in
@@ -261,7 +261,7 @@ module _ (nm : ℕ → Name) where
           children-long cs (closing ∷ []),
         )))))
 
-    children-read : (cs : Children) (p k : ℕ) (ts : List Name) → children-told cs → Agrees nm k (children-tokens cs ts)
+    children-read : (cs : Children) (p k : ℕ) (ts : List Name) → children-coded cs → Agrees nm k (children-tokens cs ts)
         → token-nodes nm p k (map code (children-tokens cs ts)) ≡ children-token-nodes cs (suc p) k (token-nodes nm p (k + length (children-tokens cs [])) (map code ts))
     children-read none p k ts h a = moved p (map code ts) (omega arith)
     children-read (next c r cs) p k ts h a =
@@ -273,7 +273,7 @@ module _ (nm : ℕ → Name) where
         ∙ children-read cs p i ts (h .1) (list-on k c r us a)
         ∙ ap (children-token-nodes cs (suc p) i) (moved p (map code ts) (omega (arith, child-long c (ref-tokens r (children-tokens cs []))))))
 
-    child-read : (c : Child) (b : Bool) (p k : ℕ) (ts : List Name) → child-told c → Agrees nm k (child-tokens c ts) → follows (map code ts) ≡ b
+    child-read : (c : Child) (b : Bool) (p k : ℕ) (ts : List Name) → child-coded c → Agrees nm k (child-tokens c ts) → follows (map code ts) ≡ b
         → token-nodes nm p k (map code (child-tokens c ts)) ≡ child-token-nodes c b (suc p) k (token-nodes nm p (k + length (child-tokens c [])) (map code ts))
     child-read (plain m) b p k ts h a s = member-read m b p k ts h a s
     child-read (loop m) b p k ts h a s =
@@ -293,8 +293,8 @@ module _ (nm : ℕ → Name) where
         let j = i + length (member-tokens f []) in
         let x = on k (group-key y ∷ opening ∷ []) ws (group-key y ∷ opening ∷ ws) (k + 2) refl refl a in
         let z = member-on (k + 2) e vs x in
-        node-read p k (group-code y) (k + 2) (group-key y) ws (simple k (suc p) (group-code y) [] b) (group-told y) (group-builds y .0)
-        (bare-token-node (suc p) k (group-code y) (group-key y) (opening ∷ ws) b (group-told y) (group-builds y) (child-solid (group y e f ms) h ts ∙ s)) refl
+        node-read p k (group-code y) (k + 2) (group-key y) ws (simple k (suc p) (group-code y) [] b) (group-coded y) (group-builds y .0)
+        (bare-token-node (suc p) k (group-code y) (group-key y) (opening ∷ ws) b (group-coded y) (group-builds y) (child-solid (group y e f ms) h ts ∙ s)) refl
         ∙ ap (λ (l : List TokenNode). simple k (suc p) (group-code y) [] b ∷ l)
         (member-read e false (suc p) (k + 2) vs (h .0) x (member-follows f us)
         ∙ ap (member-token-nodes e false (suc (suc p)) (k + 2))
@@ -320,7 +320,7 @@ module _ (nm : ℕ → Name) where
         (close-read p (k + 7 + length (member-tokens m [])) (k + length (child-tokens (replicator y par size m) [])) ts
         (omega (arith, member-long m (closing ∷ [])))))
 
-    member-read : (m : Member) (b : Bool) (p k : ℕ) (ts : List Name) → member-told m → Agrees nm k (member-tokens m ts) → follows (map code ts) ≡ b
+    member-read : (m : Member) (b : Bool) (p k : ℕ) (ts : List Name) → member-coded m → Agrees nm k (member-tokens m ts) → follows (map code ts) ≡ b
         → token-nodes nm p k (map code (member-tokens m ts)) ≡ member-token-nodes m b (suc p) k (token-nodes nm p (k + length (member-tokens m [])) (map code ts))
     member-read (leaf n) b p k ts h a s =
         let c = coded-key 1 (omega arith) .number in
@@ -330,7 +330,7 @@ module _ (nm : ℕ → Name) where
         (over-read (suc p) (k + 2) 6 n (closing ∷ ts) h refl (omega arith) ∙ close-read p (suc (k + 2)) (k + 4) ts (omega arith))
     member-read (inner f) b p k ts h a s = flow-read f b p k ts h a s
 
-    members-read : (ms : Members) (p k : ℕ) (ts : List Name) → members-told ms → Agrees nm k (members-tokens ms ts) → follows (map code ts) ≡ false
+    members-read : (ms : Members) (p k : ℕ) (ts : List Name) → members-coded ms → Agrees nm k (members-tokens ms ts) → follows (map code ts) ≡ false
         → token-nodes nm p k (map code (members-tokens ms ts)) ≡ members-token-nodes ms (suc p) k (token-nodes nm p (k + length (members-tokens ms [])) (map code ts))
     members-read end p k ts h a s = moved p (map code ts) (omega arith)
     members-read (also m ms) p k ts h a s =

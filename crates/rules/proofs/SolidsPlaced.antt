@@ -72,13 +72,13 @@ ends d (h ∷ hs) e = rw e
 
 -- From `hs` on the solid children are those of `gs`.
 record Same (d : ℕ) (hs gs : List TokenNode) : Type 0 where
-  told : solids d hs ≡ solids d gs
+  same-solids : solids d hs ≡ solids d gs
 
 same-here : (d : ℕ) (hs : List TokenNode) → Same d hs hs
-same-here d hs = record { told = refl }
+same-here d hs = record { same-solids = refl }
 
 same-past : (d : ℕ) (h : TokenNode) {hs gs : List TokenNode} → suc d < h .depth → Same d hs gs → Same d (h ∷ hs) gs
-same-past d h {hs} l s = record { told = past d h hs l ∙ s .told }
+same-past d h {hs} l s = record { same-solids = past d h hs l ∙ s .same-solids }
 
 mutual
   unfolding flow-token-nodes
@@ -112,7 +112,7 @@ mutual
 
 meets-first : (d : ℕ) (h : TokenNode) (hs gs : List TokenNode) → h .depth ≡ suc d → Same d hs gs
     → solids d (h ∷ hs) ≡ cond (h .solid) (h .code ∷ solids d gs) (solids d gs)
-meets-first d h hs gs e s = rw (← s .told) (meets d h hs e)
+meets-first d h hs gs e s = rw (← s .same-solids) (meets d h hs e)
 
 child-solids : (c : Child) (b : Bool) (d k : ℕ) (hs : List TokenNode)
     → solids d (child-token-nodes c b (suc d) k hs) ≡ cond b (child-code c ∷ solids d hs) (solids d hs)

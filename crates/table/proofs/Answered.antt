@@ -21,7 +21,7 @@ use Rattle.layout.proofs.Events.{sound-guard}
 use Rattle.table.specs.Steps.{check-of, admit-of, taken, refused, taken-or-not, step-of, finished-of, offered, offer-of, offer-left}
 use Rattle.table.specs.declared.Answer.{Answer}
 use Rattle.table.specs.declared.Answer.the-variants.{Done, Refused}
-use Rattle.table.specs.declared.Finish.the-variants.{No, Yes, Refused as Unasked}
+use Rattle.table.specs.declared.Finish.the-variants.{No, Yes, Refused as FinishRefused}
 
 -- A refusal is not done.
 pub not-done : (number place : ℕ) → Refused number place ≡ Done → ⊥
@@ -85,7 +85,7 @@ module _ (t : List ℕ) (before : Record) (e : ℕ) where
 
 module _ (t : List ℕ) (before : Record) where
   pub finished-passed : (a : Answer) (number place : ℕ) → a ≡ Refused number place → a ≡ admit-of t (before .bits)
-      → Unasked number place ≡ finished-of t before
+      → FinishRefused number place ≡ finished-of t before
   unfolding finished-of
   finished-passed a number place p q = rw (← q, p)
 

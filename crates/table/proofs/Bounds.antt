@@ -19,7 +19,7 @@ use Rattle.table.specs.Bounds.{Answers, Check-answer, is-sound, not-soun
 use Rattle.table.specs.Reports.{report, finish-report}
 use Rattle.table.specs.declared.Answer.{Answer}
 use Rattle.table.specs.declared.Finish.{Finish}
-use Rattle.table.specs.declared.Finish.the-variants.{No, Yes, Refused as Unasked}
+use Rattle.table.specs.declared.Finish.the-variants.{No, Yes, Refused as FinishRefused}
 use Rattle.table.specs.declared.Answer.the-variants.{Done, Refused}
 use Rattle.table.specs.declared.Stepped.{Stepped}
 use Rattle.table.proofs.Answered.{checked, admit-12, admit-13, admit-done, step-passed, step-14, step-15, step-done, finished-passed, finished-as, offer-1, offer-passed, offer-ready}
@@ -41,8 +41,8 @@ first-look t bits f g =
 abbrev number : Report → ℕ
 number r = r .number
 
-abbrev told : Stepped → Report
-told s = report (s .answer)
+abbrev step-report : Stepped → Report
+step-report s = report (s .answer)
 
 abbrev after : Stepped → Record
 after s = s .after
@@ -55,8 +55,8 @@ step-answered t before e =
     (λ b. let h = ltb-true e (events t) b in
     by-cases (allows t (values-of t (before .bits)) e)
     (λ y. event-taken (sym (step-done t before e d h _ _ _ y refl refl refl)) record { ready = r; below = h; allowed = y })
-    (λ y. let q = sym (step-15 t before e d h y) in guard-says-no (ap told q) (ap after q) r h y))
-    (λ b. let h = ltb-false e (events t) b in let q = sym (step-14 t before e d h) in past-events (ap told q) (ap after q) r h))
+    (λ y. let q = sym (step-15 t before e d h y) in guard-says-no (ap step-report q) (ap after q) r h y))
+    (λ b. let h = ltb-false e (events t) b in let q = sym (step-14 t before e d h) in past-events (ap step-report q) (ap after q) r h))
     (λ n q a. let p = sym (step-passed t before e (Refused n 0) n 0 refl (sym q)) in step-not-ready (rw p a) (ap after p))
 
 pub finished-answered : (t : List ℕ) (before : Record) → Finish-answer t before (finished-of t before)
@@ -83,10 +83,10 @@ pub refused-as : (n : ℕ) → 1 ≤ n → (a : Answer) → report a ≡ refusal
 refused-as n h Done q = absurd (omega (arith, ap number q))
 refused-as n h (Refused m place) q = ap₂ Refused (ap number q) (ap (λ (r : Report). r .place) q)
 
-unasked-as : (n : ℕ) → 1 ≤ n → n < 255 → (f : Finish) → finish-report f ≡ refusal n 0 → f ≡ Unasked n 0
-unasked-as n h l No q = absurd (omega (arith, ap number q))
-unasked-as n h l Yes q = absurd (omega (arith, ap number q))
-unasked-as n h l (Unasked m place) q = ap₂ Unasked (ap number q) (ap (λ (r : Report). r .place) q)
+finish-refused-as : (n : ℕ) → 1 ≤ n → n < 255 → (f : Finish) → finish-report f ≡ refusal n 0 → f ≡ FinishRefused n 0
+finish-refused-as n h l No q = absurd (omega (arith, ap number q))
+finish-refused-as n h l Yes q = absurd (omega (arith, ap number q))
+finish-refused-as n h l (FinishRefused m place) q = ap₂ FinishRefused (ap number q) (ap (λ (r : Report). r .place) q)
 
 pub refused-step : (before : Record) (s : Stepped) (n : ℕ) → 1 ≤ n → report (s .answer) ≡ refusal n 0 → s .after ≡ before → s ≡ refused before (Refused n 0)
 refused-step before s n h q kept = rw (← kept, ← (refused-as n h (s .answer) q))
@@ -115,9 +115,9 @@ pub only-finish : (t : List ℕ) (before : Record) (f : Finish) → Finish-answe
 only-finish t before f (run-finished q k) = q ∙ finished-as t before true (ready-admitted t (before .bits) (k .ready)) (k .says-so)
 only-finish t before f (run-open q r y) = q ∙ finished-as t before false (ready-admitted t (before .bits) r) y
 only-finish t before f (finished-not-ready (unsound q y)) =
-    unasked-as 12 (lit≤ tt) (lit< tt) f q ∙ finished-passed t before (Refused 12 0) 12 0 refl (admit-12 t (before .bits) y)
+    finish-refused-as 12 (lit≤ tt) (lit< tt) f q ∙ finished-passed t before (Refused 12 0) 12 0 refl (admit-12 t (before .bits) y)
 only-finish t before f (finished-not-ready (bit-past q y p)) =
-    unasked-as 13 (lit≤ tt) (lit< tt) f q ∙ finished-passed t before (Refused 13 0) 13 0 refl (admit-13 t (before .bits) y p)
+    finish-refused-as 13 (lit≤ tt) (lit< tt) f q ∙ finished-passed t before (Refused 13 0) 13 0 refl (admit-13 t (before .bits) y p)
 
 pub only-offer : (t : List ℕ) (before : Record) (lent : List ℕ) (a : Answer) (left : List ℕ) → Offer-answer t before lent a left
     → (a ≡ offer-of t before lent) × (left ≡ offer-left t before lent (offer-of t before lent))

@@ -169,9 +169,9 @@ abbrev pub offer-leaves : List ℕ → Record → List ℕ → List ℕ
 offer-leaves t before lent = offer-left t before lent (offer-of t before lent)
 
 module _ (t : List ℕ) (before : Record) (lent : List ℕ) where
-  offer-told : offer-of t before lent ≡ Done → (64 ≤ length lent) × (admit-of t (before .bits) ≡ Done)
+  offer-done : offer-of t before lent ≡ Done → (64 ≤ length lent) × (admit-of t (before .bits) ≡ Done)
   unfolding offer-of
-  offer-told d =
+  offer-done d =
       by-cases (ltb (length lent) 64) (λ l. absurd (not-done 1 0 (offer-1 t before lent (ltb-true _ _ l) .0 ∙ d)))
       (λ l. (ltb-false _ _ l, rw l at d))
 
@@ -179,16 +179,16 @@ module _ (t : List ℕ) (before : Record) (lent : List ℕ) where
       → bit-at (words-of (offer-leaves t before lent)) e ≡ (ltb e (events t) && allows t (values-of t (before .bits)) e)
   its-bit d e h =
       let o = offered-words t (values-of t (before .bits)) (events t) in
-      let s = sound-shaped t (admitted t (before .bits) (offer-told d .1) .its-table) in
+      let s = sound-shaped t (admitted t (before .bits) (offer-done d .1) .its-table) in
       ap (λ (a : Answer). bit-at (words-of (offer-left t before lent a)) e) d
-      ∙ ap (λ (ws : List ℕ). bit-at ws e) (words-back (offered t (values-of t (before .bits)) (events t)) lent o (offer-told d .0))
+      ∙ ap (λ (ws : List ℕ). bit-at ws e) (words-back (offered t (values-of t (before .bits)) (events t)) lent o (offer-done d .0))
       ∙ offered-bit t (values-of t (before .bits)) (events t) e (s .events-most) h
 
   -- Its bit e is exactly whether a step with e would be done.
   pub offer-exactly : offer-of t before lent ≡ Done → (e : ℕ) → e < 512
       → (bit-at (words-of (offer-leaves t before lent)) e ≡ true) ↔ (step-of t before e .answer ≡ Done)
   offer-exactly d e h =
-      let a = admitted t (before .bits) (offer-told d .1) in (
+      let a = admitted t (before .bits) (offer-done d .1) in (
         λ b. let y = sym (its-bit d e h) ∙ b in
             done-exactly t before e .1
             (record {

@@ -7,8 +7,8 @@ use Rattle.base.specs.Packed.{field}
 use Rattle.layout.specs.Sound.{sized, event-sound, row-sound, events-sound, rows-sound, sound}
 use Rattle.layout.specs.Values.{says, row-values}
 use Rattle.table.specs.Steps.{check-of, admit-of, taken, taken-or-not, step-of, finished-of, offered, offer-of}
-use Rattle.table.specs.Worked.{lines, Each, does, told}
+use Rattle.table.specs.Worked.{lines, Each, does, numbered}
 
-pub lines-hold : Each does told lines
+pub lines-hold : Each does numbered lines
 unfolding fill bit-at change clear-bits clear-between field bytes-to sized event-sound row-sound events-sound rows-sound sound says row-values check-of admit-of taken taken-or-not step-of finished-of offered offer-of
 lines-hold = refl

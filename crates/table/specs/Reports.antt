@@ -4,7 +4,7 @@ use Rattle.base.specs.Reports.{Report, result, refusal}
 use Rattle.table.specs.declared.Answer.{Answer}
 use Rattle.table.specs.declared.Answer.the-variants.{Done, Refused}
 use Rattle.table.specs.declared.Finish.{Finish}
-use Rattle.table.specs.declared.Finish.the-variants.{No, Yes, Refused as Unasked}
+use Rattle.table.specs.declared.Finish.the-variants.{No, Yes, Refused as FinishRefused}
 
 abbrev pub report : Answer → Report
 report Done = result []
@@ -13,4 +13,4 @@ report (Refused number place) = refusal number place
 abbrev pub finish-report : Finish → Report
 finish-report No = result []
 finish-report Yes = record { number = 255; place = 0; values = [] }
-finish-report (Unasked number place) = refusal number place
+finish-report (FinishRefused number place) = refusal number place

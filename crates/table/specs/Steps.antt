@@ -14,7 +14,7 @@ use Rattle.layout.specs.Values.{values-of, allows, ended}
 use Rattle.table.specs.declared.Answer.{Answer}
 use Rattle.table.specs.declared.Answer.the-variants.{Done, Refused}
 use Rattle.table.specs.declared.Finish.{Finish}
-use Rattle.table.specs.declared.Finish.the-variants.{No, Yes, Refused as Unasked}
+use Rattle.table.specs.declared.Finish.the-variants.{No, Yes, Refused as FinishRefused}
 use Rattle.table.specs.declared.Stepped.{Stepped}
 
 -- Number 12, "unsound table".
@@ -52,7 +52,7 @@ step-of t before e = step-admitted t before e (admit-of t (before .bits))
 -- The same for the question whether a run is finished.
 abbrev pub finished-admitted : List ℕ → Record → Answer → Finish
 finished-admitted t before Done = cond (ended t (values-of t (before .bits))) Yes No
-finished-admitted t before (Refused number place) = Unasked number place
+finished-admitted t before (Refused number place) = FinishRefused number place
 
 -- Whether a run is finished.
 unfoldable pub finished-of : List ℕ → Record → Finish

@@ -126,7 +126,7 @@ shown answer left = record { answer = answer; left = left }
 
 -- Every line holds, of what the calls do and what stands for a number.
 abbrev pub Each : {A C : Type 0} → (List ℕ → C → Shown A) → (ℕ → A) → List (Line C) → Type 0
-Each {C = C} does told ls = map (λ (l : Line C). does (l .table) (l .call)) ls ≡ map (λ (l : Line C). shown (told (l .number)) (l .left)) ls
+Each {C = C} does numbered ls = map (λ (l : Line C). does (l .table) (l .call)) ls ≡ map (λ (l : Line C). shown (numbered (l .number)) (l .left)) ls
 
 abbrev stepped : Stepped → Shown Report
 stepped s = shown (report (s .answer)) (s .after .bits)
@@ -141,5 +141,5 @@ does t (finished before) = shown (finish-report (finished-of t before)) []
 does t (offer before lent) = offered t before lent (offer-of t before lent)
 
 -- A number with place 0, and no values.
-abbrev pub told : ℕ → Report
-told number = record { number = number; place = 0; values = [] }
+abbrev pub numbered : ℕ → Report
+numbered number = record { number = number; place = 0; values = [] }

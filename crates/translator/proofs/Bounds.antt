@@ -40,8 +40,8 @@ report-once (Refused c p) (Refused b q) e =
     cc
 
 -- An answer that reports so many bytes.
-told-bytes : (r : Translated) (n : ℕ) → report r ≡ result (n ∷ []) → r ≡ Bytes n
-told-bytes r n e = report-once r (Bytes n) e
+bytes-reported : (r : Translated) (n : ℕ) → report r ≡ result (n ∷ []) → r ≡ Bytes n
+bytes-reported r n e = report-once r (Bytes n) e
 
 -- No refusal has bytes.
 bytes-refused : {n number place : ℕ} → report (Bytes n) ≡ report (Refused number place) → ⊥
@@ -151,7 +151,7 @@ module _ (text lent : List ℕ) (r : Translated) (left : List ℕ) where
   translate-room (short h e q) n t = absurd (bytes-refused (sym (ap report t) ∙ e))
   translate-room (refused number place h u e q) n t = absurd (bytes-refused (sym (ap report t) ∙ e))
   translate-room (done d count h a e w) n t =
-      let same : Bytes n ≡ Bytes count = sym t ∙ told-bytes r count e in
+      let same : Bytes n ≡ Bytes count = sym t ∙ bytes-reported r count e in
       let x : n ≡ count = cc in
       let l : n ≤ length left = omega (arith, x, w .its-count, w .fits, stays d lent count left w) in
       (l, sym (length-take-le n left l))
@@ -162,7 +162,7 @@ module _ (text lent : List ℕ) (r : Translated) (left : List ℕ) where
   accepted-translated (short h e q) d a long = absurd (omega arith)
   accepted-translated (refused number place h t e q) d a long = absurd (never-both text d number place a t)
   accepted-translated (done f count h b e w) d a long =
-      (count, told-bytes r count e, subst (λ tree. Table-of tree (take count left)) (accepted-once text f d b a) (rw (front-is f lent count left w) (w .its-table)))
+      (count, bytes-reported r count e, subst (λ tree. Table-of tree (take count left)) (accepted-once text f d b a) (rw (front-is f lent count left w) (w .its-table)))
 
 -- ---- one answer
 -- What a text that is read or turned away gets, where the buffer is long enough: an answer, and bytes over the front of what was lent.
@@ -184,7 +184,7 @@ module _ (text lent : List ℕ) (r : Translated) (left : List ℕ) where
       (report-once r (Refused n p) (e ∙ rw (s .0, s .1)), q ∙ sym (fill-none lent))
   by-fate (taken d a) (done f count h b e w) long =
       let s = accepted-once text f d b a in (
-        told-bytes r (length (table-of d)) (e ∙ ap (λ (n : ℕ). result (n ∷ [])) (w .its-count ∙ ap (λ (x : Flow). length (table-of x)) s)),
+        bytes-reported r (length (table-of d)) (e ∙ ap (λ (n : ℕ). result (n ∷ [])) (w .its-count ∙ ap (λ (x : Flow). length (table-of x)) s)),
         w .its-left ∙ ap (λ (x : Flow). fill lent (table-of x)) s,
       )
   by-fate (refused-at n p t) (done f count h b e w) long = absurd (never-both text f n p b t)

@@ -22,9 +22,9 @@ use Rattle.translator.specs.declared.Translated.the-variants.{Bytes}
 use Rattle.translator.proofs.Tables.{codes, count-is, count-fits, numbers-are, plan-written}
 
 module _ (text : List ℕ) (o : ReadResult) (read : o ≡ read-of text) where
-  module _ (told : o .answer ≡ Done) where
+  module _ (is-done : o .answer ≡ Done) where
     its-tree : (d : Flow) × Accepted text d
-    its-tree = accepted-exactly text .0 (sym (ap (λ (x : ReadResult). x .answer) read) ∙ told)
+    its-tree = accepted-exactly text .0 (sym (ap (λ (x : ReadResult). x .answer) read) ∙ is-done)
 
     its-shown : Shows text (its-tree .0) (o .diagram)
     its-shown = subst (λ (x : ReadResult). Shows text (its-tree .0) (x .diagram)) (sym read) (accepted-shown text (its-tree .0) (its-tree .1))
@@ -40,8 +40,8 @@ module _ (text : List ℕ) (o : ReadResult) (read : o ≡ read-of text) where
   -- A refused text.
   pub refused-answer : (lent left : List ℕ) (r : Translated) (number place : ℕ) → 51204 ≤ length lent → o .answer ≡ Unread number place → r ≡ passed-on (o .answer)
       → left ≡ lent → Translation text lent r left
-  refused-answer lent left r number place long told e q =
-      refused number place long (refused-exactly text number place .0 (sym (ap (λ (x : ReadResult). x .answer) read) ∙ told)) (ap report (e ∙ ap passed-on told)) q
+  refused-answer lent left r number place long is-done e q =
+      refused number place long (refused-exactly text number place .0 (sym (ap (λ (x : ReadResult). x .answer) read) ∙ is-done)) (ap report (e ∙ ap passed-on is-done)) q
 
 -- The table that is written over the lent bytes is the diagram's.
 module _ (g : Diagram) (lent : List ℕ) (long : 51204 ≤ length lent) where

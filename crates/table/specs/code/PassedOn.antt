@@ -2,8 +2,8 @@
 use Rattle.table.specs.declared.Answer.{Answer}
 use Rattle.table.specs.declared.Answer.the-variants.{Done, Refused}
 use Rattle.table.specs.declared.Finish.{Finish}
-use Rattle.table.specs.declared.Finish.the-variants.{No, Refused as Unasked}
+use Rattle.table.specs.declared.Finish.the-variants.{No, Refused as FinishRefused}
 
 abbrev pub passed-on : Answer → Finish
 passed-on Done = No
-passed-on (Refused number place) = Unasked number place
+passed-on (Refused number place) = FinishRefused number place
