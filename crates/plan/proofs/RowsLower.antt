@@ -120,12 +120,12 @@ module _ (n k first second : ℕ) (p q : PartRows) (a : Below k first p) (b : Be
   join-lower xor h = one-lower h
 
 -- The two rows that the second pass needs of a joint are below k, if those of its parts are.
-needed-below : (j : Joint) (k l first second : ℕ) (p q : PartRows) → Below k first p → Below k second q → 0 < k
+needed-below : (j : Joint) (k l first second : ℕ) (p q : PartRows) → Below k first p → Below k second q → 3 ≤ k
     → (join-piece j l p q .needs .later < k) × (join-piece j l p q .needs .earlier < k)
-needed-below seq k l first second p q a b h = (a .its-done, b .its-idle)
-needed-below and k l first second p q a b h = (a .its-done, b .its-idle)
-needed-below or k l first second p q a b h = (h, h)
-needed-below xor k l first second p q a b h = (a .its-idle, b .its-idle)
+needed-below seq k l first second p q a b h = (omega (arith, a .its-done), omega (arith, b .its-idle))
+needed-below and k l first second p q a b h = (omega (arith, a .its-done), omega (arith, b .its-idle))
+needed-below or k l first second p q a b h = (omega arith, omega arith)
+needed-below xor k l first second p q a b h = (omega (arith, a .its-idle), omega (arith, b .its-idle))
 
 -- The rows that the second pass adds for a joint.
 coupled-lower : (n k m x y : ℕ) → m < k → x < k → y < k → k + 2 ≤ 16384 → Lower n k (both-row m x ∷ both-row m y ∷ [])
@@ -170,7 +170,7 @@ pub guards-lower : (n : ℕ) (p : Process) (u k m lo : ℕ) → Numbered p lo �
     → m < k → k + length (guards-of p u k m .words) ≤ 16384 → Lower n k (guards-of p u k m .words)
 unfolding fold guards-of size Numbered
 guards-lower n (event e l) u k m lo num few c g v b h =
-    both-first n k [] m (u + 1) b (omega arith) (omega arith) (no-rows n (suc k))
+    both-first n k [] m _ b (omega arith) (omega arith) (no-rows n (suc k))
 guards-lower n (join j p q) u k m lo num few c g v b h =
     let pa = plan-of p u in
     let w = u + length (pa .words) in
