@@ -24,3 +24,4 @@ pub mod Joins
 pub mod Read
 pub mod Listings
 pub mod NoTwo
+pub mod Wider

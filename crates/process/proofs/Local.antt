@@ -8,7 +8,7 @@ use lib.Dec.{eqb}
 use borrow.Author.Tests.{eqb-true, eq-eqb}
 use Rattle.base.proofs.Truth.{cases, clash, is-false, or-l, or-r, or-e}
 use Rattle.process.specs.Process.{seq, and, or, xor, Process, event, join, again, rounds, owns}
-use Rattle.process.specs.Runs.{All, Rounds, stop, more, Whole, Begins}
+use Rattle.process.specs.Runs.{All, Rounds, stop, more, Optional, Whole, Begins}
 use Rattle.process.specs.Bits.{Bits, blank, clears, taking, run, after}
 use Rattle.process.specs.Guards.{begun, complete, enabled}
 use Rattle.process.proofs.Lists.{all-append, all-left, all-in-l, all-in-r, keep, only, union, mix-all, mix-append}
@@ -22,12 +22,16 @@ run-of (join and p q) = let a = run-of p in let b = run-of q in (a .0 ++ b .0, (
 run-of (join or p q) = let a = run-of p in (a .0, inl (inl (a .1)))
 run-of (join xor p q) = let a = run-of p in (a .0, inl (a .1))
 run-of (again n l) = ([], tt)
-run-of (rounds p r l) = ([], stop)
+run-of (rounds p r l) = ([], ([], [], stop, inl refl, refl))
 
 rounds-inside : (A : List ℕ → Type 0) (I : ℕ → Bool) (r : ℕ) → ((u : List ℕ) → A u → All I u) → {w : List ℕ} → Rounds A r w → All (union I (eqb r)) w
 rounds-inside A I r f stop = tt
 rounds-inside A I r f (more u v hu hv e) =
     rw e (all-append (union I (eqb r)) u (r ∷ v) (all-in-l I (eqb r) u (f u hu)) (or-r (I r) (eq-eqb r r refl), rounds-inside A I r f hv))
+
+optional-inside : (A : List ℕ → Type 0) (I J : ℕ → Bool) → ((u : List ℕ) → A u → All I u) → (w : List ℕ) → Optional A w → All (union I J) w
+optional-inside A I J f w (inl e) = rw e tt
+optional-inside A I J f w (inr h) = all-in-l I J w (f w h)
 
 pub inside : (p : Process) (w : List ℕ) → Whole p w → All (owns p) w
 unfolding Whole owns
@@ -41,7 +45,10 @@ inside (join or p q) w (inr h) = mix-all (owns p) (owns q) (h .4) (inside p (h .
 inside (join xor p q) w (inl h) = all-in-l (owns p) (owns q) w (inside p w h)
 inside (join xor p q) w (inr h) = all-in-r (owns p) (owns q) w (inside q w h)
 inside (again n l) w h = h
-inside (rounds p r l) w h = rounds-inside (Whole p) (owns p) r (λ u k. inside p u k) h
+inside (rounds p r l) w h =
+    rw (h .4)
+    (all-append (union (owns p) (eqb r)) (h .0) (h .1) (rounds-inside (Whole p) (owns p) r (λ u k. inside p u k) (h .2))
+    (optional-inside (Whole p) (owns p) (eqb r) (λ u k. inside p u k) (h .1) (h .3)))
 
 pub begins-inside : (p : Process) (w : List ℕ) → Begins p w → All (owns p) w
 begins-inside p w h = all-left (owns p) w (h .0) (inside p (w ++ h .0) (h .1))
@@ -110,7 +117,7 @@ complete-local (join or p q) a =
     rw (begun-l p q a, begun-r p q a, complete-local p (agree-l (owns p) (owns q) a), complete-local q (agree-r (owns p) (owns q) a))
 complete-local (join xor p q) a = rw (complete-local p (agree-l (owns p) (owns q) a), complete-local q (agree-r (owns p) (owns q) a))
 complete-local (again n l) a = refl
-complete-local (rounds p r l) a = rw (begun-local p (agree-l (owns p) (eqb r) a))
+complete-local (rounds p r l) a = rw (begun-local p (agree-l (owns p) (eqb r) a), complete-local p (agree-l (owns p) (eqb r) a))
 
 pub enabled-local : (p : Process) {s t : Bits} (x : ℕ) → Agree (owns p) s t → enabled p s x ≡ enabled p t x
 unfolding owns enabled

@@ -9,30 +9,20 @@ use Rattle.diagram.specs.Tree.{Name, Way, all, some, one, flow, Children, none,
 use Rattle.diagram.specs.Count.{child-events, member-events}
 use Rattle.process.specs.Process.{Joint, seq, and, or, xor, Process, join}
 use Rattle.process.specs.Expand.{joint, copies, flow-process, children-process, child-process, member-process, members-process}
-use Rattle.process.specs.Runs.{Runs, Then, Both, Either, Mix, Whole}
+use Rattle.process.specs.Runs.{Runs, Then, Both, Either, Or, Mix, Joined, Whole}
 use Rattle.process.specs.Readings.{InOrder, Interleaved, Choice, nothing, pick, leave, SomeOf, OneOf, Several, children-parts, members-parts, copies-parts}
 use Rattle.process.proofs.Lists.{mix-all-l, mix-append}
-use Rattle.process.proofs.Joins.{Same, Or, Groups, then-groups, both-groups, either-groups, or-groups, from-left, to-right, left-under, left-snoc, regroup}
+use Rattle.process.proofs.Joins.{Same, Groups, then-groups, both-groups, either-groups, or-groups, from-left, to-right, left-under, left-snoc, regroup}
 
--- What a joint does to two sets of runs.
-abbrev joins : Joint → Runs → Runs → Runs
-joins seq = Then
-joins and = Both
-joins or = Or
-joins xor = Either
-
-grouped : (j : Joint) → Groups (joins j)
+grouped : (j : Joint) → Groups (Joined j)
 grouped seq = then-groups
 grouped and = both-groups
 grouped or = or-groups
 grouped xor = either-groups
 
-whole-join : (j : Joint) (p q : Process) → Same (Whole (join j p q)) (joins j (Whole p) (Whole q))
+whole-join : (j : Joint) (p q : Process) → Same (Whole (join j p q)) (Joined j (Whole p) (Whole q))
 unfolding Whole
-whole-join seq p q w = Iff·rfl
-whole-join and p q w = Iff·rfl
-whole-join or p q w = Iff·rfl
-whole-join xor p q w = Iff·rfl
+whole-join j p q w = Iff·rfl
 
 -- The sentences, the parts being grouped to the right.
 abbrev Nothing : Runs
@@ -112,15 +102,15 @@ some-of p [] w = (λ h. some-cons p [] w .0 (inl (inl h)), λ h. only (some-cons
     only (inr (u, v, hu, hv, m)) = absurd (empty v hv)
 some-of p (q ∷ ps) w = Iff·trans (or-groups .under {A = Whole p} (λ v. Iff·rfl) (some-of q ps) w) (some-cons p (q ∷ ps) w)
 
-several : (y : Way) (p : Process) (ps : List Process) → Same (to-right (joins (joint y)) (Whole p) ps) (Several y (p ∷ ps))
+several : (y : Way) (p : Process) (ps : List Process) → Same (to-right (Joined (joint y)) (Whole p) ps) (Several y (p ∷ ps))
 several all p ps = interleaved p ps
 several some p ps = some-of p ps
 several one p ps = one-of p ps
 
 -- The process of a diagram joins its parts from the left.
-joined-left : (j : Joint) (p q : Process) (ps : List Process) {A : Runs} → Same A (from-left (joins j) (Whole (join j p q)) ps)
-    → Same A (from-left (joins j) (Whole p) (q ∷ ps))
-joined-left j p q ps s w = Iff·trans (s w) (left-under (joins j) (grouped j) ps (whole-join j p q) w)
+joined-left : (j : Joint) (p q : Process) (ps : List Process) {A : Runs} → Same A (from-left (Joined j) (Whole (join j p q)) ps)
+    → Same A (from-left (Joined j) (Whole p) (q ∷ ps))
+joined-left j p q ps s w = Iff·trans (s w) (left-under (Joined j) (grouped j) ps (whole-join j p q) w)
 
 children-left : (cs : Children) (vs : List ℕ) (p : Process) (e : ℕ) → Same (Whole (children-process cs vs p e)) (from-left Then (Whole p) (children-parts cs vs e))
 unfolding children-process children-parts
@@ -129,7 +119,7 @@ children-left (next c r cs) vs p e w =
     joined-left seq p (child-process c vs e) (children-parts cs vs (e + child-events c)) (children-left cs vs (join seq p (child-process c vs e)) (e + child-events c)) w
 
 members-left : (ms : Members) (j : Joint) (vs : List ℕ) (p : Process) (e : ℕ)
-    → Same (Whole (members-process ms j vs p e)) (from-left (joins j) (Whole p) (members-parts ms vs e))
+    → Same (Whole (members-process ms j vs p e)) (from-left (Joined j) (Whole p) (members-parts ms vs e))
 unfolding members-process members-parts
 members-left end j vs p e w = Iff·rfl
 members-left (also m ms) j vs p e w =
@@ -147,7 +137,7 @@ parts-snoc m vs e v (suc n) =
     ap (λ (l : List Process). copy m vs e v ∷ l) (rw z at (parts-snoc m vs e (suc v) n))
 
 copies-left : (j : Joint) (m : Member) (vs : List ℕ) (e n : ℕ)
-    → Same (Whole (copies j (copy m vs e) n)) (from-left (joins j) (Whole (copy m vs e 0)) (copies-parts m vs e 1 n))
+    → Same (Whole (copies j (copy m vs e) n)) (from-left (Joined j) (Whole (copy m vs e 0)) (copies-parts m vs e 1 n))
 unfolding copies-parts
 copies-left j m vs e zero w = Iff·rfl
 copies-left j m vs e (suc n) w =
@@ -156,8 +146,8 @@ copies-left j m vs e (suc n) w =
     let k : copies-parts m vs e 1 (suc n) ≡ copies-parts m vs e 1 n ++ (copy m vs e (suc n) ∷ []) = rw z at (parts-snoc m vs e 1 n) in
     Iff·trans (whole-join j (copies j (copy m vs e) n) (copy m vs e (suc n)) w)
     (Iff·trans (grouped j .under (copies-left j m vs e n) (λ v. Iff·rfl) w)
-    (subst (λ (l : List Process). joins j (from-left (joins j) A (copies-parts m vs e 1 n)) (Whole (copy m vs e (suc n))) w ↔ from-left (joins j) A l w) (sym k)
-    (Iff·symm (left-snoc (joins j) (grouped j) A (copies-parts m vs e 1 n) (copy m vs e (suc n)) w))))
+    (subst (λ (l : List Process). Joined j (from-left (Joined j) A (copies-parts m vs e 1 n)) (Whole (copy m vs e (suc n))) w ↔ from-left (Joined j) A l w) (sym k)
+    (Iff·symm (left-snoc (Joined j) (grouped j) A (copies-parts m vs e 1 n) (copy m vs e (suc n)) w))))
 
 -- "A flow gives a whole run of each child, in order."
 pub flow-read : (n : Name) (ps : List Name) (sw : Bool) (c : Child) (r : Bool) (cs : Children) (vs : List ℕ) (e : ℕ)
@@ -179,7 +169,7 @@ group-read y a b ms vs e w =
     let f = e + member-events a + member-events b in
     let qs = members-parts ms vs f in
     let j = joint y in
-    Iff·trans (joined-left j p q qs (members-left ms j vs (join j p q) f) w) (Iff·trans (regroup (joins j) (grouped j) (Whole p) (q ∷ qs) w) (several y p (q ∷ qs) w))
+    Iff·trans (joined-left j p q qs (members-left ms j vs (join j p q) f) w) (Iff·trans (regroup (Joined j) (grouped j) (Whole p) (q ∷ qs) w) (several y p (q ∷ qs) w))
 
 -- "`all`, `some`, `one` do so over the copies for each value."
 pub replicator-read : (y : Way) (par : Name) (n : ℕ) (m : Member) (vs : List ℕ) (e : ℕ)
@@ -189,4 +179,4 @@ replicator-read y par n m vs e w =
     let p = copy m vs e 0 in
     let qs = copies-parts m vs e 1 n in
     let z : suc n - 1 ≡ n = omega arith in
-    rw z (Iff·trans (copies-left (joint y) m vs e n w) (Iff·trans (regroup (joins (joint y)) (grouped (joint y)) (Whole p) qs w) (several y p qs w)))
+    rw z (Iff·trans (copies-left (joint y) m vs e n w) (Iff·trans (regroup (Joined (joint y)) (grouped (joint y)) (Whole p) qs w) (several y p qs w)))

@@ -1,18 +1,18 @@
--- Rounds of a process, each closed by a reset of its own.
+-- Rounds of a process, each closed by a reset of its own, and then optionally one further run of it.
 use mathlib.Core.Path.{_≡_, refl, sym, _∙_, ap}
 use mathlib.Core.Logic.{_⊎_, inl, inr, _↔_}
 use mathlib.Core.Bool.{Bool, true, false, not, _||_, and-false, or-comm}
-use mathlib.Core.List.{List, [], _∷_, _++_, append-nil, append-assoc, cons≢nil, head-eq-of-cons-eq, tail-eq-of-cons-eq}
+use mathlib.Core.List.{List, [], _∷_, _++_, append-nil, append-assoc, append-eq-nil-iff, cons≢nil, head-eq-of-cons-eq, tail-eq-of-cons-eq}
 use Prim.Native.Nat.{ℕ}
 use lib.Dec.{eqb}
 use borrow.Author.Tests.{eqb-true, eq-eqb}
-use Rattle.base.proofs.Truth.{cases, clash, is-false, or-r, not-i}
+use Rattle.base.proofs.Truth.{cases, clash, is-false, or-l, or-r, or-e}
 use Rattle.process.specs.Process.{Event, Process, rounds, owns}
-use Rattle.process.specs.Runs.{Runs, All, Rounds, stop, more, Whole, Begins}
+use Rattle.process.specs.Runs.{Runs, All, Rounds, stop, more, Optional, Loop, Whole, Begins}
 use Rattle.process.specs.Bits.{Bits, blank, clears, taking, run, after}
 use Rattle.process.specs.Guards.{begun, complete, enabled}
 use Rattle.process.proofs.Lists.{filled, filled-append, filled-snoc, snoc≢nil, Cut, cut, last, snoc-eq, all-right}
-use Rattle.process.proofs.Local.{begins-inside, closed, Agree, begun-local, run-append}
+use Rattle.process.proofs.Local.{begins-inside, closed, Agree, run-append}
 use Rattle.process.proofs.Seen.{Seen, Good, seen-local, not-begun, begins-nil, begins-whole, begins-shorter}
 
 -- Lists of rounds
@@ -50,13 +50,9 @@ module _ (p : Process) (r : ℕ) where
   Ahead w x = ((a : List ℕ) × (c : List ℕ) × Rounds (Whole p) r a × Whole p c × (w ≡ a ++ c) × (x ≡ r))
       ⊎ ((a : List ℕ) × (c : List ℕ) × Rounds (Whole p) r a × Begins p (c ++ (x ∷ [])) × (w ≡ a ++ c))
 
-  turns← : (w : List ℕ) → Turns w → (x : List ℕ) × Rounds (Whole p) r (w ++ x)
-  turns← w t =
-      let x = t .rest .0 in (
-        x ++ (r ∷ []),
-        rw (t .cut-at, append-assoc (t .u) (t .v) (x ++ (r ∷ [])), ← append-assoc (t .v) x (r ∷ []))
-            (rounds-append (Whole p) r ((t .v ++ x) ++ (r ∷ [])) (t .turns) (rounds-one (Whole p) r (t .v ++ x) (t .rest .1))),
-      )
+  -- the round begun is ended as the further run
+  turns← : (w : List ℕ) → Turns w → (x : List ℕ) × Loop (Whole p) r (w ++ x)
+  turns← w t = (t .rest .0, (t .u, t .v ++ t .rest .0, t .turns, inr (t .rest .1), rw (t .cut-at, append-assoc)))
 
   first : (w : List ℕ) → Begins p w → Turns w
   first w h = record { u = []; v = w; turns = stop; rest = h; cut-at = refl }
@@ -80,6 +76,16 @@ module _ (p : Process) (r : ℕ) where
       go ih (inr ([], i, j)) = first w (begins-whole p w (rw (i, append-nil) ha))
       go ih (inr (z ∷ d, i, j)) = later a w z d ha (head-eq-of-cons-eq j) i (ih d (sym (tail-eq-of-cons-eq j)))
 
+  -- what begins a loop's run ends inside the rounds or inside the further run
+  turns-loop : (w y : List ℕ) → Loop (Whole p) r (w ++ y) → Turns w
+  turns-loop w y (a, c, ha, hc, e) = go (cut w y a c e) hc
+    where
+      go : Cut w y a c → Optional (Whole p) c → Turns w
+      go (inl (d, i, j)) k = turns→ ha w d (sym i)
+      go (inr (d, i, j)) (inl k) =
+          record { u = a; v = []; turns = ha; rest = begins-nil p; cut-at = i ∙ ap (λ (l : List ℕ). a ++ l) (append-eq-nil-iff .0 (sym j ∙ k) .0) }
+      go (inr (d, i, j)) (inr k) = record { u = a; v = d; turns = ha; rest = (y, rw j at k); cut-at = i }
+
   pub ahead : (w : List ℕ) (x : ℕ) → Turns (w ++ (x ∷ [])) → Ahead w x
   ahead w x t = go (last (t .v))
     where
@@ -101,7 +107,7 @@ module _ (p : Process) (r : ℕ) (l : Event) (out : owns p r ≡ false) where
 
   pub begins-turns : (w : List ℕ) → Begins loop w ↔ Turns p r w
   unfolding Whole
-  begins-turns w = (λ h. turns→ p r (h .1) w (h .0) refl, turns← p r w)
+  begins-turns w = (λ h. turns-loop p r w (h .0) (h .1), turns← p r w)
 
   other : (x : ℕ) → owns p x ≡ true → eqb r x ≡ false
   other x h = is-false (eqb r x) (λ q. clash h (sym (ap (owns p) (eqb-true r x q)) ∙ out))
@@ -168,16 +174,18 @@ module _ (p : Process) (r : ℕ) (l : Event) (out : owns p r ≡ false) where
 
     rounds-ends : (w : List ℕ) → Turns p r w → Whole loop w ↔ (complete loop (after loop w) ≡ true)
     unfolding Whole complete
-    rounds-ends w t = (to, from)
+    rounds-ends w t = (λ h. to h (h .3), λ h. from (or-e (not (begun p (after loop w))) (complete p (after loop w)) h))
       where
-        to : Rounds (Whole p) r w → not (begun p (after loop w)) ≡ true
-        to h = not-i (begun-local p (fresh w (rounds-last (Whole p) r h)) ∙ G [] (begins-nil p) .begins)
+        to : (h : Loop (Whole p) r w) → Optional (Whole p) (h .1) → (not (begun p (after loop w)) || complete p (after loop w)) ≡ true
+        to (u, v, hu, hv, e) (inl k) = rw e (or-l (complete p (after loop (u ++ v))) (not-begun p (seen u v hu (rw k (begins-nil p))) .0 k))
+        to (u, v, hu, hv, e) (inr k) = rw e (or-r (not (begun p (after loop (u ++ v)))) (seen u v hu (begins-whole p v k) .ends .0 k))
 
-        from : not (begun p (after loop w)) ≡ true → Rounds (Whole p) r w
-        from h =
-            let k : not (begun p (after loop (t .u ++ t .v))) ≡ true = rw (t .cut-at) at h in
-            let z : t .v ≡ [] = not-begun p (seen (t .u) (t .v) (t .turns) (t .rest)) .1 k in
-            rw (t .cut-at, z, append-nil) (t .turns)
+        S : Seen p (after loop w) (t .v)
+        S = rw (t .cut-at) (seen (t .u) (t .v) (t .turns) (t .rest))
+
+        from : (not (begun p (after loop w)) ≡ true) ⊎ (complete p (after loop w) ≡ true) → Loop (Whole p) r w
+        from (inl h) = (t .u, t .v, t .turns, inl (not-begun p S .1 h), t .cut-at)
+        from (inr h) = (t .u, t .v, t .turns, inr (S .ends .1 h), t .cut-at)
 
     goes→ : (w : List ℕ) (x : ℕ) → Ahead p r w x → enabled loop (after loop w) x ≡ true
     unfolding enabled

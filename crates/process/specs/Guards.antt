@@ -28,8 +28,8 @@ complete (join or p q) s = (begun p s || begun q s) && ((complete p s || not (be
 complete (join xor p q) s = complete p s || complete q s
 -- always
 complete (again n l) s = true
--- its body not begun
-complete (rounds p r l) s = not (begun p s)
+-- its body not begun, or complete
+complete (rounds p r l) s = not (begun p s) || complete p s
 
 -- May its event `x` be taken next?
 unfoldable pub enabled : Process → Bits → ℕ → Bool

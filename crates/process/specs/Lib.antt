@@ -1,6 +1,7 @@
 pub mod Process
 pub mod Expand
 pub mod Runs
+pub mod Before
 pub mod Bits
 pub mod Bodies
 pub mod Guards

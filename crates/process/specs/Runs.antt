@@ -1,11 +1,11 @@
--- Whole runs, and the lists that begin one. Document 01, "Events and whole runs", second paragraph.
+-- Whole runs, and the lists that begin one. Document 01, "Events and whole runs", second paragraph, with card 1 of document 02.
 use mathlib.Core.Path.{_≡_}
 use mathlib.Core.Logic.{_⊎_}
 use mathlib.Core.Bool.{Bool, true}
 use mathlib.Core.List.{List, [], _∷_, _++_}
 use Prim.Native.Nat.{ℕ}
 use lib.Dec.{eqb}
-use Rattle.process.specs.Process.{seq, and, or, xor, Process, event, join, again, rounds}
+use Rattle.process.specs.Process.{Joint, seq, and, or, xor, Process, event, join, again, rounds}
 
 -- A set of lists of event numbers.
 abbrev pub Runs : Type 1
@@ -29,6 +29,10 @@ Both A B w = (u : List ℕ) × (v : List ℕ) × A u × B v × Mix u v w
 abbrev pub Either : Runs → Runs → Runs
 Either A B w = A w ⊎ B w
 
+-- Either or both.
+abbrev pub Or : Runs → Runs → Runs
+Or A B = Either (Either A B) (Both A B)
+
 -- Every element passes the test.
 abbrev pub All : (ℕ → Bool) → Runs
 All I [] = Unit {0}
@@ -39,22 +43,34 @@ pub data Rounds (A : List ℕ → Type 0) (r : ℕ) : List ℕ → Type 0 where
   stop : Rounds A r []
   more : {w : List ℕ} (u v : List ℕ) → A u → Rounds A r v → w ≡ u ++ (r ∷ v) → Rounds A r w
 
+-- One of them, or nothing.
+abbrev pub Optional : Runs → Runs
+Optional A w = (w ≡ []) ⊎ A w
+
+-- Rounds, and then optionally one further run.
+abbrev pub Loop : Runs → ℕ → Runs
+Loop A r = Then (Rounds A r) (Optional A)
+
+-- What two parts give by how they are joined.
+abbrev pub Joined : Joint → Runs → Runs → Runs
+-- "A flow gives a whole run of each child, in order"
+Joined seq A B = Then A B
+-- "`and`: any interleaving of one run of each member"
+Joined and A B = Both A B
+-- "`or`: the same over any nonempty choice of members"
+Joined or A B = Or A B
+-- "`xor`: a run of one member"; "`all`, `some`, `one` do so over the copies for each value"
+Joined xor A B = Either A B
+
 -- The whole runs of a process.
 unfoldable pub Whole : Process → Runs
 -- "a leaf gives that one event"
 Whole (event n l) = λ w. w ≡ n ∷ []
--- "A flow gives a whole run of each child, in order"
-Whole (join seq p q) = Then (Whole p) (Whole q)
--- "`and`: any interleaving of one run of each member"
-Whole (join and p q) = Both (Whole p) (Whole q)
--- "`or`: the same over any nonempty choice of members"
-Whole (join or p q) = Either (Either (Whole p) (Whole q)) (Both (Whole p) (Whole q))
--- "`xor`: a run of one member"; "`all`, `some`, `one` do so over the copies for each value"
-Whole (join xor p q) = Either (Whole p) (Whole q)
+Whole (join j p q) = Joined j (Whole p) (Whole q)
 -- "A loop over a leaf: that event zero or more times"
 Whole (again n l) = All (eqb n)
--- "A loop over a flow: zero or more rounds, each a run of the flow and then the reset"
-Whole (rounds p r l) = Rounds (Whole p) r
+-- Card 1: "zero or more rounds, each ended by its reset, and then optionally one further run of the flow without it"
+Whole (rounds p r l) = Loop (Whole p) r
 
 -- "A list of events begins a whole run if adding events after it, or none, gives one."
 abbrev pub Begins : Process → Runs
