@@ -51,22 +51,14 @@ fn rounds(k: u16, e: u16, m: PartRows) -> Added
     requires { ⌜ k < 12000 ⌝ }
     ensures { λ r. ⌜ Adds (rounds-piece k e m) r ⌝ }
 {
-    let words = Words {
-        words: [
-            rows::bit_row(e),
-            rows::either_row(m.begun, k),
-            rows::not_row(k + 1),
-            0,
-            0,
-            0,
-        ],
-        count: 3,
-    };
+    let begun = rows::either_row(m.begun, k);
+    let words = rows::then_settling(rows::bit_row(e), begun, rows::not_row(k + 1), m);
+    let settled = rows::settled(k + 3, m);
     let part = PartRows {
         begun: k + 1,
         idle: k + 2,
-        done: m.idle,
-        settled: m.idle,
+        done: settled,
+        settled,
         first: m.first,
     };
     let needs = Needs {

@@ -7,22 +7,22 @@ use native.Mathlib.Nat.{suc-mul}
 use native.Mathlib.Omega.{arith}
 use lib.Dec.{eqb, leb}
 use lib.ListN.{length, length-append}
-use borrow.Author.Tests.{ne-eqb, leb-true}
-use Rattle.base.proofs.Truth.{and-l, and-r}
+use borrow.Author.Tests.{eqb-false, ne-eqb, leb-true}
+use Rattle.base.proofs.Truth.{and-l, and-r, by-cases}
 use Rattle.diagram.specs.Tree.{Flow, flow, Children, none, next, Child, plain, loop, group, replicator, Member, leaf, inner, Members, end, also}
 use Rattle.diagram.specs.Count.{child-events, member-events, flow-copies, children-copies, child-copies, member-copies, members-copies}
 use Rattle.diagram.specs.Sizes.{flow-sized, children-sized, child-sized, member-sized, members-sized}
 use Rattle.process.specs.Process.{Joint, seq, and, or, xor, Process, event, join, again, rounds}
 use Rattle.process.specs.Expand.{joint, copies, expand, flow-process, children-process, child-process, loop-process, member-process, members-process}
 use Rattle.layout.specs.Fields.{both-row}
-use Rattle.plan.specs.Pieces.{settling, rounds-piece}
+use Rattle.plan.specs.Pieces.{settling, settled-row, rounds-piece}
 use Rattle.postfix.specs.Fold.{fold}
 use Rattle.plan.specs.Plan.{Plan, joined, joint-words, later-gate, earlier-gate, plan-of, guards-of, middle, rows-of}
 use Rattle.plan.specs.declared.PartRows.{PartRows}
 use Rattle.plan.specs.declared.Needs.{Needs}
 
 -- ---- how many rows a process has
--- 1 where no row says yet of the part that it is complete or not begun: an `or` over it writes that row.
+-- 1 where no row says yet of the part that it is complete or not begun: an `or` or a loop over it writes that row.
 abbrev lazy-joint : Joint → ℕ
 lazy-joint seq = 1
 lazy-joint and = 1
@@ -48,7 +48,7 @@ unfolding lazy
 weight (event n l) = 3
 weight (join j p q) = weight p + (weight q + own j (lazy p) (lazy q))
 weight (again n l) = 2
-weight (rounds p r l) = weight p + 4
+weight (rounds p r l) = weight p + (4 + lazy p)
 
 -- ---- the row that settles a part
 -- None is written where there is one already.
@@ -57,19 +57,9 @@ settling-none m h =
     let f : eqb (m .settled) 0 ≡ false = ne-eqb (m .settled) 0 (λ e. omega arith) in
     rw f (omega arith)
 
--- The row that a part is not begun is not row 0.
-join-idle : (j : Joint) (k : ℕ) (a b : Plan) → 1 ≤ joined j k a b .part .idle
-join-idle seq k a b = omega arith
-join-idle and k a b = omega arith
-join-idle or k a b = omega arith
-join-idle xor k a b = omega arith
-
-idle-some : (p : Process) (k : ℕ) → 1 ≤ plan-of p k .part .idle
-unfolding fold
-idle-some (event n l) k = omega arith
-idle-some (join j p q) k = join-idle j k (plan-of p k) (plan-of q (k + length (plan-of p k .words)))
-idle-some (again n l) k = omega arith
-idle-some (rounds p r l) k = omega arith
+-- The row that settles a part is not row 0.
+settled-some : (k : ℕ) (m : PartRows) → 1 ≤ k → 1 ≤ settled-row k m
+settled-some k m h = by-cases (eqb (m .settled) 0) (λ t. rw t h) (λ f. let z = eqb-false (m .settled) 0 f in rw f (omega (arith, z)))
 
 join-settling : (j : Joint) (k : ℕ) (a b : Plan) → length (settling (joined j k a b .part)) ≤ lazy-joint j
 join-settling seq k a b = omega arith
@@ -83,7 +73,8 @@ unfolding fold lazy
 settling-few (event n l) k = omega arith
 settling-few (join j p q) k = join-settling j k (plan-of p k) (plan-of q (k + length (plan-of p k .words)))
 settling-few (again n l) k = omega arith
-settling-few (rounds p r l) k = settling-none (plan-of (rounds p r l) k .part) (idle-some p k)
+settling-few (rounds p r l) k =
+    settling-none (plan-of (rounds p r l) k .part) (settled-some (k + length (plan-of p k .words) + 3) (plan-of p k .part) (omega arith))
 
 -- ---- the rows of both passes
 joint-few : (j : Joint) (k m : ℕ) (n : Needs) (a b : Plan) (s t : ℕ) → length (settling (a .part)) ≤ s → length (settling (b .part)) ≤ t
@@ -119,6 +110,7 @@ both-passes (again n l) k u d m = omega arith
 both-passes (rounds p r l) k u d m =
     let e = length-append (plan-of p k .words) (rounds-piece (k + length (plan-of p k .words)) r (plan-of p k .part) .words) in
     let h = both-passes p k u (suc d) m in
+    let s = settling-few p k in
     omega arith
 
 -- ---- the joints of a group
@@ -211,7 +203,7 @@ mutual
 
   loop-few : (m : Member) → member-sized m ≡ true → (vs : List ℕ) (e : ℕ) → weight (loop-process m vs e) + 5 ≤ 8 * (1 + member-copies m)
   loop-few (leaf n) h vs e = omega arith
-  loop-few (inner f) h vs e = let a = flow-few f h vs e in omega arith
+  loop-few (inner f) h vs e = omega (arith, flow-few f h vs e, lazy-one (flow-process f vs e))
 
   -- with the rows of the joint before the member
   member-few : (m : Member) → member-sized m ≡ true → (vs : List ℕ) (e : ℕ)

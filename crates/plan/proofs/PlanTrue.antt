@@ -1,6 +1,6 @@
 -- The rows of the first pass say of each part of a process what the control bits say of it.
 use mathlib.Core.Path.{_≡_, refl, sym, _∙_, ap, ap₂}
-use mathlib.Core.Bool.{Bool, true, false, not, _&&_, _||_, or-true, or-false, or-not-self}
+use mathlib.Core.Bool.{Bool, true, false, not, _&&_, _||_, or-true, or-false, or-comm, or-not-self}
 use mathlib.Core.List.{List, [], _∷_, _++_}
 use Prim.Native.Nat.{ℕ, zero, suc, _+_, _≤_, _<_}
 use native.Mathlib.Omega.{arith}
@@ -22,10 +22,11 @@ use Rattle.plan.proofs.Says.{Obeys, PartAgrees, Below}
 use Rattle.layout.proofs.Decoded.{bit-says, not-says, both-says, either-says}
 use Rattle.plan.proofs.Within.{obeys-split, below-more, settled-below, join-length, plan-below}
 
--- A loop over a flow is complete where its body is not begun, and then settled; c is the reset's bit.
-reset-settled : (a c : Bool) → not a ≡ (not a || not (a || c))
-reset-settled true c = refl
-reset-settled false c = refl
+-- A loop over a flow is complete where its body is not begun or complete, and then settled: it is settled where its body is. The body is begun by a, complete by b; c is
+-- the reset's bit.
+loop-settled : (a b c : Bool) → (b || not a) ≡ ((not a || b) || not (a || c))
+loop-settled true b c = refl
+loop-settled false b c = or-true b
 
 -- Either part or both: settled where both parts are. The parts are begun by a and b, complete by c and d.
 some-settled : (a b c d : Bool)
@@ -57,23 +58,6 @@ module _ (s : Bits) (v : ℕ → Bool) where
   unfolding begun complete
   again-true n l k on h = record { its-begun = h .0; its-idle = h .1; its-done = on; its-settled = λ z. on }
 
-  rounds-true : (p : Process) (r : ℕ) (l : Event) (k lo : ℕ) (m : PartRows) → r < 512 → k + 3 ≤ 16384 → Below k lo m → PartAgrees p s v m
-      → Obeys s v k (rounds-piece k r m .words) → PartAgrees (rounds p r l) s v (rounds-piece k r m .part)
-  unfolding begun complete
-  rounds-true p r l k lo m small room low t h =
-      let c : v k ≡ s r = row-says k _ 0 k h (omega arith) (omega arith) ∙ bit-says s v r (omega arith) in
-      let word : getD (rounds-piece k r m .words) 1 0 ≡ either-row (m .begun) k = omega arith in
-      let b : v (k + 1) ≡ (begun p s || s r) =
-      row-says k _ 1 (k + 1) h (omega arith) (omega arith)
-      ∙ (ap (λ w. says w s v) word ∙ (either-says s v (m .begun) k (omega arith) (omega arith) ∙ ap₂ _||_ (t .its-begun) c))
-      in
-      record {
-        its-begun = b;
-        its-idle = row-says k _ 2 (k + 2) h (omega arith) (omega arith) ∙ (not-says s v (k + 1) (omega arith) ∙ ap not b);
-        its-done = t .its-idle;
-        its-settled = λ z. t .its-idle ∙ reset-settled (begun p s) (s r);
-      }
-
   -- A part is settled by its own row or by the new one.
   settled-true : (p : Process) (k lo : ℕ) (m : PartRows) → k ≤ 16384 → Below k lo m → PartAgrees p s v m → Obeys s v k (settling m)
       → v (settled-row k m) ≡ (complete p s || not (begun p s))
@@ -89,6 +73,25 @@ module _ (s : Bits) (v : ℕ → Bool) where
 
       own : eqb (m .settled) 0 ≡ false → v (settled-row k m) ≡ (complete p s || not (begun p s))
       own e = rw e (t .its-settled (eqb-false (m .settled) 0 e))
+
+  rounds-true : (p : Process) (r : ℕ) (l : Event) (k lo : ℕ) (m : PartRows) → r < 512 → k + length (rounds-piece k r m .words) ≤ 16384 → Below k lo m
+      → PartAgrees p s v m → Obeys s v k (rounds-piece k r m .words) → PartAgrees (rounds p r l) s v (rounds-piece k r m .part)
+  unfolding begun complete
+  rounds-true p r l k lo m small room low t h =
+      let c : v k ≡ s r = row-says k _ 0 k h (omega arith) (omega arith) ∙ bit-says s v r (omega arith) in
+      let word : getD (rounds-piece k r m .words) 1 0 ≡ either-row (m .begun) k = omega arith in
+      let b : v (k + 1) ≡ (begun p s || s r) =
+      row-says k _ 1 (k + 1) h (omega arith) (omega arith)
+      ∙ (ap (λ w. says w s v) word ∙ (either-says s v (m .begun) k (omega arith) (omega arith) ∙ ap₂ _||_ (t .its-begun) c))
+      in
+      let three = bit-row r ∷ either-row (m .begun) k ∷ not-row (k + 1) ∷ [] in
+      let d = settled-true p (k + 3) lo m (omega arith) (below-more k (k + 3) lo m (omega arith) low) t (obeys-split s v k three (settling m) h .1) in
+      record {
+        its-begun = b;
+        its-idle = row-says k _ 2 (k + 2) h (omega arith) (omega arith) ∙ (not-says s v (k + 1) (omega arith) ∙ ap not b);
+        its-done = d ∙ or-comm (complete p s) (not (begun p s));
+        its-settled = λ z. d ∙ loop-settled (begun p s) (complete p s) (s r);
+      }
 
   module _ (p q : Process) (k lo hi : ℕ) (m n : PartRows) (room : k ≤ 16384) (a : Below k lo m) (b : Below k hi n)
       (t : PartAgrees p s v m) (r : PartAgrees q s v n) where

@@ -60,17 +60,19 @@ leaf-lower : (n k e : ℕ) → e < n → n ≤ 512 → k + 2 ≤ 16384 → Lower
 leaf-lower n k e h m c =
     bit-first n k (not-row k ∷ []) e h m (not-first n (suc k) [] k (omega arith) (omega arith) (no-rows n (suc (suc k))))
 
-rounds-lower : (n k lo e : ℕ) (m : PartRows) → Below k lo m → e < n → n ≤ 512 → k + 3 ≤ 16384 → Lower n k (rounds-piece k e m .words)
-rounds-lower n k lo e m b h few c =
-    bit-first n k (either-row (m .begun) k ∷ not-row (k + 1) ∷ []) e h few
-    (either-first n (suc k) (not-row (k + 1) ∷ []) (m .begun) k (omega arith) (omega arith) (omega arith)
-    (not-first n (suc (suc k)) [] (k + 1) (omega arith) (omega arith) (no-rows n (suc (suc (suc k))))))
-
 -- A row that a part is complete or not begun, where one is needed.
 settling-lower : (n k lo : ℕ) (m : PartRows) → Below k lo m → k ≤ 16384 → Lower n k (settling m)
 settling-lower n k lo m b c =
     by-cases (eqb (m .settled) 0)
     (λ t. rw t (either-first n k [] (m .done) (m .idle) (b .its-done) (b .its-idle) c (no-rows n (suc k)))) (λ f. rw f (no-rows n k))
+
+rounds-lower : (n k lo e : ℕ) (m : PartRows) → Below k lo m → e < n → n ≤ 512 → k + length (rounds-piece k e m .words) ≤ 16384
+    → Lower n k (rounds-piece k e m .words)
+rounds-lower n k lo e m b h few c =
+    bit-first n k (either-row (m .begun) k ∷ not-row (k + 1) ∷ settling m) e h few
+    (either-first n (suc k) (not-row (k + 1) ∷ settling m) (m .begun) k (omega arith) (omega arith) (omega arith)
+    (not-first n (suc (suc k)) (settling m) (k + 1) (omega arith) (omega arith)
+    (settling-lower n (suc (suc (suc k))) lo m (below-more k _ lo m (omega arith) b) (omega arith))))
 
 -- Two parts whose rows are below k, the first row of their joint.
 module _ (n k first second : ℕ) (p q : PartRows) (a : Below k first p) (b : Below k second q) where

@@ -76,8 +76,9 @@ leaf-below : (k lo e done : ℕ) → 3 ≤ k → done ≤ k → e ≡ lo → Bel
 leaf-below k lo e done h d q =
     record { its-begun = omega arith; its-idle = omega arith; its-done = omega arith; its-settled = omega arith; its-first = q }
 
-rounds-below : (k lo e : ℕ) (m : PartRows) → Below k lo m → Below (k + 3) lo (rounds-piece k e m .part)
+rounds-below : (k lo e : ℕ) (m : PartRows) → Below k lo m → Below (k + length (rounds-piece k e m .words)) lo (rounds-piece k e m .part)
 rounds-below k lo e m b =
+    let d = settled-below (k + 3) lo m (below-more k (k + 3) lo m (omega arith) b) in
     record { its-begun = omega arith; its-idle = omega arith; its-done = omega arith; its-settled = omega arith; its-first = b .its-first }
 
 three-below : (k lo e : ℕ) → e ≡ lo → Below (k + 3) lo (part-rows k (k + 1) (k + 2) 0 e)

@@ -41,11 +41,19 @@ event-piece k e = leaf-piece k e k (k + 1)
 abbrev pub again-piece : ℕ → ℕ → Piece
 again-piece k e = leaf-piece k e 2 0
 
--- A loop over a flow, whose reset is event e: begun also where only the reset's bit is set, complete where the body is not begun. The reset's guard needs the row
--- that the body is complete, and its record the body's first event.
+-- The row that a part is complete or not begun, where there is none yet.
+abbrev pub settling : PartRows → List ℕ
+settling m = cond (eqb (m .settled) 0) (either-row (m .done) (m .idle) ∷ []) []
+
+abbrev pub settled-row : ℕ → PartRows → ℕ
+settled-row k m = cond (eqb (m .settled) 0) k (m .settled)
+
+-- A loop over a flow, whose reset is event e: begun also where only the reset's bit is set, complete where the body is not begun or complete, and then settled. The
+-- reset's guard needs the row that the body is complete, and its record the body's first event.
 abbrev pub rounds-piece : ℕ → ℕ → PartRows → Piece
 rounds-piece k e m =
-    piece (bit-row e ∷ either-row (m .begun) k ∷ not-row (k + 1) ∷ []) (part-rows (k + 1) (k + 2) (m .idle) (m .idle) (m .first)) (m .done) (m .first)
+    let settled = settled-row (k + 3) m in
+    piece (bit-row e ∷ either-row (m .begun) k ∷ not-row (k + 1) ∷ settling m) (part-rows (k + 1) (k + 2) settled settled (m .first)) (m .done) (m .first)
 
 -- Two parts, p before q: begun where either is, complete by a row of its own, `done`. The earlier part needs that the later is not begun.
 abbrev pub pair-piece : ℕ → PartRows → PartRows → ℕ → ℕ → Piece
@@ -59,13 +67,6 @@ all-piece k p q = pair-piece k p q (both-row (p .done) (q .done)) (p .done)
 -- One part of two: complete where either is. The later one needs that the earlier is not begun.
 abbrev pub one-piece : ℕ → PartRows → PartRows → Piece
 one-piece k p q = pair-piece k p q (either-row (p .done) (q .done)) (p .idle)
-
--- The row that a part is complete or not begun, where there is none yet.
-abbrev pub settling : PartRows → List ℕ
-settling m = cond (eqb (m .settled) 0) (either-row (m .done) (m .idle) ∷ []) []
-
-abbrev pub settled-row : ℕ → PartRows → ℕ
-settled-row k m = cond (eqb (m .settled) 0) k (m .settled)
 
 -- Either part or both: begun, and each part complete or not begun. k is the first row after those that settle the parts, a and b.
 abbrev pub settled-piece : ℕ → PartRows → PartRows → ℕ → ℕ → Piece

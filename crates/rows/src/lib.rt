@@ -62,6 +62,23 @@ pub fn settled(k: u16, m: PartRows) -> u16
     if m.settled == 0 { k } else { m.settled }
 }
 
+// Three rows, and then the one that it takes to say of m that it is complete or not begun.
+pub fn then_settling(a: usize, b: usize, c: usize, m: PartRows) -> Words
+    ensures { λ r. ⌜ Lists r (a ∷ b ∷ c ∷ settling m) × (r .count ≤ 6) ⌝ }
+{
+    let s = either_row(m.done, m.idle);
+    if m.settled == 0 {
+        return Words {
+            words: [a, b, c, s, 0, 0],
+            count: 4,
+        };
+    }
+    Words {
+        words: [a, b, c, 0, 0, 0],
+        count: 3,
+    }
+}
+
 // Four rows, after those that it takes to say of p and of q that they are complete or not begun.
 pub fn after_settling(p: PartRows, q: PartRows, a: usize, b: usize, c: usize, d: usize) -> Words
     ensures { λ r. ⌜ Lists r ((settling p ++ settling q) ++ (a ∷ b ∷ c ∷ d ∷ [])) × (r .count ≤ 6) ⌝ }
