@@ -1,4 +1,4 @@
--- Drawings worked through: the starred lines of document 01, and lines of our own, where the paper's drawings would not show that a constructor is misread. A drawing is
+-- Drawings worked through: the starred lines of document 01 as card 1 of document 02 changes them, and lines of our own, where the paper's drawings would not show that a constructor is misread. A drawing is
 -- given by its text, and its diagram is the one that the text is accepted with.
 use mathlib.Core.Path.{_≡_}
 use mathlib.Core.List.{List, [], _∷_, _++_, List·Memᴰ}
@@ -32,7 +32,7 @@ T = "flow(trip,1)(leaf(take)(0)loop(leaf(fill))(0)xor(leaf(send)leaf(drop))(0)le
 abbrev U : String
 U = "flow(t,1)(loop(flow(r,1)(leaf(a)(0)leaf(b)(1)))(0)leaf(c)(1))"
 
--- The starred lines of document 01.
+-- The starred lines of document 01. Card 1: "In drawing U, 0 1 3 becomes whole and is starred as such; 0 1 2 3 remains whole."
 abbrev pub table : List Drawing
 table =
     record {
@@ -43,7 +43,7 @@ table =
     ∷ record {
       text = U;
       lines =
-          whole (3 ∷ []) ∷ whole (0 ∷ 1 ∷ 2 ∷ 3 ∷ []) ∷ refused (0 ∷ 1 ∷ []) 3 ∷ refused (0 ∷ []) 3
+          whole (3 ∷ []) ∷ whole (0 ∷ 1 ∷ 2 ∷ 3 ∷ []) ∷ whole (0 ∷ 1 ∷ 3 ∷ []) ∷ refused (0 ∷ []) 3
           ∷ byte (0 ∷ 1 ∷ []) 192 ∷ byte (0 ∷ 1 ∷ 2 ∷ []) 32 ∷ byte (0 ∷ 1 ∷ 2 ∷ 3 ∷ []) 48 ∷ [];
     }
     ∷ []
@@ -74,7 +74,8 @@ ours =
     -- a 0, reset 1, b 2, c 3
     ∷ record {
       text = "flow(t,1)(xor(flow(s,1)(loop(flow(r,1)(leaf(a)(1)))(0)leaf(b)(1))leaf(c))(1))";
-      lines = whole (2 ∷ []) ∷ whole (3 ∷ []) ∷ whole (0 ∷ 1 ∷ 2 ∷ []) ∷ byte (0 ∷ 1 ∷ []) 64 ∷ refused (0 ∷ 1 ∷ []) 3 ∷ [];
+      lines =
+          whole (2 ∷ []) ∷ whole (3 ∷ []) ∷ whole (0 ∷ 1 ∷ 2 ∷ []) ∷ whole (0 ∷ 2 ∷ []) ∷ byte (0 ∷ 1 ∷ []) 64 ∷ refused (0 ∷ 1 ∷ []) 3 ∷ refused (0 ∷ []) 3 ∷ [];
     }
     -- A slip of document 01: "Calling `or` complete once some member is complete, though another begun member is halfway." a 0, b 1, c 2, d 3; and d 0, a 1, b 2, c 3
     ∷ record {
@@ -89,12 +90,30 @@ ours =
     ∷ record {
       text = "flow(t,1)(loop(flow(s,1)(loop(flow(r,1)(leaf(a)(1)))(0)leaf(b)(1)))(0)leaf(c)(1))";
       lines =
-          byte (0 ∷ 1 ∷ 2 ∷ []) 96 ∷ byte (0 ∷ 1 ∷ 2 ∷ 3 ∷ []) 16 ∷ whole (0 ∷ 1 ∷ 2 ∷ 3 ∷ 4 ∷ []) ∷ whole (0 ∷ 1 ∷ 2 ∷ 3 ∷ 0 ∷ 1 ∷ 2 ∷ 3 ∷ 4 ∷ []) ∷ [];
+          byte (0 ∷ 1 ∷ 2 ∷ []) 96 ∷ byte (0 ∷ 1 ∷ 2 ∷ 3 ∷ []) 16 ∷ whole (0 ∷ 1 ∷ 2 ∷ 3 ∷ 4 ∷ []) ∷ whole (0 ∷ 1 ∷ 2 ∷ 3 ∷ 0 ∷ 1 ∷ 2 ∷ 3 ∷ 4 ∷ [])
+          ∷ whole (0 ∷ 2 ∷ 4 ∷ []) ∷ whole (0 ∷ 2 ∷ 3 ∷ 0 ∷ 1 ∷ 2 ∷ 4 ∷ []) ∷ byte (0 ∷ 2 ∷ []) 160 ∷ byte (0 ∷ 2 ∷ 3 ∷ []) 16 ∷ refused (0 ∷ 2 ∷ []) 1 ∷ [];
     }
-    -- two rounds of U
+    -- two rounds of U, the second with its reset and without; no reset after c, and none after a reset
     ∷ record {
       text = U;
-      lines = byte (0 ∷ 1 ∷ 2 ∷ 0 ∷ []) 160 ∷ whole (0 ∷ 1 ∷ 2 ∷ 0 ∷ 1 ∷ 2 ∷ 3 ∷ []) ∷ byte (0 ∷ 1 ∷ 2 ∷ 0 ∷ 1 ∷ 2 ∷ 3 ∷ []) 48 ∷ [];
+      lines =
+          byte (0 ∷ 1 ∷ 2 ∷ 0 ∷ []) 160 ∷ whole (0 ∷ 1 ∷ 2 ∷ 0 ∷ 1 ∷ 2 ∷ 3 ∷ []) ∷ byte (0 ∷ 1 ∷ 2 ∷ 0 ∷ 1 ∷ 2 ∷ 3 ∷ []) 48
+          ∷ whole (0 ∷ 1 ∷ 2 ∷ 0 ∷ 1 ∷ 3 ∷ []) ∷ byte (0 ∷ 1 ∷ 2 ∷ 0 ∷ 1 ∷ 3 ∷ []) 240 ∷ refused (0 ∷ 1 ∷ 2 ∷ 0 ∷ []) 3
+          ∷ refused (0 ∷ 1 ∷ 3 ∷ []) 2 ∷ refused (0 ∷ 1 ∷ 3 ∷ []) 0 ∷ refused (0 ∷ 1 ∷ 2 ∷ []) 2 ∷ refused [] 2 ∷ refused (0 ∷ []) 2 ∷ [];
+    }
+    -- The loop at the end: finished between rounds and after one, and not halfway. c 0, a 1, b 2, reset 3
+    ∷ record {
+      text = "flow(t,1)(leaf(c)(1)loop(flow(r,1)(leaf(a)(0)leaf(b)(1)))(0))";
+      lines =
+          whole (0 ∷ []) ∷ whole (0 ∷ 1 ∷ 2 ∷ []) ∷ whole (0 ∷ 1 ∷ 2 ∷ 3 ∷ []) ∷ whole (0 ∷ 1 ∷ 2 ∷ 3 ∷ 1 ∷ 2 ∷ []) ∷ part (0 ∷ 1 ∷ [])
+          ∷ part (0 ∷ 1 ∷ 2 ∷ 3 ∷ 1 ∷ []) ∷ refused (0 ∷ 1 ∷ 2 ∷ []) 1 ∷ [];
+    }
+    -- The loop in an `or`, whose member is halfway while the last round is. a 0, b 1, c 2, reset 3, d 4, e 5
+    ∷ record {
+      text = "flow(t,1)(or(flow(s,1)(leaf(a)(1)loop(flow(r,1)(leaf(b)(0)leaf(c)(1)))(0))leaf(d))(0)leaf(e)(1))";
+      lines =
+          whole (4 ∷ 0 ∷ 1 ∷ 2 ∷ 5 ∷ []) ∷ whole (0 ∷ 1 ∷ 2 ∷ 3 ∷ 4 ∷ 5 ∷ []) ∷ whole (0 ∷ 1 ∷ 4 ∷ 2 ∷ 3 ∷ 1 ∷ 2 ∷ 5 ∷ []) ∷ refused (4 ∷ 0 ∷ 1 ∷ []) 5
+          ∷ refused (4 ∷ 0 ∷ 1 ∷ 2 ∷ 5 ∷ []) 3 ∷ refused [] 1 ∷ [];
     }
     ∷ []
 
