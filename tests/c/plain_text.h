@@ -1,5 +1,5 @@
-/* The calls on a text in plain C, written from document 01 alone, with memory of fixed size only: together with plain.h the baseline of
- * ./bench. A refusal is number * 2^32 + place, as the test archive of the proved library gives it.
+/* The calls on a text in plain C, written from documents 01 and 02 alone, with memory of fixed size only: together with plain.h the
+ * baseline of ./bench. A refusal is number * 2^32 + place, as the test archive of the proved library gives it.
  */
 #ifndef PLAIN_TEXT_H
 #define PLAIN_TEXT_H

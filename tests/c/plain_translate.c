@@ -87,15 +87,15 @@ static void state_of_all(struct maker *m, struct part *part) {
     part->goes_on = any_goes_on(m, part);
 }
 
+/* Says that a part is not halfway: NONE if it can never be. */
+static row settled(struct maker *m, const struct part *part) {
+    return part->complete == part->begun ? NONE : either(m, part->complete, not(m, part->begun));
+}
+
 /* Complete if some member has begun and none is halfway. */
 static void state_of_chosen(struct maker *m, struct part *part) {
     part->begun = part->complete = any_begun(m, part);
-    for (uint32_t i = part->below; i < part->below_end; i++) {
-        const struct part *member = &m->parts[i];
-        if (member->complete == member->begun) continue;
-        row settled = either(m, member->complete, not(m, member->begun));
-        part->complete = both(m, part->complete, settled);
-    }
+    for (uint32_t i = part->below; i < part->below_end; i++) part->complete = both(m, part->complete, settled(m, &m->parts[i]));
     part->goes_on = part->kind == SOME || any_goes_on(m, part);
 }
 
@@ -119,14 +119,16 @@ static void state_of_flow(struct maker *m, struct part *flow) {
     flow->goes_on = m->parts[flow->below_end - 1].goes_on;
 }
 
-/* The reset clears the flow's bits, so the flow has begun exactly within a round. A loop over a leaf is always complete. */
+/* The reset clears the flow's bits, so the flow has begun exactly within a round, and a loop over it is complete unless the flow is halfway. A
+ * loop over a leaf is always complete.
+ */
 static void state_of_loop(struct maker *m, struct part *loop) {
     const struct part *body = &m->parts[loop->below];
     loop->begun = body->begun;
     loop->goes_on = 1;
     if (body->kind != FLOW) return;
     loop->begun = either(m, m->met++, body->begun);
-    loop->complete = not(m, body->begun);
+    loop->complete = settled(m, body);
 }
 
 static enum kind kind_of_part(enum kind kind) {

@@ -1,5 +1,5 @@
-/* Plays small tables, built by hand, and fails if any answer or any byte is not as document 01 says: the drawings T and U worked through
- * there, every refusal of every call, every way in which a table can be unsound, and the smallest and the largest table.
+/* Plays small tables, built by hand, and fails if any answer or any byte is not as document 01 with card 1 of document 02 says: the drawings T and U
+ * worked through there, every refusal of every call, every way in which a table can be unsound, and the smallest and the largest table.
  *
  * Everything is played twice: with a pattern around all lent bytes, to see that nothing else is written, and with lent bytes that end
  * where their heap block ends, so that valgrind sees what is read past them.
@@ -115,13 +115,13 @@ static void build_t(struct table *t) {
     add_row(t, BIT, 4, 0);    /* 10: finished */
 }
 
-/* U: any number of rounds a 0, b 1, reset 2; then c 3. The reset clears the bits of a and b. */
+/* U: any number of rounds a 0, b 1, reset 2, the last of them with or without its reset; then c 3. The reset clears the bits of a and b. */
 static void build_u(struct table *t) {
     table_start(t, 4, 12);
     add_event(t, 4, 0, 0);    /* a */
     add_event(t, 6, 0, 0);    /* b */
-    add_event(t, 1, 0, 2);    /* reset */
-    add_event(t, 10, 0, 0);   /* c */
+    add_event(t, 10, 0, 2);   /* reset */
+    add_event(t, 9, 0, 0);    /* c */
     add_row(t, BIT, 0, 0);    /* 0: a is taken in this round */
     add_row(t, BIT, 1, 0);    /* 1: b is taken in this round */
     add_row(t, BIT, 3, 0);    /* 2: c is taken */
@@ -129,10 +129,10 @@ static void build_u(struct table *t) {
     add_row(t, NOT, 3, 0);    /* 4: a round can begin */
     add_row(t, NOT, 1, 0);    /* 5: b is still to come in this round */
     add_row(t, BOTH, 0, 5);   /* 6: after a, before b */
-    add_row(t, EITHER, 0, 1); /* 7: in the middle of a round */
-    add_row(t, NOT, 7, 0);    /* 8: between rounds */
-    add_row(t, NOT, 2, 0);    /* 9: c is still to come */
-    add_row(t, BOTH, 8, 9);   /* 10: between rounds, before c */
+    add_row(t, NOT, 6, 0);    /* 7: no round is halfway */
+    add_row(t, NOT, 2, 0);    /* 8: c is still to come */
+    add_row(t, BOTH, 7, 8);   /* 9: no round is halfway, before c */
+    add_row(t, BOTH, 1, 8);   /* 10: after b, before c */
     add_row(t, BIT, 3, 0);    /* 11: finished */
 }
 
@@ -152,8 +152,9 @@ static const struct line lines[] = {
     {'T', 1, "0244", {"0", "123", "4", "", ""}, {0, 128, 160, 168, 168}},
     {'T', 1, "021", {"0", "123", "4", "4"}, {0, 128, 160, 160}},
     {'U', 0, "3", {"03", ""}, {0, 16}},
-    {'U', 0, "0123", {"03", "1", "2", "03", ""}, {0, 128, 192, 32, 48}},
-    {'U', 1, "013", {"03", "1", "2", "2"}, {0, 128, 192, 192}},
+    {'U', 0, "0123", {"03", "1", "23", "03", ""}, {0, 128, 192, 32, 48}},
+    {'U', 0, "013", {"03", "1", "23", ""}, {0, 128, 192, 208}},
+    {'U', 1, "0132", {"03", "1", "23", "", ""}, {0, 128, 192, 208, 208}},
     {'U', 1, "03", {"03", "1", "1"}, {0, 128, 128}},
 };
 

@@ -1,5 +1,6 @@
-//! The reference's meaning of drawings, on document 01's drawings and slips,
-//! and held against a second one that lists whole runs one by one.
+//! The reference's meaning of drawings, on document 01's drawings and slips, card
+//! 1 of document 02 in force, and held against a second one that lists whole runs
+//! one by one.
 
 use crate::drawings::{accepted_text, all_nestings, nestings, Size};
 use crate::generate::{
@@ -77,11 +78,51 @@ fn drawing_u() {
     assert_eq!(seen, events.map(|(name, reset)| (name.to_string(), reset)));
     assert_whole(U, &[3]);
     assert_whole(U, &[0, 1, 2, 3]);
-    assert_turned_away(U, &[0, 1, 3]);
+    assert_whole(U, &[0, 1, 3]);
     assert_turned_away(U, &[0, 3]);
     assert_first_byte(U, &[0, 1], 192);
     assert_first_byte(U, &[0, 1, 2], 32);
     assert_first_byte(U, &[0, 1, 2, 3], 48);
+}
+
+#[test]
+fn the_last_round_goes_straight_on() {
+    assert_whole(U, &[0, 1, 2, 0, 1, 3]);
+    assert_whole(U, &[0, 1, 2, 0, 1, 2, 3]);
+    assert_first_byte(U, &[0, 1, 3], 208);
+    assert_first_byte(U, &[0, 1, 2, 0, 1, 3], 240);
+    // The reset does not come after the successor, nor twice, nor halfway.
+    assert_turned_away(U, &[0, 1, 3, 2]);
+    assert_turned_away(U, &[0, 1, 3, 0]);
+    assert_turned_away(U, &[0, 1, 2, 2]);
+    assert_turned_away(U, &[0, 2]);
+    assert_turned_away(U, &[0, 1, 2, 0, 3]);
+    // Every further round needs the reset of the one before.
+    assert_turned_away(U, &[0, 1, 0]);
+    let last = "flow(q,1)(leaf(c)(1)loop(flow(r,1)(leaf(a)(0)leaf(b)(1)))(0))";
+    assert_eq!(names(last), ["c", "a", "b", "r"]);
+    for whole in [&[0][..], &[0, 1, 2], &[0, 1, 2, 3], &[0, 1, 2, 3, 1, 2]] {
+        assert_whole(last, whole);
+    }
+    assert!(!diagram(last).whole(&[0, 1]) && !diagram(last).whole(&[0, 1, 2, 3, 1]));
+}
+
+#[test]
+fn the_last_round_inside_other_constructors() {
+    let xor = root("xor(flow(p,1)(loop(flow(r,1)(leaf(a)(1)))(0)leaf(b)(1))leaf(c))(1)");
+    assert_whole(&xor, &[0, 2]);
+    assert_turned_away(&xor, &[0, 2, 1]);
+    let or = root("or(flow(s,1)(leaf(a)(1)loop(flow(r,1)(leaf(b)(0)leaf(c)(1)))(0))leaf(d))(0)leaf(e)(1)");
+    assert_eq!(names(&or), ["a", "b", "c", "r", "d", "e"]);
+    assert_whole(&or, &[4, 0, 1, 2, 5]);
+    assert_whole(&or, &[0, 1, 2, 3, 4, 5]);
+    assert_turned_away(&or, &[4, 0, 1, 5]);
+    assert_turned_away(&or, &[4, 0, 1, 2, 5, 3]);
+    let inner = root("loop(flow(o,1)(loop(flow(i,1)(leaf(a)(1)))(0)leaf(b)(1)))(0)leaf(c)(1)");
+    assert_whole(&inner, &[0, 2, 4]);
+    assert_whole(&inner, &[0, 2, 3, 0, 1, 2, 4]);
+    assert_first_byte(&inner, &[0, 2, 3], 0b0001_0000);
+    assert_turned_away(&inner, &[0, 2, 1]);
 }
 
 #[test]
@@ -254,20 +295,29 @@ impl Lister<'_> {
         }
     }
 
+    /// A loop over a leaf: that event any number of times. A loop over a flow:
+    /// rounds, each ended by its reset, then optionally one further run.
     fn rounds(&self, body: &Node, values: &[usize]) -> Option<Lists> {
-        let mut round = self.runs(body, values)?;
-        if let Shape::Flow { name, .. } = &body.shape {
-            let reset = Lists::from([vec![self.number(&name.word, values, true)]]);
-            round = self.one_after_the_other(&round, &reset)?;
-        }
-        let mut rounds = Lists::from([vec![]]);
+        let run = self.runs(body, values)?;
+        let Shape::Flow { name, .. } = &body.shape else {
+            return self.any_number(&run);
+        };
+        let reset = Lists::from([vec![self.number(&name.word, values, true)]]);
+        let rounds = self.any_number(&self.one_after_the_other(&run, &reset)?)?;
+        let mut further = run;
+        further.insert(vec![]);
+        self.one_after_the_other(&rounds, &further)
+    }
+
+    fn any_number(&self, of: &Lists) -> Option<Lists> {
+        let mut lists = Lists::from([vec![]]);
         loop {
-            let mut more = self.one_after_the_other(&rounds, &round)?;
-            more.extend(rounds.iter().cloned());
-            if more.len() == rounds.len() {
-                return Some(rounds);
+            let mut more = self.one_after_the_other(&lists, of)?;
+            more.extend(lists.iter().cloned());
+            if more.len() == lists.len() {
+                return Some(lists);
             }
-            rounds = more;
+            lists = more;
         }
     }
 

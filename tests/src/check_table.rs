@@ -63,14 +63,16 @@ fn table_of_u() -> Vec<u8> {
         not(0),
         not(1),
         not(2),
-        // 6 to 9: guards of a, b, the reset and c.
+        // 6: no round is halfway.
+        either(3, 1),
+        // 7 to 10: guards of a, b, the reset and c.
         both(3, 5),
         both(0, 4),
         both(1, 5),
-        both(3, 5),
+        both(6, 5),
         bit(3),
     ];
-    table(&[effect(6, 0, 0), effect(7, 0, 0), effect(8, 0, 2), effect(9, 0, 0)], &rows)
+    table(&[effect(7, 0, 0), effect(8, 0, 0), effect(9, 0, 2), effect(10, 0, 0)], &rows)
 }
 
 /// Takes these events one after the other; all but the last must be taken.
@@ -114,8 +116,10 @@ fn drawing_u() {
     let table = table_of_u();
     assert_whole(&table, &[3]);
     assert_whole(&table, &[0, 1, 2, 3]);
-    assert_turned_away(&table, &[0, 1, 3], NOT_NOW);
+    assert_whole(&table, &[0, 1, 3]);
     assert_turned_away(&table, &[0, 3], NOT_NOW);
+    assert_turned_away(&table, &[0, 1, 3, 2], NOT_NOW);
+    assert_turned_away(&table, &[0, 1, 2, 2], NOT_NOW);
     for (events, byte) in [(&[0, 1][..], 192), (&[0, 1, 2], 32), (&[0, 1, 2, 3], 48)] {
         let mut record = [0; RECORD_BYTES];
         record[0] = byte;
@@ -134,8 +138,9 @@ fn numbers_past_the_events() {
 #[test]
 fn what_is_offered() {
     let table = table_of_u();
-    for (record_byte, offered) in [(0, 0b1001_0000), (128, 0b0100_0000), (192, 0b0010_0000), (32, 0b1001_0000), (48, 0)]
-    {
+    let points =
+        [(0, 0b1001_0000), (128, 0b0100_0000), (192, 0b0011_0000), (32, 0b1001_0000), (48, 0), (208, 0), (240, 0)];
+    for (record_byte, offered) in points {
         let mut record = [0; RECORD_BYTES];
         record[0] = record_byte;
         let mut out = [0xFF; RECORD_BYTES + 3];

@@ -1,5 +1,5 @@
 //! A reader and printer of diagrams, their listing and their meaning, and a
-//! player of guard tables, written from document 01 alone.
+//! player of guard tables, written from documents 01 and 02 alone.
 //!
 //! The text is cut into tokens, the tokens are made into an owned tree by
 //! recursive descent, and the rules beyond grammar are looked at on the

@@ -1,5 +1,5 @@
-//! What a drawing means, written from document 01 alone: its events, its node
-//! copies, its whole runs, and the book that is kept of a run.
+//! What a drawing means, written from documents 01 and 02 alone: its events,
+//! its node copies, its whole runs, and the book that is kept of a run.
 //!
 //! Whole runs are told without control bits. A drawing becomes an expression
 //! for the set of its whole runs, and an event turns an expression into its
@@ -142,6 +142,10 @@ enum Form {
     NonemptyChoice(Vec<Runs>),
     /// Zero or more lists of it, one after the other.
     Repeated(Runs),
+    /// Rounds of a flow, each ended by this reset, and then optionally one
+    /// further run of it without: that is nothing, or a run of the flow, after
+    /// which comes nothing more or the reset and all of this once more.
+    Rounds(Runs, usize),
 }
 
 impl Expression {
@@ -223,6 +227,13 @@ fn repeated(body: Runs) -> Runs {
     Rc::new(Expression { form: Form::Repeated(body), accepts_empty: true, within })
 }
 
+/// Every flow has a solid child and so an event: no round is empty.
+fn rounds(body: Runs, reset: usize) -> Runs {
+    assert!(!body.accepts_empty, "a flow has a run without an event");
+    let within = around(&[body.clone(), event(reset)]);
+    Rc::new(Expression { form: Form::Rounds(body, reset), accepts_empty: true, within })
+}
+
 /// These lists and the empty one.
 fn optional(part: &Runs) -> Runs {
     match part.accepts_empty {
@@ -239,7 +250,8 @@ fn around(parts: &[Runs]) -> Range<usize> {
     start..end
 }
 
-/// The whole runs of a copy, each sentence of "Events and whole runs" a line.
+/// The whole runs of a copy, each sentence of "Events and whole runs" a line,
+/// the one on a loop over a flow as card 1 changes it.
 pub fn runs_of(copy: &Copy) -> Runs {
     let below = || copy.below.iter().map(runs_of).collect::<Vec<_>>();
     match copy.kind {
@@ -248,7 +260,7 @@ pub fn runs_of(copy: &Copy) -> Runs {
         Kind::And | Kind::All(_) => interleaving(below()),
         Kind::Or | Kind::Some(_) => nonempty_choice(below()),
         Kind::Xor | Kind::One(_) => choice(below()),
-        Kind::Loop => repeated(round_of(copy)),
+        Kind::Loop => loop_of(&copy.below[0]),
     }
 }
 
@@ -256,13 +268,12 @@ fn in_order(parts: Vec<Runs>) -> Runs {
     parts.into_iter().rev().fold(done(), |then, first| sequence(first, then))
 }
 
-/// One round of a loop: its leaf's event, or a run of its flow and the reset,
-/// which is the event after those of the body.
-fn round_of(copy: &Copy) -> Runs {
-    let body = &copy.below[0];
+/// A loop over a leaf or over a flow, whose reset is the event after those of
+/// the body.
+fn loop_of(body: &Copy) -> Runs {
     match body.kind {
-        Kind::Leaf => runs_of(body),
-        _ => sequence(runs_of(body), event(body.events.end)),
+        Kind::Leaf => repeated(runs_of(body)),
+        _ => rounds(runs_of(body), body.events.end),
     }
 }
 
@@ -293,7 +304,13 @@ fn after(runs: &Runs, event: usize) -> Runs {
         Form::Choice(parts) => in_each(parts, event, |left, _| left),
         Form::NonemptyChoice(parts) => in_each(parts, event, |left, at| after_chosen(parts, at, left)),
         Form::Repeated(body) => sequence(after(body, event), runs.clone()),
+        Form::Rounds(body, reset) => sequence(after(body, event), after_a_run(*reset, runs)),
     }
+}
+
+/// What may follow a run of a loop's flow.
+fn after_a_run(reset: usize, rounds: &Runs) -> Runs {
+    optional(&sequence(event(reset), rounds.clone()))
 }
 
 /// The event is of the first, or the first is skipped as the empty list.
@@ -344,7 +361,7 @@ fn add_next(runs: &Runs, next: &mut Vec<usize>) {
         Form::Interleaving(parts) | Form::Choice(parts) | Form::NonemptyChoice(parts) => {
             parts.iter().for_each(|part| add_next(part, next));
         }
-        Form::Repeated(body) => add_next(body, next),
+        Form::Repeated(body) | Form::Rounds(body, _) => add_next(body, next),
     }
 }
 
@@ -443,7 +460,7 @@ pub(crate) fn forms(runs: &Runs) -> usize {
         Form::Interleaving(parts) | Form::Choice(parts) | Form::NonemptyChoice(parts) => {
             parts.iter().map(forms).sum()
         }
-        Form::Repeated(body) => forms(body),
+        Form::Repeated(body) | Form::Rounds(body, _) => forms(body),
     }
 }
 

@@ -1,8 +1,8 @@
-//! Printing and translation in plain Rust, written from document 01 alone: the
-//! baseline that the proved ones are timed against. They do the same job, from
-//! the bytes of a text to the bytes of a lent buffer, with all checks, after the
-//! reference's reader. Plain C of all calls is in `c`, and `calls` has all calls
-//! of the three side by side.
+//! Printing and translation in plain Rust, written from documents 01 and 02
+//! alone: the baseline that the proved ones are timed against. They do the same
+//! job, from the bytes of a text to the bytes of a lent buffer, with all checks,
+//! after the reference's reader. Plain C of all calls is in `c`, and `calls` has
+//! all calls of the three side by side.
 //!
 //! The tree of an accepted text is gone through twice. The first time gives
 //! each node copy, here a part, rows for "it has begun" and "it is complete".
@@ -316,13 +316,13 @@ impl Table<'_> {
         State { begun, complete: Some(complete), goes_on: members.iter().any(|member| member.state.goes_on) }
     }
 
-    /// Says that a member is not halfway. None if it can never be.
-    fn settled(&mut self, member: &Part) -> Option<Row> {
-        if member.state.complete == Some(member.state.begun) {
+    /// Says that a part is not halfway. None if it can never be.
+    fn settled(&mut self, part: &Part) -> Option<Row> {
+        if part.state.complete == Some(part.state.begun) {
             return None;
         }
-        let blank = self.not(member.state.begun);
-        Some(self.either(member.state.complete, blank))
+        let blank = self.not(part.state.begun);
+        Some(self.either(part.state.complete, blank))
     }
 
     fn any_begun(&mut self, members: &[Part]) -> Row {
@@ -331,10 +331,11 @@ impl Table<'_> {
     }
 
     /// A loop over a flow. The reset clears the flow's bits, so the flow has
-    /// begun exactly within a round.
+    /// begun exactly within a round, and the loop is complete unless the flow is
+    /// halfway.
     fn rounds(&mut self, flow: &Part, reset: Row) -> State {
         let begun = self.either(Some(reset), flow.state.begun);
-        State { begun, complete: Some(self.not(flow.state.begun)), goes_on: true }
+        State { begun, complete: self.settled(flow), goes_on: true }
     }
 }
 

@@ -1,5 +1,6 @@
-//! Fixed texts: those of document 01 with the very answers that it gives, and
-//! ones at the edges and the limits, which random ones hardly come to.
+//! Fixed texts: those of document 01 with the very answers that it gives, card 1
+//! of document 02 in force, and ones at the edges and the limits, which random
+//! ones hardly come to.
 
 use crate::calls::random_calls;
 use crate::case::{Case, RunCase, TextCase};
@@ -40,16 +41,16 @@ fn play(text: &str, events: &[u64]) -> (u8, u8, [u8; RECORD_BYTES]) {
 
 #[test]
 fn runs_worked_through() {
-    let whole: [(&str, &[u64]); 4] = [(T, &[0, 2, 4]), (T, &[0, 1, 1, 3, 4]), (U, &[3]), (U, &[0, 1, 2, 3])];
+    let whole: [(&str, &[u64]); 5] =
+        [(T, &[0, 2, 4]), (T, &[0, 1, 1, 3, 4]), (U, &[3]), (U, &[0, 1, 2, 3]), (U, &[0, 1, 3])];
     for (text, events) in whole {
         let (answer, finished, _) = play(text, events);
         assert_eq!((answer, finished), (TAKEN, FINISHED), "{events:?}");
     }
-    let turned_away: [(&str, &[u64], u8); 5] = [
+    let turned_away: [(&str, &[u64], u8); 4] = [
         (T, &[0, 2, 3], NOT_FINISHED),
         (T, &[0, 2, 4, 4], FINISHED),
         (T, &[0, 2, 1], NOT_FINISHED),
-        (U, &[0, 1, 3], NOT_FINISHED),
         (U, &[0, 3], NOT_FINISHED),
     ];
     for (text, events, finished) in turned_away {
@@ -209,6 +210,8 @@ fn slips() -> Vec<String> {
         root("leaf(d)(1)or(flow(p,1)(leaf(a)(0)leaf(b)(1))leaf(c))(0)"),
         root("or(leaf(a)leaf(b))(0)leaf(c)(1)"),
         root("loop(flow(o,1)(loop(flow(i,1)(leaf(a)(1)))(0)leaf(b)(1)))(0)leaf(c)(1)"),
+        root("leaf(c)(1)loop(flow(r,1)(leaf(a)(0)leaf(b)(1)))(0)"),
+        root("or(flow(s,1)(leaf(a)(1)loop(flow(r,1)(leaf(b)(0)leaf(c)(1)))(0))leaf(d))(0)leaf(e)(1)"),
     ]
 }
 

@@ -1,5 +1,5 @@
-//! Counts which situations a list of calls met, the slips of document 01 among
-//! them. The library is not asked.
+//! Counts which situations a list of calls met, the slips of document 01 and the
+//! last rounds of card 1 among them. The library is not asked.
 
 use crate::calls::{path_to, Around};
 use crate::case::Call;
@@ -7,7 +7,7 @@ use reference::kit::Counts;
 use reference::meaning::{holds, runs_of, Book, Copy, Diagram, FINISHED, NOT_NOW, TAKEN};
 use reference::Kind;
 
-pub const SITUATIONS: [&str; 11] = [
+pub const SITUATIONS: [&str; 22] = [
     "reset taken",
     "loop reset inside an xor",
     "loop reset inside an xor, other branch tried",
@@ -19,6 +19,17 @@ pub const SITUATIONS: [&str; 11] = [
     "event taken again in a later round",
     "event tried after a whole run",
     "list of over 300 events taken",
+    "whole run with the last reset, loop in an xor",
+    "whole run with the last reset, loop in an or",
+    "whole run with the last reset, loop in a loop",
+    "whole run without the last reset, loop in an xor",
+    "whole run without the last reset, loop in an or",
+    "whole run without the last reset, loop in a loop",
+    "event taken after a round without its reset",
+    "loop's body halfway, asked whether finished",
+    "loop's body halfway, successor tried",
+    "reset tried after the successor has begun",
+    "reset tried again at once",
 ];
 
 /// Beyond this number of events the questions that take long are not asked.
@@ -34,6 +45,25 @@ pub fn watch(diagram: &Diagram, calls: &[Call], counts: &mut Counts) {
         }
     }
     counts.add_if(book.taken().len() > 300, "list of over 300 events taken");
+    if book.finished() == FINISHED {
+        watch_whole(&diagram.root, &mut Vec::new(), &book, counts);
+    }
+}
+
+/// A whole run: how the last round of each loop over a flow ended, by what
+/// stands around the loop.
+fn watch_whole(copy: &Copy, around: &mut Vec<Kind>, book: &Book, counts: &mut Counts) {
+    if let Some(body) = body_of(copy).filter(|_| is_begun(copy, book)) {
+        let end = if is_begun(body, book) { "without" } else { "with" };
+        let kinds: [(fn(Kind) -> bool, &str); 3] = [(is_xor, "an xor"), (is_or, "an or"), (is_loop, "a loop")];
+        for (is_kind, title) in kinds {
+            let inside = around.iter().any(|kind| is_kind(*kind));
+            counts.add_if(inside, &format!("whole run {end} the last reset, loop in {title}"));
+        }
+    }
+    around.push(copy.kind);
+    copy.below.iter().for_each(|below| watch_whole(below, around, book, counts));
+    around.pop();
 }
 
 fn watch_question(diagram: &Diagram, book: &Book, counts: &mut Counts) {
@@ -41,6 +71,8 @@ fn watch_question(diagram: &Diagram, book: &Book, counts: &mut Counts) {
     let watched = diagram.events.len() <= WATCHED_EVENTS;
     let halfway = watched && any_copy(&diagram.root, &|copy| is_halfway(copy, diagram, book));
     counts.add_if(halfway, "or with a member halfway, asked whether finished");
+    let in_a_round = watched && any_copy(&diagram.root, &|copy| is_round_halfway(copy, diagram, book));
+    counts.add_if(in_a_round, "loop's body halfway, asked whether finished");
 }
 
 fn watch_step(call: &str, diagram: &Diagram, book: &mut Book, event: u64, counts: &mut Counts) {
@@ -63,6 +95,9 @@ fn watch_taken(diagram: &Diagram, book: &Book, event: usize, cleared_resets: boo
     counts.add_if(reset && is_inside_xor(diagram, event), "loop reset inside an xor");
     counts.add_if(cleared_resets, "inner reset's bit cleared by the outer reset");
     counts.add_if(before.contains(&event), "event taken again in a later round");
+    let in_a_round = |copy: &Copy| body_of(copy).is_some_and(|body| is_begun(body, book));
+    let gone_on = children_before(&path_to(&diagram.root, event)).any(in_a_round);
+    counts.add_if(gone_on, "event taken after a round without its reset");
 }
 
 fn watch_refused(diagram: &Diagram, book: &Book, event: usize, counts: &mut Counts) {
@@ -70,8 +105,16 @@ fn watch_refused(diagram: &Diagram, book: &Book, event: usize, counts: &mut Coun
     counts.add_if(shut_by_reset(&path, diagram, book), "loop reset inside an xor, other branch tried");
     counts.add_if(book.is_set(event) && successor_begun(&path, book), "leaf tried again after its successor");
     counts.add_if(is_late_member(&path, book), "or member tried after the successor has begun");
-    let halfway = diagram.events.len() <= WATCHED_EVENTS && predecessor_halfway(&path, diagram, book);
+    let watched = diagram.events.len() <= WATCHED_EVENTS;
+    let halfway = watched && children_before(&path).any(|child| is_halfway(child, diagram, book));
     counts.add_if(halfway, "or with a member halfway, successor tried");
+    let in_a_round = watched && children_before(&path).any(|child| is_round_halfway(child, diagram, book));
+    counts.add_if(in_a_round, "loop's body halfway, successor tried");
+    if let Some(body) = path.last().and_then(|around| body_of(around.copy)).filter(|body| body.events.end == event) {
+        let complete = watched && is_begun(body, book) && is_complete(body, diagram, book);
+        counts.add_if(complete && successor_begun(&path, book), "reset tried after the successor has begun");
+        counts.add_if(book.taken().last() == Some(&event), "reset tried again at once");
+    }
 }
 
 fn is_or(kind: Kind) -> bool {
@@ -80,6 +123,15 @@ fn is_or(kind: Kind) -> bool {
 
 fn is_xor(kind: Kind) -> bool {
     matches!(kind, Kind::Xor | Kind::One(_))
+}
+
+fn is_loop(kind: Kind) -> bool {
+    kind == Kind::Loop
+}
+
+/// The flow of a loop over a flow.
+fn body_of(copy: &Copy) -> Option<&Copy> {
+    copy.below.first().filter(|body| is_loop(copy.kind) && body.kind == Kind::Flow)
 }
 
 /// Whether a bit of the copy is set.
@@ -133,11 +185,20 @@ fn is_late_member(path: &[Around], book: &Book) -> bool {
     })
 }
 
-/// In a flow around, a child left of that with the event is an or with a
-/// member halfway.
-fn predecessor_halfway(path: &[Around], diagram: &Diagram, book: &Book) -> bool {
+/// In the flows around, the children left of that with the event.
+fn children_before<'d>(path: &[Around<'d>]) -> impl Iterator<Item = &'d Copy> {
     let flows = path.iter().filter(|around| around.copy.kind == Kind::Flow);
-    flows.flat_map(|around| &around.copy.below[..around.way]).any(|child| is_halfway(child, diagram, book))
+    flows.flat_map(|around| &around.copy.below[..around.way]).collect::<Vec<_>>().into_iter()
+}
+
+/// A loop over a flow in the middle of a round.
+fn is_round_halfway(copy: &Copy, diagram: &Diagram, book: &Book) -> bool {
+    body_of(copy).is_some_and(|body| is_begun(body, book) && !is_complete(body, diagram, book))
+}
+
+/// The events of the copy in this round are a whole run of it.
+fn is_complete(copy: &Copy, diagram: &Diagram, book: &Book) -> bool {
+    holds(&runs_of(copy), &latest(copy, diagram, book))
 }
 
 /// An or with a member that is complete and one that is begun but not.
@@ -146,7 +207,7 @@ fn is_halfway(copy: &Copy, diagram: &Diagram, book: &Book) -> bool {
         return false;
     }
     let begun: Vec<&Copy> = copy.below.iter().filter(|member| is_begun(member, book)).collect();
-    let complete = |member: &&&Copy| holds(&runs_of(member), &latest(member, diagram, book));
+    let complete = |member: &&&Copy| is_complete(member, diagram, book);
     begun.len() > 1 && (1..begun.len()).contains(&begun.iter().filter(complete).count())
 }
 
