@@ -52,7 +52,7 @@ fn the_reference_prints_what_the_course_shows() {
         let input = fs::read(format!("{ROOT}/{file}")).unwrap();
         assert_eq!(String::from_utf8(played(&input)).unwrap(), *shown, "the course at {file}");
     }
-    assert!(runs.len() >= 11, "only {} runs in the course", runs.len());
+    assert!(runs.len() >= 14, "only {} runs in the course", runs.len());
 }
 
 /// Where the course shows a run, the file it names is a drawing and events.
@@ -72,7 +72,7 @@ fn every_exercise_is_answered_by_a_run() {
     let exercises = part(&course, "## To try");
     let answers = part(&course, "## Answers");
     let count = (1..).take_while(|number| exercises.contains(&format!("\n{number}. "))).count();
-    assert!(count >= 5, "only {count} exercises");
+    assert!(count >= 6, "only {count} exercises");
     for number in 1..=count {
         let answer = part(answers, &format!("### To {number}"));
         assert!(!runs_in(answer).is_empty(), "no run answers exercise {number}");
@@ -85,7 +85,7 @@ fn every_exercise_is_answered_by_a_run() {
 fn the_exercises_come_out_as_told() {
     let course = course();
     let answers = part(&course, "## Answers");
-    let told: [(usize, usize, &[&str]); 8] = [
+    let told: [(usize, usize, &[&str]); 11] = [
         // `free` right after `take`; `fill` as often as one likes, its bit set
         (1, 0, &["take: done\nbits [0 take]\nnext [1 fill] [2 send] [3 drop]\nfree: refused 15 0\n"]),
         (1, 0, &[FILL, FILL]),
@@ -99,6 +99,10 @@ fn the_exercises_come_out_as_told() {
         // a buffer freed twice while the other waits
         (5, 0, &["\nfree 0: done\n", "\nfree 0: refused 15 0\n", "\nsleep: refused 15 0\n", "\nfree 1: done\n"]),
         (5, 0, &["\nfree 1: done\n", "\nsleep: done\n", "\nfinished\n"]),
+        // a loop at the end: one reset after a round, none after that; over after a run without it, and not halfway
+        (6, 0, &["\nsend: done\n", "\nreset burst: done\n", "\nreset burst: refused 15 0\n"]),
+        (6, 0, &["\nreset burst: refused 15 0\n", "\nsend: done\n", "\nfinished\n"]),
+        (6, 1, &["\nreset burst: done\n", "\nload: done\n", "\nnot finished\n"]),
     ];
     for (exercise, run, lines) in told {
         let answer = part(answers, &format!("### To {exercise}"));

@@ -49,8 +49,11 @@ fn inputs_worked_through() {
     assert_prints(&program, &[&run(T, "take")], format!("{begin}{double}not finished\n").as_bytes());
     assert_prints(&program, &[&run(T, "")], format!("{begin}not finished\n").as_bytes());
     let rounds = "events 4 copies 6\nbits\nnext [0 a] [3 c]\na: done\nbits [0 a]\nnext [1 b]\n1: done\nbits [0 a] [1 b]\n\
-                  next [2 reset r]\nreset r: done\nbits [2 reset r]\nnext [0 a] [3 c]\n3: done\nbits [2 reset r] [3 c]\nnext\nfinished\n";
+                  next [2 reset r] [3 c]\nreset r: done\nbits [2 reset r]\nnext [0 a] [3 c]\n3: done\nbits [2 reset r] [3 c]\nnext\nfinished\n";
     assert_prints(&program, &[&run(U, "a\n1\nreset r\n3\n")], rounds.as_bytes());
+    let straight_on = "events 4 copies 6\nbits\nnext [0 a] [3 c]\na: done\nbits [0 a]\nnext [1 b]\nb: done\nbits [0 a] [1 b]\n\
+                       next [2 reset r] [3 c]\nc: done\nbits [0 a] [1 b] [3 c]\nnext\nfinished\n";
+    assert_prints(&program, &[&run(U, "a\nb\nc\n")], straight_on.as_bytes());
     assert_prints(&program, &[b""], b"refused 5 0\n");
     assert_prints(&program, &[b"\n\n0\n"], b"refused 5 1\n");
 }
