@@ -17,7 +17,7 @@ use Rattle.plan.specs.declared.PartRows.{PartRows}
 use Rattle.plan.specs.declared.Needs.{Needs}
 use Rattle.plan.proofs.Says.{Lower, Below}
 use Rattle.layout.proofs.Decoded.{Fields, bit-fields, not-fields, both-fields, either-fields}
-use Rattle.plan.proofs.Within.{lower-join, below-more, settled-below, join-length, plan-below}
+use Rattle.plan.proofs.Within.{lower-join, below-more, settled-below, rounds-below, join-length, plan-below}
 use Rattle.plan.proofs.Gates.{gates-below}
 
 -- ---- one row
@@ -198,6 +198,6 @@ guards-lower n (rounds p r l) u k m lo num few c g v b h =
     let pa = plan-of p u in
     let o = rounds-piece (u + length (pa .words)) r (pa .part) in
     let z = length-append (pa .words) (o .words) in
-    let x = plan-below p u lo (num .0) g in
-    both-first n k (guards-of p u (suc k) m .words) m (pa .part .done) b (omega (arith, x .its-done)) (omega arith)
+    let x = rounds-below (u + length (pa .words)) lo r (pa .part) (plan-below p u lo (num .0) g) in
+    both-first n k (guards-of p u (suc k) m .words) _ _ (omega (arith, x .1)) (omega (arith, x .1)) (omega arith)
     (guards-lower n p u (suc k) m lo (num .0) (omega arith) c g (omega arith) (omega arith) (omega arith))

@@ -76,10 +76,14 @@ leaf-below : (k lo e done : ℕ) → 3 ≤ k → done ≤ k → e ≡ lo → Bel
 leaf-below k lo e done h d q =
     record { its-begun = omega arith; its-idle = omega arith; its-done = omega arith; its-settled = omega arith; its-first = q }
 
-rounds-below : (k lo e : ℕ) (m : PartRows) → Below k lo m → Below (k + length (rounds-piece k e m .words)) lo (rounds-piece k e m .part)
+-- The rows of a loop over a flow, and the row that its reset needs.
+pub rounds-below : (k lo e : ℕ) (m : PartRows) → Below k lo m → let p = rounds-piece k e m in
+    let n = k + length (p .words) in Below n lo (p .part) × (p .needs .later < n)
 rounds-below k lo e m b =
-    let d = settled-below (k + 3) lo m (below-more k (k + 3) lo m (omega arith) b) in
-    record { its-begun = omega arith; its-idle = omega arith; its-done = omega arith; its-settled = omega arith; its-first = b .its-first }
+    let d = settled-below (k + 3) lo m (below-more k (k + 3) lo m (omega arith) b) in (
+      record { its-begun = omega arith; its-idle = omega arith; its-done = omega arith; its-settled = omega arith; its-first = b .its-first },
+      omega arith,
+    )
 
 three-below : (k lo e : ℕ) → e ≡ lo → Below (k + 3) lo (part-rows k (k + 1) (k + 2) 0 e)
 three-below k lo e q =
@@ -111,4 +115,4 @@ plan-below (again n l) k lo h g = leaf-below k lo n 2 g (omega arith) h
 plan-below (rounds p r l) k lo h g =
     let a = plan-of p k in
     rw (length-append (a .words) (rounds-piece (k + length (a .words)) r (a .part) .words))
-    (below-more _ _ lo _ (omega arith) (rounds-below (k + length (a .words)) lo r (a .part) (plan-below p k lo (h .0) g)))
+    (below-more _ _ lo _ (omega arith) (rounds-below (k + length (a .words)) lo r (a .part) (plan-below p k lo (h .0) g) .0))

@@ -90,8 +90,9 @@ guards-of (join j p q) u k m =
     join-guards ws later (guards-of p u (k + length ws + length (later .words)) (earlier-gate j k m))
 guards-of (again n l) u k m = guards [] (event-record m 0 0 ∷ [])
 guards-of (rounds p r l) u k m =
-    guards (both-row m (plan-of p u .part .done) ∷ guards-of p u (suc k) m .words)
-    (guards-of p u (suc k) m .records ++ (event-record k (plan-of p u .part .first) (r - plan-of p u .part .first) ∷ []))
+    let n = rounds-piece (u + length (plan-of p u .words)) r (plan-of p u .part) .needs in
+    let body = guards-of p u (suc k) m in
+    guards (both-row m (n .later) ∷ body .words) (body .records ++ (event-record k (n .earlier) (r - n .earlier) ∷ []))
 
 -- ---- the whole table
 -- The first row of the second pass.

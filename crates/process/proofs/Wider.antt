@@ -8,7 +8,7 @@ use Rattle.diagram.specs.Count.{flow-events}
 use Rattle.diagram.specs.Drawings.{U}
 use Rattle.process.specs.Process.{Joint, seq, and, or, xor, Process, event, join, again, rounds}
 use Rattle.process.specs.Expand.{expand, flow-process}
-use Rattle.process.specs.Runs.{Runs, Then, Rounds, stop, more, Joined, Whole}
+use Rattle.process.specs.Runs.{Runs, Then, Rounds, stop, more, Joined, Whole, Begins}
 use Rattle.process.specs.Before.{Whole-before}
 
 -- All runs of the first set are runs of the second.
@@ -35,6 +35,18 @@ still-whole (join j p q) w h =
     joined-wider j (Whole-before p) (Whole-before q) (Whole p) (Whole q) (still-whole p) (still-whole q) w h
 still-whole (again n l) w h = h
 still-whole (rounds p r l) w h = (w, [], rounds-wider (Whole-before p) (Whole p) r (still-whole p) h, inl refl, sym (append-nil w))
+
+-- What began a whole run begins one still: a unit that takes every reset is let through as before.
+pub still-begins : (p : Process) (w v : List ℕ) → Whole-before p (w ++ v) → Begins p w
+still-begins p w v h = (v, still-whole p (w ++ v) h)
+
+-- U: "0 1 2 3 remains whole".
+pub remains-whole : Whole-before (expand U) (0 ∷ 1 ∷ 2 ∷ 3 ∷ []) × Whole (expand U) (0 ∷ 1 ∷ 2 ∷ 3 ∷ [])
+unfolding Whole-before flow-process flow-events
+remains-whole =
+    let before : Whole-before (expand U) (0 ∷ 1 ∷ 2 ∷ 3 ∷ []) =
+    (0 ∷ 1 ∷ 2 ∷ [], 3 ∷ [], more (0 ∷ 1 ∷ []) [] (0 ∷ [], 1 ∷ [], refl, refl, refl) stop refl, refl, refl) in
+    (before, still-whole (expand U) (0 ∷ 1 ∷ 2 ∷ 3 ∷ []) before)
 
 -- U: "0 1 3 becomes whole". By document 01 alone it was not: no reset stands before 3.
 abbrev Body : Runs
