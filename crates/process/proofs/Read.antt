@@ -1,15 +1,16 @@
--- The process of a diagram has the runs of document 01's sentences, for any number of children, members and copies.
+-- The process of a diagram has the runs of document 01's sentences, for any number of children, members and copies, and those of card 1 for its loops.
 use mathlib.Core.Path.{_≡_, refl, sym, _∙_, ap, subst}
 use mathlib.Core.Logic.{_⊎_, inl, inr, _↔_, Iff·trans, Iff·symm, Iff·rfl}
 use mathlib.Core.Bool.{Bool}
 use mathlib.Core.List.{List, [], _∷_, _++_, append-nil, cons≢nil}
 use Prim.Native.Nat.{ℕ, zero, suc, _+_, _-_, _*_}
 use native.Mathlib.Omega.{arith}
-use Rattle.diagram.specs.Tree.{Name, Way, all, some, one, flow, Children, none, next, Child, group, replicator, Member, Members, end, also}
-use Rattle.diagram.specs.Count.{child-events, member-events}
+use lib.Dec.{eqb}
+use Rattle.diagram.specs.Tree.{Name, Way, all, some, one, Flow, flow, Children, none, next, Child, loop, group, replicator, Member, leaf, inner, Members, end, also}
+use Rattle.diagram.specs.Count.{flow-events, child-events, member-events}
 use Rattle.process.specs.Process.{Joint, seq, and, or, xor, Process, join}
 use Rattle.process.specs.Expand.{joint, copies, flow-process, children-process, child-process, member-process, members-process}
-use Rattle.process.specs.Runs.{Runs, Then, Both, Either, Or, Mix, Joined, Whole}
+use Rattle.process.specs.Runs.{Runs, Then, Both, Either, Or, Mix, All, Loop, Joined, Whole}
 use Rattle.process.specs.Readings.{InOrder, Interleaved, Choice, nothing, pick, leave, SomeOf, OneOf, Several, children-parts, members-parts, copies-parts}
 use Rattle.process.proofs.Lists.{mix-all-l, mix-append}
 use Rattle.process.proofs.Joins.{Same, Groups, then-groups, both-groups, either-groups, or-groups, from-left, to-right, left-under, left-snoc, regroup}
@@ -180,3 +181,14 @@ replicator-read y par n m vs e w =
     let qs = copies-parts m vs e 1 n in
     let z : suc n - 1 ≡ n = omega arith in
     rw z (Iff·trans (copies-left (joint y) m vs e n w) (Iff·trans (regroup (Joined (joint y)) (grouped (joint y)) (Whole p) qs w) (several y p qs w)))
+
+-- "A loop over a leaf: that event zero or more times."
+pub leaf-loop-read : (n : Name) (vs : List ℕ) (e : ℕ) → Same (Whole (child-process (loop (leaf n)) vs e)) (All (eqb e))
+unfolding Whole child-process
+leaf-loop-read n vs e w = Iff·rfl
+
+-- Card 1: rounds of the flow, each ended by the loop's reset, the event directly after those of the flow, and then optionally one further run without it.
+pub flow-loop-read : (f : Flow) (vs : List ℕ) (e : ℕ)
+    → Same (Whole (child-process (loop (inner f)) vs e)) (Loop (Whole (flow-process f vs e)) (e + flow-events f))
+unfolding Whole child-process
+flow-loop-read f vs e w = Iff·rfl
