@@ -95,8 +95,8 @@ fn watch_taken(diagram: &Diagram, book: &Book, event: usize, cleared_resets: boo
     counts.add_if(reset && is_inside_xor(diagram, event), "loop reset inside an xor");
     counts.add_if(cleared_resets, "inner reset's bit cleared by the outer reset");
     counts.add_if(before.contains(&event), "event taken again in a later round");
-    let in_a_round = |copy: &Copy| body_of(copy).is_some_and(|body| is_begun(body, book));
-    let gone_on = children_before(&path_to(&diagram.root, event)).any(in_a_round);
+    let in_a_round = |copy: &&Copy| body_of(copy).is_some_and(|body| is_begun(body, book));
+    let gone_on = children_before(&path_to(&diagram.root, event)).iter().any(in_a_round);
     counts.add_if(gone_on, "event taken after a round without its reset");
 }
 
@@ -106,15 +106,22 @@ fn watch_refused(diagram: &Diagram, book: &Book, event: usize, counts: &mut Coun
     counts.add_if(book.is_set(event) && successor_begun(&path, book), "leaf tried again after its successor");
     counts.add_if(is_late_member(&path, book), "or member tried after the successor has begun");
     let watched = diagram.events.len() <= WATCHED_EVENTS;
-    let halfway = watched && children_before(&path).any(|child| is_halfway(child, diagram, book));
+    let before = children_before(&path);
+    let halfway = watched && before.iter().any(|child| is_halfway(child, diagram, book));
     counts.add_if(halfway, "or with a member halfway, successor tried");
-    let in_a_round = watched && children_before(&path).any(|child| is_round_halfway(child, diagram, book));
+    let in_a_round = watched && before.iter().any(|child| is_round_halfway(child, diagram, book));
     counts.add_if(in_a_round, "loop's body halfway, successor tried");
-    if let Some(body) = path.last().and_then(|around| body_of(around.copy)).filter(|body| body.events.end == event) {
-        let complete = watched && is_begun(body, book) && is_complete(body, diagram, book);
-        counts.add_if(complete && successor_begun(&path, book), "reset tried after the successor has begun");
+    if diagram.events[event].reset {
+        let late = watched && is_round_over(&path, diagram, book) && successor_begun(&path, book);
+        counts.add_if(late, "reset tried after the successor has begun");
         counts.add_if(book.taken().last() == Some(&event), "reset tried again at once");
     }
+}
+
+/// At a reset: the body of its loop is complete.
+fn is_round_over(path: &[Around], diagram: &Diagram, book: &Book) -> bool {
+    let body = path.last().and_then(|around| body_of(around.copy)).expect("a reset is a loop's");
+    is_begun(body, book) && is_complete(body, diagram, book)
 }
 
 fn is_or(kind: Kind) -> bool {
@@ -186,9 +193,9 @@ fn is_late_member(path: &[Around], book: &Book) -> bool {
 }
 
 /// In the flows around, the children left of that with the event.
-fn children_before<'d>(path: &[Around<'d>]) -> impl Iterator<Item = &'d Copy> {
+fn children_before<'d>(path: &[Around<'d>]) -> Vec<&'d Copy> {
     let flows = path.iter().filter(|around| around.copy.kind == Kind::Flow);
-    flows.flat_map(|around| &around.copy.below[..around.way]).collect::<Vec<_>>().into_iter()
+    flows.flat_map(|around| &around.copy.below[..around.way]).collect()
 }
 
 /// A loop over a flow in the middle of a round.
