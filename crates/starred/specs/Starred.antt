@@ -93,13 +93,14 @@ ours =
           byte (0 ∷ 1 ∷ 2 ∷ []) 96 ∷ byte (0 ∷ 1 ∷ 2 ∷ 3 ∷ []) 16 ∷ whole (0 ∷ 1 ∷ 2 ∷ 3 ∷ 4 ∷ []) ∷ whole (0 ∷ 1 ∷ 2 ∷ 3 ∷ 0 ∷ 1 ∷ 2 ∷ 3 ∷ 4 ∷ [])
           ∷ whole (0 ∷ 2 ∷ 4 ∷ []) ∷ whole (0 ∷ 2 ∷ 3 ∷ 0 ∷ 1 ∷ 2 ∷ 4 ∷ []) ∷ byte (0 ∷ 2 ∷ []) 160 ∷ byte (0 ∷ 2 ∷ 3 ∷ []) 16 ∷ refused (0 ∷ 2 ∷ []) 1 ∷ [];
     }
-    -- two rounds of U, the second with its reset and without; no reset after c, and none after a reset
+    -- two rounds of U, the second with its reset and without; none without the reset of the one before; no reset after c, after a reset, or halfway
     ∷ record {
       text = U;
       lines =
           byte (0 ∷ 1 ∷ 2 ∷ 0 ∷ []) 160 ∷ whole (0 ∷ 1 ∷ 2 ∷ 0 ∷ 1 ∷ 2 ∷ 3 ∷ []) ∷ byte (0 ∷ 1 ∷ 2 ∷ 0 ∷ 1 ∷ 2 ∷ 3 ∷ []) 48
           ∷ whole (0 ∷ 1 ∷ 2 ∷ 0 ∷ 1 ∷ 3 ∷ []) ∷ byte (0 ∷ 1 ∷ 2 ∷ 0 ∷ 1 ∷ 3 ∷ []) 240 ∷ refused (0 ∷ 1 ∷ 2 ∷ 0 ∷ []) 3
-          ∷ refused (0 ∷ 1 ∷ 3 ∷ []) 2 ∷ refused (0 ∷ 1 ∷ 3 ∷ []) 0 ∷ refused (0 ∷ 1 ∷ 2 ∷ []) 2 ∷ refused [] 2 ∷ refused (0 ∷ []) 2 ∷ [];
+          ∷ refused (0 ∷ 1 ∷ []) 0 ∷ refused (0 ∷ 1 ∷ 3 ∷ []) 2 ∷ refused (0 ∷ 1 ∷ 3 ∷ []) 0 ∷ refused (0 ∷ 1 ∷ 2 ∷ []) 2 ∷ refused [] 2 ∷ refused (0 ∷ []) 2
+          ∷ [];
     }
     -- The loop at the end: finished between rounds and after one, and not halfway. c 0, a 1, b 2, reset 3
     ∷ record {
