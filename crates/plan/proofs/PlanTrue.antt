@@ -22,8 +22,7 @@ use Rattle.plan.proofs.Says.{Obeys, PartAgrees, Below}
 use Rattle.layout.proofs.Decoded.{bit-says, not-says, both-says, either-says}
 use Rattle.plan.proofs.Within.{obeys-split, below-more, settled-below, join-length, plan-below}
 
--- A loop over a flow is complete where its body is not begun or complete, and then settled: it is settled where its body is. The body is begun by a, complete by b; c is
--- the reset's bit.
+-- A loop over a flow is settled where its body is, for it is complete then. The body is begun by a, complete by b; c is the reset's bit.
 loop-settled : (a b c : Bool) → (b || not a) ≡ ((not a || b) || not (a || c))
 loop-settled true b c = refl
 loop-settled false b c = or-true b

@@ -48,7 +48,7 @@ settling m = cond (eqb (m .settled) 0) (either-row (m .done) (m .idle) ∷ []) [
 abbrev pub settled-row : ℕ → PartRows → ℕ
 settled-row k m = cond (eqb (m .settled) 0) k (m .settled)
 
--- A loop over a flow, whose reset is event e: begun also where only the reset's bit is set, complete where the body is not begun or complete, and then settled. The
+-- A loop over a flow, whose reset is event e: begun also where only the reset's bit is set, complete, and so settled, where the body is complete or not begun. The
 -- reset's guard needs the row that the body is complete, and its record the body's first event.
 abbrev pub rounds-piece : ℕ → ℕ → PartRows → Piece
 rounds-piece k e m =

@@ -1,5 +1,5 @@
--- Whole runs by document 01 alone, before card 1 of document 02: the modem team pays a message for each reset, and a run that pays for the last one too is held against
--- this. It differs from `Runs.Whole` in a loop over a flow, and in nothing else.
+-- Whole runs by document 01 alone, before card 1 of document 02: for the statement that every whole run of before is one still. It differs
+-- from `Runs.Whole` in a loop over a flow, and in nothing else.
 use mathlib.Core.Path.{_≡_}
 use mathlib.Core.List.{[], _∷_}
 use lib.Dec.{eqb}

@@ -1,5 +1,5 @@
--- Drawings worked through: the starred lines of document 01 as card 1 of document 02 changes them, and lines of our own, where the paper's drawings would not show that a constructor is misread. A drawing is
--- given by its text, and its diagram is the one that the text is accepted with.
+-- Drawings worked through: the starred lines of document 01 as card 1 of document 02 changes them, and lines of our own, where the paper's drawings would not show that
+-- a constructor or a last round is misread. A drawing is given by its text, and its diagram is the one that the text is accepted with.
 use mathlib.Core.Path.{_≡_}
 use mathlib.Core.List.{List, [], _∷_, _++_, List·Memᴰ}
 use Prim.Native.Nat.{ℕ}
