@@ -17,11 +17,11 @@ use Rattle.process.proofs.Seen.{Seen, Good, seen-local, not-begun, begi
 
 -- Lists of rounds
 module _ (A : Runs) (r : ℕ) where
-  rounds-append : {u : List ℕ} (v : List ℕ) → Rounds A r u → Rounds A r v → Rounds A r (u ++ v)
+  pub rounds-append : {u : List ℕ} (v : List ℕ) → Rounds A r u → Rounds A r v → Rounds A r (u ++ v)
   rounds-append v stop k = k
   rounds-append v (more {w = x} a c ha hr e) k = more {w = x ++ v} a (c ++ v) ha (rounds-append v hr k) (rw (e, append-assoc))
 
-  rounds-one : (a : List ℕ) → A a → Rounds A r (a ++ (r ∷ []))
+  pub rounds-one : (a : List ℕ) → A a → Rounds A r (a ++ (r ∷ []))
   rounds-one a h = more a [] h stop refl
 
   -- none, or rounds before a last one

@@ -1,15 +1,21 @@
--- Card 1 of document 02 only adds runs: what was whole by document 01 alone, where every round has its reset, still is.
+-- Card 1 of document 02 only adds runs, those with resets left out: what was whole by document 01 alone, where every round has its reset, still is,
+-- and every whole run is one of those without some of its resets.
 use mathlib.Core.Path.{_≡_, refl, sym, _∙_}
 use mathlib.Core.Logic.{inl, inr}
+use mathlib.Core.Bool.{Bool, true}
 use mathlib.Core.List.{List, [], _∷_, _++_, append-nil, cons≢nil, head-eq-of-cons-eq, tail-eq-of-cons-eq}
 use Prim.Native.Nat.{ℕ}
 use native.Mathlib.Omega.{arith}
+use lib.Dec.{eqb}
+use borrow.Author.Tests.{eq-eqb}
+use Rattle.base.proofs.Truth.{or-l, or-r}
 use Rattle.diagram.specs.Count.{flow-events}
 use Rattle.diagram.specs.Drawings.{U}
 use Rattle.process.specs.Process.{Joint, seq, and, or, xor, Process, event, join, again, rounds}
 use Rattle.process.specs.Expand.{expand, flow-process}
-use Rattle.process.specs.Runs.{Runs, Then, Rounds, stop, more, Joined, Whole, Begins}
-use Rattle.process.specs.Before.{Whole-before}
+use Rattle.process.specs.Runs.{Runs, Then, Mix, done, left, right, Rounds, stop, more, Loop, Joined, Whole, Begins}
+use Rattle.process.specs.Before.{Whole-before, resets, LeavesOut, empty, keep, omit}
+use Rattle.process.proofs.RoundsLaw.{rounds-append, rounds-one}
 
 -- All runs of the first set are runs of the second.
 abbrev Under : Runs → Runs → Type 0
@@ -40,6 +46,76 @@ still-whole (rounds p r l) w h = (w, [], rounds-wider (Whole-before p) (Whole p)
 pub still-begins : (p : Process) (w v : List ℕ) → Whole-before p (w ++ v) → Begins p w
 still-begins p w v h = (v, still-whole p (w ++ v) h)
 
+-- ---- what the card lets be left out
+out-same : (I : ℕ → Bool) (w : List ℕ) → LeavesOut I w w
+out-same I [] = empty
+out-same I (x ∷ w) = keep (out-same I w)
+
+out-more : {I J : ℕ → Bool} {w v : List ℕ} → ((x : ℕ) → I x ≡ true → J x ≡ true) → LeavesOut I w v → LeavesOut J w v
+out-more f empty = empty
+out-more f (keep h) = keep (out-more f h)
+out-more f (omit t h) = omit (f _ t) (out-more f h)
+
+out-append : {I : ℕ → Bool} {a b c d : List ℕ} → LeavesOut I a c → LeavesOut I b d → LeavesOut I (a ++ b) (c ++ d)
+out-append empty k = k
+out-append (keep h) k = keep (out-append h k)
+out-append (omit t h) k = omit t (out-append h k)
+
+out-mix : {I : ℕ → Bool} {a b c d w : List ℕ} → LeavesOut I a c → LeavesOut I b d → Mix a b w → (v : List ℕ) × Mix c d v × LeavesOut I w v
+out-mix (omit t h) k m = let r = out-mix h k m in (_ ∷ r .0, left (r .1), omit t (r .2))
+out-mix empty (omit t k) m = let r = out-mix empty k m in (_ ∷ r .0, right (r .1), omit t (r .2))
+out-mix empty empty done = ([], done, empty)
+out-mix empty (keep k) (right m) = let r = out-mix empty k m in (_ ∷ r .0, right (r .1), keep (r .2))
+out-mix (keep h) (omit t k) m = let r = out-mix (keep h) k m in (_ ∷ r .0, right (r .1), omit t (r .2))
+out-mix (keep h) empty (left m) = let r = out-mix h empty m in (_ ∷ r .0, left (r .1), keep (r .2))
+out-mix (keep h) (keep k) (left m) = let r = out-mix h (keep k) m in (_ ∷ r .0, left (r .1), keep (r .2))
+out-mix (keep h) (keep k) (right m) = let r = out-mix (keep h) k m in (_ ∷ r .0, right (r .1), keep (r .2))
+
+-- Every run of the first set is one of the second with elements left out that pass the test.
+abbrev Filled : (ℕ → Bool) → Runs → Runs → Type 0
+Filled I A B = (w : List ℕ) → A w → (v : List ℕ) × B v × LeavesOut I w v
+
+joined-filled : (j : Joint) (I : ℕ → Bool) (A B C D : Runs) → Filled I A C → Filled I B D → Filled I (Joined j A B) (Joined j C D)
+joined-filled seq I A B C D f g w (u, v, hu, hv, e) =
+    let (a, ha, oa) = f u hu in let (b, hb, ob) = g v hv in (a ++ b, (a, b, ha, hb, refl), rw e (out-append oa ob))
+joined-filled and I A B C D f g w (u, v, hu, hv, m) =
+    let (a, ha, oa) = f u hu in let (b, hb, ob) = g v hv in let (x, n, o) = out-mix oa ob m in (x, (a, b, ha, hb, n), o)
+joined-filled or I A B C D f g w (inl (inl h)) = let (a, ha, oa) = f w h in (a, inl (inl ha), oa)
+joined-filled or I A B C D f g w (inl (inr h)) = let (b, hb, ob) = g w h in (b, inl (inr hb), ob)
+joined-filled or I A B C D f g w (inr (u, v, hu, hv, m)) =
+    let (a, ha, oa) = f u hu in let (b, hb, ob) = g v hv in let (x, n, o) = out-mix oa ob m in (x, inr (a, b, ha, hb, n), o)
+joined-filled xor I A B C D f g w (inl h) = let (a, ha, oa) = f w h in (a, inl ha, oa)
+joined-filled xor I A B C D f g w (inr h) = let (b, hb, ob) = g w h in (b, inr hb, ob)
+
+rounds-filled : (I : ℕ → Bool) (A B : Runs) (r : ℕ) → Filled I A B → {w : List ℕ} → Rounds A r w → (v : List ℕ) × Rounds B r v × LeavesOut I w v
+rounds-filled I A B r f stop = ([], stop, empty)
+rounds-filled I A B r f (more u v hu hv e) =
+    let (a, ha, oa) = f u hu in
+    let (b, hb, ob) = rounds-filled I A B r f hv in
+    (a ++ (r ∷ b), more a b ha hb refl, rw e (out-append oa (keep ob)))
+
+-- The further run is a round whose reset was left out.
+loop-filled : (I : ℕ → Bool) (A B : Runs) (r : ℕ) → I r ≡ true → Filled I A B → Filled I (Loop A r) (Rounds B r)
+loop-filled I A B r t f w (u, v, hu, inl h, e) = let (a, ha, oa) = rounds-filled I A B r f hu in (a, ha, rw (e, h, append-nil) oa)
+loop-filled I A B r t f w (u, v, hu, inr h, e) =
+    let (a, ha, oa) = rounds-filled I A B r f hu in
+    let (b, hb, ob) = f v h in
+    (a ++ (b ++ (r ∷ [])), rounds-append B r (b ++ (r ∷ [])) ha (rounds-one B r b hb), rw e (out-append oa (rw append-nil at (out-append ob (omit t empty)))))
+
+-- Every whole run of now is one of before in which resets were left out.
+pub resets-left-out : (p : Process) → Filled (resets p) (Whole p) (Whole-before p)
+unfolding Whole-before Whole resets
+resets-left-out (event n l) w h = (w, h, out-same (resets (event n l)) w)
+resets-left-out (join j p q) w h =
+    joined-filled j (resets (join j p q)) (Whole p) (Whole q) (Whole-before p) (Whole-before q)
+    (λ u k. let (v, hv, o) = resets-left-out p u k in (v, hv, out-more (λ x t. or-l (resets q x) t) o))
+    (λ u k. let (v, hv, o) = resets-left-out q u k in (v, hv, out-more (λ x t. or-r (resets p x) t) o)) w h
+resets-left-out (again n l) w h = (w, h, out-same (resets (again n l)) w)
+resets-left-out (rounds p r l) w h =
+    loop-filled (resets (rounds p r l)) (Whole p) (Whole-before p) r (or-r (resets p r) (eq-eqb r r refl))
+    (λ u k. let (v, hv, o) = resets-left-out p u k in (v, hv, out-more (λ x t. or-l (eqb r x) t) o)) w h
+
+-- ---- U
 -- U: "0 1 2 3 remains whole".
 pub remains-whole : Whole-before (expand U) (0 ∷ 1 ∷ 2 ∷ 3 ∷ []) × Whole (expand U) (0 ∷ 1 ∷ 2 ∷ 3 ∷ [])
 unfolding Whole-before flow-process flow-events
