@@ -13,13 +13,7 @@ use Rattle.process.specs.Expand.{joint, copies, flow-process, children-p
 use Rattle.process.specs.Runs.{Runs, Then, Both, Either, Or, Mix, All, Loop, Joined, Whole}
 use Rattle.process.specs.Readings.{InOrder, Interleaved, Choice, nothing, pick, leave, SomeOf, OneOf, Several, children-parts, members-parts, copies-parts}
 use Rattle.process.proofs.Lists.{mix-all-l, mix-append}
-use Rattle.process.proofs.Joins.{Same, Groups, then-groups, both-groups, either-groups, or-groups, from-left, to-right, left-under, left-snoc, regroup}
-
-grouped : (j : Joint) → Groups (Joined j)
-grouped seq = then-groups
-grouped and = both-groups
-grouped or = or-groups
-grouped xor = either-groups
+use Rattle.process.proofs.Joins.{Same, joined-same, from-left, to-right, left-same, left-snoc, regroup}
 
 whole-join : (j : Joint) (p q : Process) → Same (Whole (join j p q)) (Joined j (Whole p) (Whole q))
 unfolding Whole
@@ -41,13 +35,13 @@ both-nothing A w = (
   λ h. subst A (mix-all-l (h .4) (h .3)) (h .2),
 )
 
-in-order : (p : Process) (ps : List Process) → Same (to-right Then (Whole p) ps) (InOrder (p ∷ ps))
+in-order : (p : Process) (ps : List Process) → Same (to-right seq (Whole p) ps) (InOrder (p ∷ ps))
 in-order p [] = then-nothing (Whole p)
-in-order p (q ∷ ps) = then-groups .under (λ w. Iff·rfl) (in-order q ps)
+in-order p (q ∷ ps) = joined-same seq (λ w. Iff·rfl) (in-order q ps)
 
-interleaved : (p : Process) (ps : List Process) → Same (to-right Both (Whole p) ps) (Interleaved (p ∷ ps))
+interleaved : (p : Process) (ps : List Process) → Same (to-right and (Whole p) ps) (Interleaved (p ∷ ps))
 interleaved p [] = both-nothing (Whole p)
-interleaved p (q ∷ ps) = both-groups .under (λ w. Iff·rfl) (interleaved q ps)
+interleaved p (q ∷ ps) = joined-same and (λ w. Iff·rfl) (interleaved q ps)
 
 either-none : (A : Runs) → Same A (Either A (λ w. ⊥))
 either-none A w = (inl, only)
@@ -56,9 +50,9 @@ either-none A w = (inl, only)
     only (inl h) = h
     only (inr h) = absurd h
 
-one-of : (p : Process) (ps : List Process) → Same (to-right Either (Whole p) ps) (OneOf (p ∷ ps))
+one-of : (p : Process) (ps : List Process) → Same (to-right xor (Whole p) ps) (OneOf (p ∷ ps))
 one-of p [] = either-none (Whole p)
-one-of p (q ∷ ps) = either-groups .under (λ w. Iff·rfl) (one-of q ps)
+one-of p (q ∷ ps) = joined-same xor (λ w. Iff·rfl) (one-of q ps)
 
 -- a choice from a list takes its first member or leaves it
 abbrev Taken : Process → List Process → List Process → Type 0
@@ -91,7 +85,7 @@ some-cons p ps w = (to, λ (q, qs, c, h). from q qs (taken c) h)
     from q qs (inl (rs, e, c)) h = with-first rs c (subst (λ (l : List Process). Interleaved l w) e h)
     from q qs (inr c) h = inl (inr (q, qs, c, h))
 
-some-of : (p : Process) (ps : List Process) → Same (to-right Or (Whole p) ps) (SomeOf (p ∷ ps))
+some-of : (p : Process) (ps : List Process) → Same (to-right or (Whole p) ps) (SomeOf (p ∷ ps))
 some-of p [] w = (λ h. some-cons p [] w .0 (inl (inl h)), λ h. only (some-cons p [] w .1 h))
   where
     empty : (v : List ℕ) → SomeOf [] v → ⊥
@@ -101,26 +95,26 @@ some-of p [] w = (λ h. some-cons p [] w .0 (inl (inl h)), λ h. only (some-cons
     only (inl (inl h)) = h
     only (inl (inr h)) = absurd (empty w h)
     only (inr (u, v, hu, hv, m)) = absurd (empty v hv)
-some-of p (q ∷ ps) w = Iff·trans (or-groups .under {A = Whole p} (λ v. Iff·rfl) (some-of q ps) w) (some-cons p (q ∷ ps) w)
+some-of p (q ∷ ps) w = Iff·trans (joined-same or {A = Whole p} (λ v. Iff·rfl) (some-of q ps) w) (some-cons p (q ∷ ps) w)
 
-several : (y : Way) (p : Process) (ps : List Process) → Same (to-right (Joined (joint y)) (Whole p) ps) (Several y (p ∷ ps))
+several : (y : Way) (p : Process) (ps : List Process) → Same (to-right (joint y) (Whole p) ps) (Several y (p ∷ ps))
 several all p ps = interleaved p ps
 several some p ps = some-of p ps
 several one p ps = one-of p ps
 
 -- The process of a diagram joins its parts from the left.
-joined-left : (j : Joint) (p q : Process) (ps : List Process) {A : Runs} → Same A (from-left (Joined j) (Whole (join j p q)) ps)
-    → Same A (from-left (Joined j) (Whole p) (q ∷ ps))
-joined-left j p q ps s w = Iff·trans (s w) (left-under (Joined j) (grouped j) ps (whole-join j p q) w)
+joined-left : (j : Joint) (p q : Process) (ps : List Process) {A : Runs} → Same A (from-left j (Whole (join j p q)) ps)
+    → Same A (from-left j (Whole p) (q ∷ ps))
+joined-left j p q ps s w = Iff·trans (s w) (left-same j ps (whole-join j p q) w)
 
-children-left : (cs : Children) (vs : List ℕ) (p : Process) (e : ℕ) → Same (Whole (children-process cs vs p e)) (from-left Then (Whole p) (children-parts cs vs e))
+children-left : (cs : Children) (vs : List ℕ) (p : Process) (e : ℕ) → Same (Whole (children-process cs vs p e)) (from-left seq (Whole p) (children-parts cs vs e))
 unfolding children-process children-parts
 children-left none vs p e w = Iff·rfl
 children-left (next c r cs) vs p e w =
     joined-left seq p (child-process c vs e) (children-parts cs vs (e + child-events c)) (children-left cs vs (join seq p (child-process c vs e)) (e + child-events c)) w
 
 members-left : (ms : Members) (j : Joint) (vs : List ℕ) (p : Process) (e : ℕ)
-    → Same (Whole (members-process ms j vs p e)) (from-left (Joined j) (Whole p) (members-parts ms vs e))
+    → Same (Whole (members-process ms j vs p e)) (from-left j (Whole p) (members-parts ms vs e))
 unfolding members-process members-parts
 members-left end j vs p e w = Iff·rfl
 members-left (also m ms) j vs p e w =
@@ -138,7 +132,7 @@ parts-snoc m vs e v (suc n) =
     ap (λ (l : List Process). copy m vs e v ∷ l) (rw z at (parts-snoc m vs e (suc v) n))
 
 copies-left : (j : Joint) (m : Member) (vs : List ℕ) (e n : ℕ)
-    → Same (Whole (copies j (copy m vs e) n)) (from-left (Joined j) (Whole (copy m vs e 0)) (copies-parts m vs e 1 n))
+    → Same (Whole (copies j (copy m vs e) n)) (from-left j (Whole (copy m vs e 0)) (copies-parts m vs e 1 n))
 unfolding copies-parts
 copies-left j m vs e zero w = Iff·rfl
 copies-left j m vs e (suc n) w =
@@ -146,9 +140,9 @@ copies-left j m vs e (suc n) w =
     let z : 1 + n ≡ suc n = omega arith in
     let k : copies-parts m vs e 1 (suc n) ≡ copies-parts m vs e 1 n ++ (copy m vs e (suc n) ∷ []) = rw z at (parts-snoc m vs e 1 n) in
     Iff·trans (whole-join j (copies j (copy m vs e) n) (copy m vs e (suc n)) w)
-    (Iff·trans (grouped j .under (copies-left j m vs e n) (λ v. Iff·rfl) w)
-    (subst (λ (l : List Process). Joined j (from-left (Joined j) A (copies-parts m vs e 1 n)) (Whole (copy m vs e (suc n))) w ↔ from-left (Joined j) A l w) (sym k)
-    (Iff·symm (left-snoc (Joined j) (grouped j) A (copies-parts m vs e 1 n) (copy m vs e (suc n)) w))))
+    (Iff·trans (joined-same j (copies-left j m vs e n) (λ v. Iff·rfl) w)
+    (subst (λ (l : List Process). Joined j (from-left j A (copies-parts m vs e 1 n)) (Whole (copy m vs e (suc n))) w ↔ from-left j A l w) (sym k)
+    (Iff·symm (left-snoc j A (copies-parts m vs e 1 n) (copy m vs e (suc n)) w))))
 
 -- "A flow gives a whole run of each child, in order."
 pub flow-read : (n : Name) (ps : List Name) (sw : Bool) (c : Child) (r : Bool) (cs : Children) (vs : List ℕ) (e : ℕ)
@@ -157,7 +151,7 @@ unfolding flow-process
 flow-read n ps sw c r cs vs e w =
     let p = child-process c vs e in
     let qs = children-parts cs vs (e + child-events c) in
-    Iff·trans (children-left cs vs p (e + child-events c) w) (Iff·trans (regroup Then then-groups (Whole p) qs w) (in-order p qs w))
+    Iff·trans (children-left cs vs p (e + child-events c) w) (Iff·trans (regroup seq (Whole p) qs w) (in-order p qs w))
 
 -- "`and`: any interleaving of one run of each member. `or`: the same over any nonempty choice of members. `xor`: a run of one member."
 pub group-read : (y : Way) (a b : Member) (ms : Members) (vs : List ℕ) (e : ℕ)
@@ -170,7 +164,7 @@ group-read y a b ms vs e w =
     let f = e + member-events a + member-events b in
     let qs = members-parts ms vs f in
     let j = joint y in
-    Iff·trans (joined-left j p q qs (members-left ms j vs (join j p q) f) w) (Iff·trans (regroup (Joined j) (grouped j) (Whole p) (q ∷ qs) w) (several y p (q ∷ qs) w))
+    Iff·trans (joined-left j p q qs (members-left ms j vs (join j p q) f) w) (Iff·trans (regroup j (Whole p) (q ∷ qs) w) (several y p (q ∷ qs) w))
 
 -- "`all`, `some`, `one` do so over the copies for each value."
 pub replicator-read : (y : Way) (par : Name) (n : ℕ) (m : Member) (vs : List ℕ) (e : ℕ)
@@ -180,7 +174,7 @@ replicator-read y par n m vs e w =
     let p = copy m vs e 0 in
     let qs = copies-parts m vs e 1 n in
     let z : suc n - 1 ≡ n = omega arith in
-    rw z (Iff·trans (copies-left (joint y) m vs e n w) (Iff·trans (regroup (Joined (joint y)) (grouped (joint y)) (Whole p) qs w) (several y p qs w)))
+    rw z (Iff·trans (copies-left (joint y) m vs e n w) (Iff·trans (regroup (joint y) (Whole p) qs w) (several y p qs w)))
 
 -- "A loop over a leaf: that event zero or more times."
 pub leaf-loop-read : (n : Name) (vs : List ℕ) (e : ℕ) → Same (Whole (child-process (loop (leaf n)) vs e)) (All (eqb e))

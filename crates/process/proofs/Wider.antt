@@ -2,43 +2,36 @@
 -- and every whole run is one of those without some of its resets.
 use mathlib.Core.Path.{_≡_, refl, sym, _∙_}
 use mathlib.Core.Logic.{inl, inr}
-use mathlib.Core.Bool.{Bool, true}
+use mathlib.Core.Bool.{Bool, true, false, _&&_, _||_, cond}
 use mathlib.Core.List.{List, [], _∷_, _++_, append-nil, cons≢nil, head-eq-of-cons-eq, tail-eq-of-cons-eq}
-use Prim.Native.Nat.{ℕ}
+use Prim.Native.Nat.{ℕ, _+_}
 use native.Mathlib.Omega.{arith}
 use lib.Dec.{eqb}
 use borrow.Author.Tests.{eq-eqb}
-use Rattle.base.proofs.Truth.{or-l, or-r}
+use Rattle.base.proofs.Truth.{is-false, and-i, and-l, and-r, or-l, or-r}
+use Rattle.diagram.specs.Tree.{Flow}
 use Rattle.diagram.specs.Count.{flow-events}
 use Rattle.diagram.specs.Drawings.{U}
-use Rattle.process.specs.Process.{Joint, seq, and, or, xor, Process, event, join, again, rounds}
+use Rattle.diagram.specs.Sizes.{flow-sized}
+use Rattle.process.specs.Process.{Event, Joint, seq, and, or, xor, Process, event, join, again, rounds, owns, event-of}
 use Rattle.process.specs.Expand.{expand, flow-process}
 use Rattle.process.specs.Runs.{Runs, Then, Mix, done, left, right, Rounds, stop, more, Loop, Joined, Whole, Begins}
-use Rattle.process.specs.Before.{Whole-before, resets, LeavesOut, empty, keep, omit}
+use Rattle.process.specs.Before.{Whole-before, LeavesOut, empty, keep, omit}
 use Rattle.process.proofs.RoundsLaw.{rounds-append, rounds-one}
-
--- All runs of the first set are runs of the second.
-abbrev Under : Runs → Runs → Type 0
-Under A B = (w : List ℕ) → A w → B w
+use Rattle.process.proofs.Joins.{Under, joined-under}
+use Rattle.process.proofs.Lists.{Apart}
+use Rattle.process.proofs.Numbered.{size, Numbered, apart, reset-out}
+use Rattle.process.proofs.Labels.{Marked, flow-marked}
+use Rattle.process.proofs.Events.{expand-laid}
 
 rounds-wider : (A B : Runs) (r : ℕ) → Under A B → {w : List ℕ} → Rounds A r w → Rounds B r w
 rounds-wider A B r f stop = stop
 rounds-wider A B r f (more u v hu hv e) = more u v (f u hu) (rounds-wider A B r f hv) e
 
-joined-wider : (j : Joint) (A B C D : Runs) → Under A C → Under B D → Under (Joined j A B) (Joined j C D)
-joined-wider seq A B C D f g w (u, v, hu, hv, e) = (u, v, f u hu, g v hv, e)
-joined-wider and A B C D f g w (u, v, hu, hv, m) = (u, v, f u hu, g v hv, m)
-joined-wider or A B C D f g w (inl (inl h)) = inl (inl (f w h))
-joined-wider or A B C D f g w (inl (inr h)) = inl (inr (g w h))
-joined-wider or A B C D f g w (inr (u, v, hu, hv, m)) = inr (u, v, f u hu, g v hv, m)
-joined-wider xor A B C D f g w (inl h) = inl (f w h)
-joined-wider xor A B C D f g w (inr h) = inr (g w h)
-
 pub still-whole : (p : Process) → Under (Whole-before p) (Whole p)
 unfolding Whole-before Whole
 still-whole (event n l) w h = h
-still-whole (join j p q) w h =
-    joined-wider j (Whole-before p) (Whole-before q) (Whole p) (Whole q) (still-whole p) (still-whole q) w h
+still-whole (join j p q) w h = joined-under j (still-whole p) (still-whole q) w h
 still-whole (again n l) w h = h
 still-whole (rounds p r l) w h = (w, [], rounds-wider (Whole-before p) (Whole p) r (still-whole p) h, inl refl, sym (append-nil w))
 
@@ -75,6 +68,9 @@ out-mix (keep h) (keep k) (right m) = let r = out-mix (keep h) k m in (_ ∷ r .
 abbrev Filled : (ℕ → Bool) → Runs → Runs → Type 0
 Filled I A B = (w : List ℕ) → A w → (v : List ℕ) × B v × LeavesOut I w v
 
+filled-more : {I J : ℕ → Bool} {A B : Runs} → ((x : ℕ) → I x ≡ true → J x ≡ true) → Filled I A B → Filled J A B
+filled-more f g w h = let (v, k, o) = g w h in (v, k, out-more f o)
+
 joined-filled : (j : Joint) (I : ℕ → Bool) (A B C D : Runs) → Filled I A C → Filled I B D → Filled I (Joined j A B) (Joined j C D)
 joined-filled seq I A B C D f g w (u, v, hu, hv, e) =
     let (a, ha, oa) = f u hu in let (b, hb, ob) = g v hv in (a ++ b, (a, b, ha, hb, refl), rw e (out-append oa ob))
@@ -102,18 +98,42 @@ loop-filled I A B r t f w (u, v, hu, inr h, e) =
     let (b, hb, ob) = f v h in
     (a ++ (b ++ (r ∷ [])), rounds-append B r (b ++ (r ∷ [])) ha (rounds-one B r b hb), rw e (out-append oa (rw append-nil at (out-append ob (omit t empty)))))
 
--- Every whole run of now is one of before in which resets were left out.
-pub resets-left-out : (p : Process) → Filled (resets p) (Whole p) (Whole-before p)
-unfolding Whole-before Whole resets
-resets-left-out (event n l) w h = (w, h, out-same (resets (event n l)) w)
-resets-left-out (join j p q) w h =
-    joined-filled j (resets (join j p q)) (Whole p) (Whole q) (Whole-before p) (Whole-before q)
-    (λ u k. let (v, hv, o) = resets-left-out p u k in (v, hv, out-more (λ x t. or-l (resets q x) t) o))
-    (λ u k. let (v, hv, o) = resets-left-out q u k in (v, hv, out-more (λ x t. or-r (resets p x) t) o)) w h
-resets-left-out (again n l) w h = (w, h, out-same (resets (again n l)) w)
-resets-left-out (rounds p r l) w h =
-    loop-filled (resets (rounds p r l)) (Whole p) (Whole-before p) r (or-r (resets p r) (eq-eqb r r refl))
-    (λ u k. let (v, hv, o) = resets-left-out p u k in (v, hv, out-more (λ x t. or-l (eqb r x) t) o)) w h
+-- It is an event of the process, and marked as a reset.
+abbrev reset? : Process → ℕ → Bool
+reset? p x = owns p x && event-of p x .reset
+
+-- A reset of a part is one of the whole, whatever event stands elsewhere.
+reset-first : (p : Process) (x : ℕ) (elsewhere : Bool) (e : Event) → reset? p x ≡ true
+    → ((owns p x || elsewhere) && cond (owns p x) (event-of p x) e .reset) ≡ true
+reset-first p x elsewhere e h = let o = and-l (owns p x) _ h in and-i (or-l elsewhere o) (rw o (and-r (owns p x) _ h))
+
+reset-second : (j : Joint) (p q : Process) → Apart (owns p) (owns q) → (x : ℕ) → reset? q x ≡ true → reset? (join j p q) x ≡ true
+unfolding owns event-of
+reset-second j p q d x h =
+    let o = and-l (owns q x) _ h in
+    and-i (or-r (owns p x) o) (rw (is-false (owns p x) (λ k. d x k o)) (and-r (owns q x) _ h))
+
+reset-own : (p : Process) (r : ℕ) (l : Event) → owns p r ≡ false → l .reset ≡ true → reset? (rounds p r l) r ≡ true
+unfolding owns event-of
+reset-own p r l out m = and-i (or-r (owns p r) (eq-eqb r r refl)) (rw out m)
+
+filled : (p : Process) (lo : ℕ) → Numbered p lo → Marked p → Filled (reset? p) (Whole p) (Whole-before p)
+unfolding owns event-of Whole-before Whole Numbered Marked
+filled (event n l) lo m t w h = (w, h, out-same (reset? (event n l)) w)
+filled (join j p q) lo m t w h =
+    joined-filled j (reset? (join j p q)) (Whole p) (Whole q) (Whole-before p) (Whole-before q)
+    (filled-more (λ x k. reset-first p x (owns q x) (event-of q x) k) (filled p lo (m .0) (t .0)))
+    (filled-more (reset-second j p q (apart p q lo (m .0) (m .1))) (filled q (lo + size p) (m .1) (t .1))) w h
+filled (again n l) lo m t w h = (w, h, out-same (reset? (again n l)) w)
+filled (rounds p r l) lo m t w h =
+    loop-filled (reset? (rounds p r l)) (Whole p) (Whole-before p) r (reset-own p r l (reset-out p lo r (m .0) (m .1)) (t .1))
+    (filled-more (λ x k. reset-first p x (eqb r x) l k) (filled p lo (m .0) (t .0))) w h
+
+-- Every whole run of a diagram is one of before in which resets were left out.
+pub resets-left-out : (d : Flow) → flow-sized d ≡ true → (w : List ℕ) → Whole (expand d) w
+    → (v : List ℕ) × Whole-before (expand d) v × LeavesOut (λ x. event-of (expand d) x .reset) w v
+resets-left-out d h =
+    filled-more (λ x t. and-r (owns (expand d) x) _ t) (filled (expand d) 0 (expand-laid d h .numbered) (flow-marked d [] 0))
 
 -- ---- U
 -- U: "0 1 2 3 remains whole".

@@ -1,7 +1,7 @@
 -- Whole runs by document 01 alone, before card 1 of document 02: for the statements that every whole run of before is one still, and that the
 -- card lets resets be left out and nothing else.
 use mathlib.Core.Path.{_≡_}
-use mathlib.Core.Bool.{Bool, true, false, _||_}
+use mathlib.Core.Bool.{Bool, true}
 use mathlib.Core.List.{List, [], _∷_}
 use Prim.Native.Nat.{ℕ}
 use lib.Dec.{eqb}
@@ -15,13 +15,6 @@ Whole-before (join j p q) = Joined j (Whole-before p) (Whole-before q)
 Whole-before (again n l) = All (eqb n)
 -- "A loop over a flow: zero or more rounds, each a run of the flow and then the reset"
 Whole-before (rounds p r l) = Rounds (Whole-before p) r
-
--- Is it the number of a reset?
-unfoldable pub resets : Process → ℕ → Bool
-resets (event n l) x = false
-resets (join j p q) x = resets p x || resets q x
-resets (again n l) x = false
-resets (rounds p r l) x = resets p x || eqb r x
 
 -- The first list is the second with some elements left out, each of which passes the test.
 pub data LeavesOut (I : ℕ → Bool) : List ℕ → List ℕ → Type 0 where
