@@ -24,16 +24,16 @@ use Rattle.process.proofs.Numbered.{size, Numbered, apart, reset-out}
 use Rattle.process.proofs.Labels.{Marked, flow-marked}
 use Rattle.process.proofs.Events.{expand-laid}
 
-rounds-wider : (A B : Runs) (r : ℕ) → Under A B → {w : List ℕ} → Rounds A r w → Rounds B r w
-rounds-wider A B r f stop = stop
-rounds-wider A B r f (more u v hu hv e) = more u v (f u hu) (rounds-wider A B r f hv) e
+rounds-wider : {A B : Runs} {r : ℕ} → Under A B → {w : List ℕ} → Rounds A r w → Rounds B r w
+rounds-wider f stop = stop
+rounds-wider f (more u v hu hv e) = more u v (f u hu) (rounds-wider f hv) e
 
 pub still-whole : (p : Process) → Under (Whole-before p) (Whole p)
 unfolding Whole-before Whole
 still-whole (event n l) w h = h
 still-whole (join j p q) w h = joined-under j (still-whole p) (still-whole q) w h
 still-whole (again n l) w h = h
-still-whole (rounds p r l) w h = (w, [], rounds-wider (Whole-before p) (Whole p) r (still-whole p) h, inl refl, sym (append-nil w))
+still-whole (rounds p r l) w h = (w, [], rounds-wider (still-whole p) h, inl refl, sym (append-nil w))
 
 -- What began a whole run begins one still: a unit that takes every reset is let through as before.
 pub still-begins : (p : Process) (w v : List ℕ) → Whole-before p (w ++ v) → Begins p w
@@ -71,30 +71,30 @@ Filled I A B = (w : List ℕ) → A w → (v : List ℕ) × B v × LeavesOut I w
 filled-more : {I J : ℕ → Bool} {A B : Runs} → ((x : ℕ) → I x ≡ true → J x ≡ true) → Filled I A B → Filled J A B
 filled-more f g w h = let (v, k, o) = g w h in (v, k, out-more f o)
 
-joined-filled : (j : Joint) (I : ℕ → Bool) (A B C D : Runs) → Filled I A C → Filled I B D → Filled I (Joined j A B) (Joined j C D)
-joined-filled seq I A B C D f g w (u, v, hu, hv, e) =
+joined-filled : (j : Joint) {I : ℕ → Bool} {A B C D : Runs} → Filled I A C → Filled I B D → Filled I (Joined j A B) (Joined j C D)
+joined-filled seq f g w (u, v, hu, hv, e) =
     let (a, ha, oa) = f u hu in let (b, hb, ob) = g v hv in (a ++ b, (a, b, ha, hb, refl), rw e (out-append oa ob))
-joined-filled and I A B C D f g w (u, v, hu, hv, m) =
+joined-filled and f g w (u, v, hu, hv, m) =
     let (a, ha, oa) = f u hu in let (b, hb, ob) = g v hv in let (x, n, o) = out-mix oa ob m in (x, (a, b, ha, hb, n), o)
-joined-filled or I A B C D f g w (inl (inl h)) = let (a, ha, oa) = f w h in (a, inl (inl ha), oa)
-joined-filled or I A B C D f g w (inl (inr h)) = let (b, hb, ob) = g w h in (b, inl (inr hb), ob)
-joined-filled or I A B C D f g w (inr (u, v, hu, hv, m)) =
+joined-filled or f g w (inl (inl h)) = let (a, ha, oa) = f w h in (a, inl (inl ha), oa)
+joined-filled or f g w (inl (inr h)) = let (b, hb, ob) = g w h in (b, inl (inr hb), ob)
+joined-filled or f g w (inr (u, v, hu, hv, m)) =
     let (a, ha, oa) = f u hu in let (b, hb, ob) = g v hv in let (x, n, o) = out-mix oa ob m in (x, inr (a, b, ha, hb, n), o)
-joined-filled xor I A B C D f g w (inl h) = let (a, ha, oa) = f w h in (a, inl ha, oa)
-joined-filled xor I A B C D f g w (inr h) = let (b, hb, ob) = g w h in (b, inr hb, ob)
+joined-filled xor f g w (inl h) = let (a, ha, oa) = f w h in (a, inl ha, oa)
+joined-filled xor f g w (inr h) = let (b, hb, ob) = g w h in (b, inr hb, ob)
 
-rounds-filled : (I : ℕ → Bool) (A B : Runs) (r : ℕ) → Filled I A B → {w : List ℕ} → Rounds A r w → (v : List ℕ) × Rounds B r v × LeavesOut I w v
-rounds-filled I A B r f stop = ([], stop, empty)
-rounds-filled I A B r f (more u v hu hv e) =
+rounds-filled : {I : ℕ → Bool} {A B : Runs} {r : ℕ} → Filled I A B → {w : List ℕ} → Rounds A r w → (v : List ℕ) × Rounds B r v × LeavesOut I w v
+rounds-filled f stop = ([], stop, empty)
+rounds-filled {r = r} f (more u v hu hv e) =
     let (a, ha, oa) = f u hu in
-    let (b, hb, ob) = rounds-filled I A B r f hv in
+    let (b, hb, ob) = rounds-filled f hv in
     (a ++ (r ∷ b), more a b ha hb refl, rw e (out-append oa (keep ob)))
 
 -- The further run is a round whose reset was left out.
-loop-filled : (I : ℕ → Bool) (A B : Runs) (r : ℕ) → I r ≡ true → Filled I A B → Filled I (Loop A r) (Rounds B r)
-loop-filled I A B r t f w (u, v, hu, inl h, e) = let (a, ha, oa) = rounds-filled I A B r f hu in (a, ha, rw (e, h, append-nil) oa)
-loop-filled I A B r t f w (u, v, hu, inr h, e) =
-    let (a, ha, oa) = rounds-filled I A B r f hu in
+loop-filled : {I : ℕ → Bool} {A B : Runs} {r : ℕ} → I r ≡ true → Filled I A B → Filled I (Loop A r) (Rounds B r)
+loop-filled t f w (u, v, hu, inl h, e) = let (a, ha, oa) = rounds-filled f hu in (a, ha, rw (e, h, append-nil) oa)
+loop-filled {B = B} {r = r} t f w (u, v, hu, inr h, e) =
+    let (a, ha, oa) = rounds-filled f hu in
     let (b, hb, ob) = f v h in
     (a ++ (b ++ (r ∷ [])), rounds-append B r (b ++ (r ∷ [])) ha (rounds-one B r b hb), rw e (out-append oa (rw append-nil at (out-append ob (omit t empty)))))
 
@@ -121,12 +121,11 @@ filled : (p : Process) (lo : ℕ) → Numbered p lo → Marked p → Filled (res
 unfolding owns event-of Whole-before Whole Numbered Marked
 filled (event n l) lo m t w h = (w, h, out-same (reset? (event n l)) w)
 filled (join j p q) lo m t w h =
-    joined-filled j (reset? (join j p q)) (Whole p) (Whole q) (Whole-before p) (Whole-before q)
-    (filled-more (λ x k. reset-first p x (owns q x) (event-of q x) k) (filled p lo (m .0) (t .0)))
+    joined-filled j (filled-more (λ x k. reset-first p x (owns q x) (event-of q x) k) (filled p lo (m .0) (t .0)))
     (filled-more (reset-second j p q (apart p q lo (m .0) (m .1))) (filled q (lo + size p) (m .1) (t .1))) w h
 filled (again n l) lo m t w h = (w, h, out-same (reset? (again n l)) w)
 filled (rounds p r l) lo m t w h =
-    loop-filled (reset? (rounds p r l)) (Whole p) (Whole-before p) r (reset-own p r l (reset-out p lo r (m .0) (m .1)) (t .1))
+    loop-filled (reset-own p r l (reset-out p lo r (m .0) (m .1)) (t .1))
     (filled-more (λ x k. reset-first p x (eqb r x) l k) (filled p lo (m .0) (t .0))) w h
 
 -- Every whole run of a diagram is one of before in which resets were left out.
