@@ -1,6 +1,6 @@
 -- The rows of the first pass say of each part of a process what the control bits say of it.
 use mathlib.Core.Path.{_≡_, refl, sym, _∙_, ap, ap₂}
-use mathlib.Core.Bool.{Bool, true, false, not, _&&_, _||_, or-true, or-false, or-comm, or-not-self}
+use mathlib.Core.Bool.{Bool, true, false, not, _&&_, _||_, or-comm, or-not-self}
 use mathlib.Core.List.{List, [], _∷_, _++_}
 use Prim.Native.Nat.{ℕ, zero, suc, _+_, _≤_, _<_}
 use native.Mathlib.Omega.{arith}
@@ -12,6 +12,7 @@ use Rattle.process.specs.Process.{Joint, seq, and, or, xor, Event, Process, eve
 use Rattle.process.specs.Bits.{Bits}
 use Rattle.process.specs.Guards.{begun, complete}
 use Rattle.process.proofs.Numbered.{Numbered, size}
+use Rattle.process.proofs.Settled.{loop-settled, some-settled}
 use Rattle.layout.specs.Fields.{bit-row, not-row, both-row, either-row}
 use Rattle.plan.specs.Pieces.{part-rows, event-piece, again-piece, rounds-piece, join-piece, some-piece, settled-piece, settling, settled-row}
 use Rattle.postfix.specs.Fold.{fold}
@@ -21,18 +22,6 @@ use Rattle.layout.specs.Values.{says}
 use Rattle.plan.proofs.Says.{Obeys, PartAgrees, Below}
 use Rattle.layout.proofs.Decoded.{bit-says, not-says, both-says, either-says}
 use Rattle.plan.proofs.Within.{obeys-split, below-more, settled-below, join-length, plan-below}
-
--- A loop over a flow is settled where its body is, for it is complete then. The body is begun by a, complete by b; c is the reset's bit.
-loop-settled : (a b c : Bool) → (b || not a) ≡ ((not a || b) || not (a || c))
-loop-settled true b c = refl
-loop-settled false b c = or-true b
-
--- Either part or both: settled where both parts are. The parts are begun by a and b, complete by c and d.
-some-settled : (a b c d : Bool)
-    → ((c || not a) && (d || not b)) ≡ (((a || b) && ((c || not a) && (d || not b))) || not (a || b))
-some-settled true b c d = sym (or-false ((c || false) && (d || not b)))
-some-settled false true c d = sym (or-false ((c || true) && (d || false)))
-some-settled false false c d = rw (or-true c, or-true d)
 
 module _ (s : Bits) (v : ℕ → Bool) where
   -- The i-th of the rows from k on says what its word says.

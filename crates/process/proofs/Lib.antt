@@ -24,4 +24,5 @@ pub mod Joins
 pub mod Read
 pub mod Listings
 pub mod NoTwo
+pub mod Settled
 pub mod Wider

@@ -1,0 +1,5 @@
+pub mod Formulas
+pub mod Actions
+pub mod Lines
+pub mod Conditions
+pub mod Machine
