@@ -1,1 +1,2 @@
 pub mod True
+pub mod Spoken
