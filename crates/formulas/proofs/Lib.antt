@@ -1,2 +1,3 @@
 pub mod True
 pub mod Spoken
+pub mod Sized

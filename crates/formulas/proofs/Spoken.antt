@@ -52,7 +52,8 @@ module _ (n : ℕ) where
       → All-speak n (guarded (complete-when p)) × All-speak n (guarded (settled-when p))
   unfolding Numbered size complete-when settled-when All-speak Speaks
   tests-speak (event k l) lo m h = ((omega arith, tt), tt)
-  tests-speak (join j p q) lo m h = go j (own-range (join j p q) lo m h) (tests-speak p lo (m .0) (omega arith)) (tests-speak q (lo + size p) (m .1) (omega arith))
+  tests-speak (join j p q) lo m h =
+      go j (own-range (join j p q) lo m h) (tests-speak p lo (m .0) (omega arith)) (tests-speak q (lo + size p) (m .1) (omega arith))
     where
       go : (j : Joint) → Speaks n (begun-when (join j p q)) × Speaks n (idle-when (join j p q))
           → All-speak n (guarded (complete-when p)) × All-speak n (guarded (settled-when p))
