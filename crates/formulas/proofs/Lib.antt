@@ -1,3 +1,4 @@
 pub mod True
 pub mod Spoken
 pub mod Sized
+pub mod Some
