@@ -2,3 +2,4 @@ pub mod True
 pub mod Spoken
 pub mod Sized
 pub mod Some
+pub mod Machine
