@@ -1,7 +1,7 @@
 -- Every event of a diagram that keeps the rules has at least one guard: the solid child of a flow either stands before an event, and has to be complete then,
 -- or has the event in it.
 use mathlib.Core.Path.{_≡_, refl}
-use mathlib.Core.Logic.{_⊎_, inl, inr}
+use mathlib.Core.Logic.{_⊎_, inl, inr, ⊎-elim, ⊎-map}
 use mathlib.Core.Bool.{Bool, true, false, _&&_, false≢true}
 use mathlib.Core.List.{List, [], _∷_, _++_, cons≢nil, append-eq-nil-iff}
 use Prim.Native.Nat.{ℕ, zero, suc, _+_, _-_, _*_}
@@ -83,24 +83,14 @@ members-guarded (also m ms) vs p e g = members-guarded ms vs (join xor p (member
 abbrev Firm : Process → Type 0
 Firm p = Nonempty p × Guarded p
 
+seq-firm : (p q : Process) → Firm p ⊎ Firm q → Firm (join seq p q)
+seq-firm p q (inl (n, g)) = (seq-nonempty p q (inl n), seq-guarded p q (inl n))
+seq-firm p q (inr (n, g)) = (seq-nonempty p q (inr n), seq-guarded p q (inr g))
+
 -- Of a child and those after it exactly one is solid: it is the child, or it is still to come.
-firm-here : (c : Child) (r : Bool) (cs : Children) (p : Process) → (may-be-solid c ≡ true → Firm p) → one-solid (next c r cs) ≡ true
-    → Firm p ⊎ (one-solid cs ≡ true)
-firm-here c true cs p f h = inl (f (and-l (may-be-solid c) (none-solid cs) h))
-firm-here c false cs p f h = inr h
-
-firm-next : (c : Child) (r : Bool) (cs : Children) (p q : Process) → (may-be-solid c ≡ true → Firm q) → Firm p ⊎ (one-solid (next c r cs) ≡ true)
-    → Firm (join seq p q) ⊎ (one-solid cs ≡ true)
-firm-next c r cs p q f (inl (n, g)) = inl (seq-nonempty p q (inl n), seq-guarded p q (inl n))
-firm-next c r cs p q f (inr h) = go (firm-here c r cs q f h)
-  where
-    go : Firm q ⊎ (one-solid cs ≡ true) → Firm (join seq p q) ⊎ (one-solid cs ≡ true)
-    go (inl (n, g)) = inl (seq-nonempty p q (inr n), seq-guarded p q (inr g))
-    go (inr k) = inr k
-
-child-firm : (c : Child) → child-flows c solid ≡ true → (vs : List ℕ) (e : ℕ) → (may-be-solid c ≡ true → Guarded (child-process c vs e))
-    → may-be-solid c ≡ true → Firm (child-process c vs e)
-child-firm c h vs e g s = (child-fit c h vs e .1 s, g s)
+solid-or-later : (c : Child) (r : Bool) (cs : Children) → one-solid (next c r cs) ≡ true → (may-be-solid c ≡ true) ⊎ (one-solid cs ≡ true)
+solid-or-later c true cs h = inl (and-l (may-be-solid c) (none-solid cs) h)
+solid-or-later c false cs h = inr h
 
 mutual
   unfolding flow-process each-flow
@@ -110,8 +100,8 @@ mutual
       let k = and-r (one-solid (next c r cs)) (child-flows c solid && children-flows cs solid) h in
       let i = and-l (child-flows c solid) (children-flows cs solid) k in
       children-guarded cs (and-r (child-flows c solid) (children-flows cs solid) k) vs (child-process c vs e) (e + child-events c)
-      (firm-here c r cs _ (child-firm c i vs e (λ x. child-guarded c i vs e x))
-      (and-l (one-solid (next c r cs)) (child-flows c solid && children-flows cs solid) h))
+      (⊎-map (λ m. (child-fit c i vs e .1 m, child-guarded c i vs e m)) (λ l. l)
+      (solid-or-later c r cs (and-l (one-solid (next c r cs)) (child-flows c solid && children-flows cs solid) h)))
 
   children-guarded : (cs : Children) → children-flows cs solid ≡ true → (vs : List ℕ) (p : Process) (e : ℕ) → Firm p ⊎ (one-solid cs ≡ true)
       → Guarded (children-process cs vs p e)
@@ -120,7 +110,8 @@ mutual
   children-guarded (next c r cs) h vs p e s =
       let i = and-l (child-flows c solid) (children-flows cs solid) h in
       children-guarded cs (and-r (child-flows c solid) (children-flows cs solid) h) vs (join seq p (child-process c vs e)) (e + child-events c)
-      (firm-next c r cs p _ (child-firm c i vs e (λ x. child-guarded c i vs e x)) s)
+      (⊎-elim (λ F. inl (seq-firm p _ (inl F)))
+      (λ o. ⊎-map (λ m. seq-firm p _ (inr (child-fit c i vs e .1 m, child-guarded c i vs e m))) (λ l. l) (solid-or-later c r cs o)) s)
 
   child-guarded : (c : Child) → child-flows c solid ≡ true → (vs : List ℕ) (e : ℕ) → may-be-solid c ≡ true → Guarded (child-process c vs e)
   child-guarded (plain m) h vs e s = member-guarded m h vs e
