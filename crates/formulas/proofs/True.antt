@@ -5,16 +5,15 @@ use mathlib.Core.List.{List, [], _∷_, _++_}
 use Prim.Native.Nat.{ℕ, zero, suc, _+_, _-_}
 use native.Mathlib.Omega.{arith}
 use lib.ListN.{length}
-use Rattle.base.proofs.Truth.{by-cases}
-use Rattle.process.specs.Process.{Joint, seq, and, or, xor, Process, event, join, again, rounds, owns, events}
+use Rattle.process.specs.Process.{seq, and, or, xor, Process, event, join, again, rounds, owns, events}
 use Rattle.process.specs.Bits.{Bits}
 use Rattle.process.specs.Bodies.{first}
 use Rattle.process.specs.Guards.{begun, complete, enabled}
 use Rattle.process.proofs.Numbered.{size, Numbered, size-events}
 use Rattle.process.proofs.Cleared.{first-lowest, size-positive}
 use Rattle.process.proofs.Settled.{loop-settled, some-settled}
-use Rattle.formulas.specs.Formulas.{Formula, is, both, either, holds, all-hold}
-use Rattle.formulas.specs.Conditions.{some-true, all-false, begun-when, idle-when, Condition, always, when, meet, choice, complete-when, settled-when, guarded, of-second, of-first, conditions}
+use Rattle.formulas.specs.Formulas.{Formula, holds, all-hold}
+use Rattle.formulas.specs.Conditions.{some-true, all-false, begun-when, idle-when, Condition, always, when, meet, choice, complete-when, settled-when, guarded, conditions}
 
 -- ---- whether an event of a run of numbers has been taken
 unfoldable any-set : Bits → ℕ → ℕ → Bool
@@ -152,7 +151,8 @@ guards-true (event n l) lo m s x = and-true (not (s n))
 guards-true (join seq p q) lo m s x =
     either-part (owns p x) _ _ s
     (asked-first (idle-when q ∷ []) (conditions p x) s (one-holds (idle-when q) s (idle-true q (lo + size p) (m .1) s)) (guards-true p lo (m .0) s x))
-    (asked-first (guarded (complete-when p)) (conditions q x) s (guarded-hold (complete-when p) s ∙ complete-true s p lo (m .0)) (guards-true q (lo + size p) (m .1) s x))
+    (asked-first (guarded (complete-when p)) (conditions q x) s (guarded-hold (complete-when p) s ∙ complete-true s p lo (m .0))
+    (guards-true q (lo + size p) (m .1) s x))
 guards-true (join and p q) lo m s x = either-part (owns p x) _ _ s (guards-true p lo (m .0) s x) (guards-true q (lo + size p) (m .1) s x)
 guards-true (join or p q) lo m s x = either-part (owns p x) _ _ s (guards-true p lo (m .0) s x) (guards-true q (lo + size p) (m .1) s x)
 guards-true (join xor p q) lo m s x =
