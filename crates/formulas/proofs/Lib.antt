@@ -3,3 +3,4 @@ pub mod Spoken
 pub mod Sized
 pub mod Some
 pub mod Machine
+pub mod Unambiguous
