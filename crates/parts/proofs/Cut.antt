@@ -91,6 +91,12 @@ count-append [] ys = omega arith
 count-append (c ∷ xs) ys =
     let h = count-append xs ys in by-cases (leb c 2) (λ e. rw e (omega (arith, h))) (λ e. rw e h)
 
+-- No more than there are numbers.
+pub few-events : (cs : List ℕ) → event-count cs ≤ length cs
+unfolding event-count
+few-events [] = omega arith
+few-events (c ∷ cs) = let h = few-events cs in by-cases (leb c 2) (λ e. rw e (omega (arith, h))) (λ e. rw e (omega (arith, h)))
+
 no-event : (j : Joint) → event-count (joint-code j ∷ []) ≡ 0
 unfolding event-count
 no-event seq = refl

@@ -2,7 +2,7 @@
 
 ghost use mathlib.Core.Path.{_≡_};
 ghost use mathlib.Core.List.{[], _∷_};
-ghost use Prim.Native.Nat.{_^_, _≤_, _<_};
+ghost use Prim.Native.Nat.{_-_, _^_, _≤_, _<_};
 ghost use lib.ListN.{length};
 ghost use Rattle.parts.specs.Cuts.{wanted as wanted-before, second-begins, event-count};
 
@@ -57,4 +57,15 @@ pub fn events(codes: &[u8]) -> usize
         i += 1;
     }
     n
+}
+
+// How many events come after the first.
+pub fn after(codes: &[u8]) -> usize
+    ensures { λ r. ⌜ (r ≡ event-count (now (codes .entry)) - 1) × (r ≤ length (now (codes .entry)) - 1) ⌝ }
+{
+    let n = events(codes);
+    if n == 0 {
+        return 0;
+    }
+    n - 1
 }

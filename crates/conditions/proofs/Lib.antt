@@ -1,0 +1,4 @@
+pub mod Absent
+pub mod Shapes
+pub mod Phrases
+pub mod Written

@@ -1,0 +1,14 @@
+-- By the code's test.
+use Rattle.output.proofs.Buffers.{none-put}
+use borrow.Author.Needs.{needs}
+use Rattle.conditions.proofs.between.Statement.{statement}
+use Rattle.conditions.proofs.between.Tie as tie
+
+pub between-spec : {M : Type 1} → statement M
+between-spec =
+    tie.close
+    (tie.spec
+    (λ c κs. search needs)
+    (λ c. search needs)
+    (λ c. rw (c .before .before .before .before .if1 .taken) (c .before .before .connective .ensures))
+    (λ c. rw (c .if1 .left) (none-put _)))

@@ -1,0 +1,15 @@
+-- One after the other.
+use Rattle.output.proofs.Buffers.{before}
+use borrow.Author.Needs.{needs}
+use Rattle.conditions.proofs.close.Statement.{statement}
+use Rattle.conditions.proofs.close.Tie as tie
+
+pub close-spec : {M : Type 1} → statement M
+close-spec =
+    tie.close
+    (tie.spec
+    (λ c. search needs)
+    (λ c κs. search needs)
+    (λ c κs. search needs)
+    (λ c. search needs)
+    (λ c h. before _ _ _ (c .before .before .before .before .before .before .sign .ensures) (c .before .before .finish .ensures h)))

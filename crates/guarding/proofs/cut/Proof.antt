@@ -1,0 +1,26 @@
+-- By the code's test.
+use mathlib.Core.Path.{sym}
+use native.Mathlib.Omega.{arith}
+use lib.Seq.{length-take-le}
+use Rattle.guarding.proofs.Labelled.{body-cut, parts-cut}
+use borrow.Author.Needs.{needs}
+use Rattle.guarding.proofs.cut.Statement.{statement}
+use Rattle.guarding.proofs.cut.Tie as tie
+
+returns : tie.Need-returns
+returns c =
+    (body-cut _ (c .before .before .args .codes .now) _ (c .before .before .pre) (c .if1 .taken), omega arith)
+
+returns-2 : tie.Need-returns-2
+returns-2 c =
+    let s = c .second .ensures in
+    (parts-cut _ _ _ (c .before .before .if1 .left) (s .0), omega (arith, s .1, length-take-le (c .before .before .before .before .args .last) (c .before .before .before .before .args .codes .now) (c .before .before .before .before .pre)))
+
+pub cut-spec : {M : Type 1} → statement M
+cut-spec =
+    tie.close
+    (tie.spec
+    returns
+    (λ c. sym (length-take-le (c .before .before .before .args .last) (c .before .before .before .args .codes .now) (c .before .before .before .pre)))
+    (λ c κs. search needs)
+    returns-2)
