@@ -17,6 +17,21 @@ pub enum Size {
     Full,
 }
 
+/// What a drawing without replicators shall be like, of which a machine is made.
+#[derive(Clone, Copy, Debug, PartialEq)]
+pub enum Machine {
+    /// At most this many events, and more than half of them.
+    UpTo(usize),
+    /// Filled up until it has just this many events.
+    Exactly(usize),
+    /// At most this many events, and a node at depth 12.
+    Deep(usize),
+    /// One constructor in the other down to depth 12, mostly `or`, with just this
+    /// many events and all names as long as they may be: a long way to say what is
+    /// complete.
+    Nested(usize),
+}
+
 /// How much room there is. Growth stops when one of them is reached; the last
 /// nodes may still go over it.
 struct Room {
@@ -26,6 +41,7 @@ struct Room {
     events: usize,
     children: usize,
     members: usize,
+    /// The largest size of a replicator; 0 if there shall be none.
     largest: usize,
     /// A leaf is put once in so many times where more would be possible.
     plain: usize,
@@ -91,16 +107,65 @@ fn with_blanks(text: Vec<u8>, random: &mut Random) -> Vec<u8> {
 
 fn drawing(size: Size, random: &mut Random) -> String {
     let room = room(size, random);
-    let deep = size == Size::Deep;
     let long_names = random.once_in(8);
-    let mut maker = Maker { random, room, deep, long_names, text: String::new(), nodes: 0, copies: 0, events: 0 };
-    maker.open_flow(&[]);
-    maker.children(2, &mut Vec::new());
-    if size == Size::Full {
-        maker.fill_up();
+    let maker = Maker::new(random, room, size == Size::Deep, long_names);
+    maker.drawing(|maker| {
+        maker.children(2, &mut Vec::new());
+        if size == Size::Full {
+            maker.fill_up();
+        }
+    })
+}
+
+/// A text that is accepted and has no replicator. It has blanks now and then.
+pub fn machine_text(machine: Machine, random: &mut Random) -> Vec<u8> {
+    loop {
+        let text = machine_drawing(machine, random).into_bytes();
+        if fits_machine(&text, machine) {
+            return with_blanks(text, random);
+        }
     }
-    maker.text.push(')');
-    maker.text
+}
+
+fn fits_machine(text: &[u8], machine: Machine) -> bool {
+    let Ok(summary) = read(text) else { return false };
+    match machine {
+        Machine::UpTo(events) => summary.events <= events && 2 * summary.events > events,
+        Machine::Exactly(events) | Machine::Nested(events) => summary.events == events,
+        Machine::Deep(events) => summary.events <= events && summary.nodes.iter().any(|node| node.depth == 12),
+    }
+}
+
+fn machine_drawing(machine: Machine, random: &mut Random) -> String {
+    let long_names = matches!(machine, Machine::Nested(_)) || random.once_in(3);
+    let room = machine_room(machine, random);
+    let maker = Maker::new(random, room, matches!(machine, Machine::Deep(_)), long_names);
+    maker.drawing(|maker| match machine {
+        Machine::UpTo(_) | Machine::Deep(_) => maker.children(2, &mut Vec::new()),
+        Machine::Exactly(events) => {
+            maker.children(2, &mut Vec::new());
+            maker.fill_to(events);
+        }
+        Machine::Nested(events) => maker.nested_children(2, events),
+    })
+}
+
+/// Something is left for what is put at the end of the root, or further down.
+fn machine_room(machine: Machine, random: &mut Random) -> Room {
+    let (most, growth) = match machine {
+        Machine::UpTo(events) => (events, events),
+        Machine::Exactly(events) | Machine::Deep(events) | Machine::Nested(events) => (events, events * 2 / 3),
+    };
+    Room {
+        depth: 12,
+        nodes: 4 * most,
+        copies: 4 * most,
+        events: growth,
+        children: random.within(2, 3),
+        members: random.within(2, 3),
+        largest: 0,
+        plain: random.within(2, 5),
+    }
 }
 
 /// A replicator around the node that is being made.
@@ -126,7 +191,19 @@ struct Maker<'r> {
     events: usize,
 }
 
-impl Maker<'_> {
+impl<'r> Maker<'r> {
+    fn new(random: &'r mut Random, room: Room, deep: bool, long_names: bool) -> Maker<'r> {
+        Maker { random, room, deep, long_names, text: String::new(), nodes: 0, copies: 0, events: 0 }
+    }
+
+    /// The whole drawing; `children` puts those of the root.
+    fn drawing(mut self, children: impl FnOnce(&mut Self)) -> String {
+        self.open_flow(&[]);
+        children(&mut self);
+        self.text.push(')');
+        self.text
+    }
+
     fn put(&mut self, text: &str) {
         self.text.push_str(text);
     }
@@ -184,9 +261,11 @@ impl Maker<'_> {
         if plain && !down || depth >= self.room.depth || !self.has_room() {
             return self.leaf(around);
         }
-        let kinds: &[&str] = match solid {
-            true => &["flow", "xor", "xor", "one", "one"],
-            false => &["flow", "and", "and", "or", "or", "xor", "all", "some", "one", "loop", "loop", "loop"],
+        let kinds: &[&str] = match (solid, self.room.largest > 0) {
+            (true, true) => &["flow", "xor", "xor", "one", "one"],
+            (false, true) => &["flow", "and", "and", "or", "or", "xor", "all", "some", "one", "loop", "loop", "loop"],
+            (true, false) => &["flow", "xor", "xor"],
+            (false, false) => &["flow", "and", "or", "or", "xor", "loop", "loop"],
         };
         match *self.random.pick(kinds) {
             "flow" => self.flow(depth, around),
@@ -240,6 +319,30 @@ impl Maker<'_> {
         self.member(depth + 1, around, down);
         around.pop();
         self.put(")");
+    }
+
+    /// Children with just so many events: a constructor around a flow of the same
+    /// sort, and a leaf after it. At the bottom there are leaves alone.
+    fn nested_children(&mut self, depth: usize, events: usize) {
+        if depth + 2 > self.room.depth || events < 4 {
+            self.leaf(&[]);
+            self.put("(1)");
+            return (1..events).for_each(|_| self.fill_leaf());
+        }
+        let keyword = *self.random.pick(&["or", "or", "or", "or", "and", "xor", "loop"]);
+        let beside = if keyword == "loop" { 1 } else { self.random.within(1, 2) };
+        self.count(&[]);
+        self.put(&format!("{keyword}("));
+        self.open_flow(&[]);
+        self.nested_children(depth + 2, events - beside - 1);
+        self.put(")");
+        match keyword {
+            "loop" => self.events += 1,
+            _ => (0..beside).for_each(|_| self.leaf(&[])),
+        }
+        self.put(")(0)");
+        self.leaf(&[]);
+        self.put("(1)");
     }
 
     // -----------------------------------------------------------------------
@@ -307,12 +410,38 @@ impl Maker<'_> {
         self.put("(1)))(0)");
     }
 
+    /// The same without replicators, up to just so many events.
+    fn fill_to(&mut self, events: usize) {
+        let choices = *self.random.pick(&[1, 4]);
+        while self.events < events {
+            match (self.random.below(choices), events - self.events) {
+                (0, _) | (_, 1) => self.fill_leaf(),
+                (1, _) => self.fill_round(),
+                (_, left) => self.fill_group_of(left.min(8)),
+            }
+        }
+    }
+
+    /// A loop over a flow of one leaf.
+    fn fill_round(&mut self) {
+        self.count(&[]);
+        self.put("loop(");
+        self.open_flow(&[]);
+        self.leaf(&[]);
+        self.put("(1)))(0)");
+        self.events += 1;
+    }
+
     /// Some leaves in a group.
     fn fill_group(&mut self) {
         let count = self.random.within(2, 8);
-        if !self.fits(1 + count, 1 + count, count) {
-            return self.fill_leaf();
+        match self.fits(1 + count, 1 + count, count) {
+            true => self.fill_group_of(count),
+            false => self.fill_leaf(),
         }
+    }
+
+    fn fill_group_of(&mut self, count: usize) {
         self.count(&[]);
         let keyword = *self.random.pick(&["and", "or", "xor"]);
         self.put(&format!("{keyword}("));

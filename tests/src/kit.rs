@@ -1,7 +1,8 @@
 //! What the tests that play the proved library share: numbers from the
-//! environment, lending bytes to a call, making a failing list shorter, and
-//! counting what was met.
+//! environment, a refusal as one number, lending bytes to a call, making a
+//! failing list shorter, and counting what was met.
 
+use crate::Refusal;
 use std::collections::BTreeMap;
 use std::env;
 use std::hint::black_box;
@@ -13,6 +14,11 @@ pub fn number_from(variable: &str, otherwise: u64) -> u64 {
         Ok(word) => word.parse().unwrap_or_else(|_| panic!("{variable} must be a number, not {word}")),
         Err(_) => otherwise,
     }
+}
+
+/// A refusal as the C functions for these tests give it.
+pub fn refusal_number((number, place): Refusal) -> u64 {
+    (u64::from(number) << 32) + place as u64
 }
 
 // ---------------------------------------------------------------------------

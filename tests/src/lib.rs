@@ -1,5 +1,6 @@
-//! A reader and printer of diagrams, their listing and their meaning, and a
-//! player of guard tables, written from documents 01 and 02 alone.
+//! A reader and printer of diagrams, their listing and their meaning, a player of
+//! guard tables and a reader and player of Event-B text, written from documents 01
+//! and 02 alone.
 //!
 //! The text is cut into tokens, the tokens are made into an owned tree by
 //! recursive descent, and the rules beyond grammar are looked at on the
@@ -14,9 +15,9 @@
 //!   and ADL_SEED say how many generated cases and from which seed; ADL_REPLAY
 //!   plays a failing case again, see tests/fuzz/main.rs.
 //! - `ADL_LISTING=/path/to/program cargo test --test program`: the listing
-//!   program against the reference, with ADL_TRANSLATE and ADL_PLAY the other
-//!   two; with ADL_ARCHIVE=1 also docs/LANGUAGE.md against programs and library.
-//!   A test whose archive or program is missing fails.
+//!   program against the reference, with ADL_TRANSLATE, ADL_PLAY and ADL_EVENTB
+//!   the others; with ADL_ARCHIVE=1 also docs/LANGUAGE.md against programs and
+//!   library. A test whose archive or program is missing fails.
 //! - `./bench` in the directory above: the proved library, Rust and plain C
 //!   timed in one run.
 //!
@@ -25,11 +26,13 @@
 //! directory above, in ../target/staticlib.
 
 pub mod drawings;
+pub mod eventb;
 pub mod generate;
 pub mod kit;
 pub mod listing;
 pub mod meaning;
 pub mod plain;
+pub mod plain_eventb;
 pub mod plain_listing;
 pub mod player;
 #[cfg(adl_archive)]
@@ -39,6 +42,8 @@ pub mod worked;
 
 #[cfg(test)]
 mod check_drawings;
+#[cfg(test)]
+mod check_eventb;
 #[cfg(test)]
 mod check_grammar;
 #[cfg(test)]

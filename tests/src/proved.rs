@@ -1,6 +1,7 @@
 //! The proved library, through the C functions of its test archive: those made
 //! for these tests, and those of the firmware (adl.h) that play a run.
 
+pub use crate::kit::refusal_number;
 use crate::listing::Values;
 use crate::table::Words;
 use crate::{Kind, NodeInfo, Refusal, Summary};
@@ -18,6 +19,7 @@ extern "C" {
     fn adl_test_list(text: *const u8, len: usize, out: *mut u8, out_len: usize) -> u64;
     fn adl_test_name(text: *const u8, len: usize, event: u64, out: *mut u8, out_len: usize) -> u64;
     fn adl_test_values(text: *const u8, len: usize, event: u64) -> u64;
+    fn adl_test_eventb(text: *const u8, len: usize, event: u64, out: *mut u8, out_len: usize) -> u64;
     fn adl_test_node(text: *const u8, len: usize, index: u64) -> u64;
     fn adl_test_place(text: *const u8, len: usize, index: u64) -> u64;
     fn adl_test_update(table: *const u8, table_len: usize, lent: *mut Record, event: u64) -> u64;
@@ -71,6 +73,13 @@ pub fn name(text: &[u8], event: u64, out: &mut [u8]) -> u64 {
 pub fn values(text: &[u8], event: u64) -> u64 {
     // The pointer and the length are those of one slice, which is only read.
     unsafe { adl_test_values(text.as_ptr(), text.len(), event) }
+}
+
+/// The Event-B text of an event: the number of bytes written, or
+/// number * 2^32 + place for a refusal.
+pub fn eventb(text: &[u8], event: u64, out: &mut [u8]) -> u64 {
+    // Pointers and lengths are those of two slices; the second may be written.
+    unsafe { adl_test_eventb(text.as_ptr(), text.len(), event, out.as_mut_ptr(), out.len()) }
 }
 
 /// What `node_number` packs of the node with this index in text order, or
@@ -179,9 +188,4 @@ pub fn node_number(node: &NodeInfo) -> u64 {
 /// * 2^16 + that of its name or par, 0 where it has none.
 pub fn place_number(node: &NodeInfo) -> u64 {
     (node.place as u64) << 16 | node.word_place.unwrap_or(0) as u64
-}
-
-/// A refusal as the C functions for these tests give it.
-pub fn refusal_number((number, place): Refusal) -> u64 {
-    (u64::from(number) << 32) + place as u64
 }
