@@ -2,9 +2,10 @@
 //! held against each other and timed. Numbers are packed as in `proved`.
 
 use super::{c, print, translate, Refusal};
+use crate::eventb::compare::Call;
 use crate::listing::LISTING_LIMIT;
 use crate::table::{bytes_of, words_of, Words};
-use crate::{plain_listing, proved, read, table};
+use crate::{plain_eventb, plain_listing, proved, read, table};
 
 pub struct Calls {
     pub title: &'static str,
@@ -14,6 +15,7 @@ pub struct Calls {
     pub list: fn(&[u8], &mut [u8]) -> u64,
     pub name: fn(&[u8], u64, &mut [u8]) -> u64,
     pub values: fn(&[u8], u64) -> u64,
+    pub eventb: Call,
     pub update: fn(&[u8], &mut Words, u64) -> u64,
     pub check: fn(&[u8]) -> u8,
     pub step: fn(&[u8], &mut [u8], u64) -> u8,
@@ -29,6 +31,7 @@ pub const PROVED: Calls = Calls {
     list: proved::list,
     name: proved::name,
     values: proved::values,
+    eventb: proved::eventb,
     update: proved::update,
     check: proved::check,
     step: proved::step,
@@ -53,6 +56,7 @@ pub const RUST: Calls = Calls {
     },
     name: |text, event, out| copied(plain_listing::name(text, event), out),
     values: |text, event| proved::values_number(&plain_listing::values(text, event)),
+    eventb: plain_eventb::eventb,
     update: |table, words, event| updated(table::step, table, words, event),
     check: table::check,
     step: table::step,
@@ -60,6 +64,7 @@ pub const RUST: Calls = Calls {
     finished: table::finished,
 };
 
+/// Event-B text is not timed and not written in C: there it is that of Rust.
 pub const C: Calls = Calls {
     title: "plain C",
     read: c::read,
@@ -68,6 +73,7 @@ pub const C: Calls = Calls {
     list: c::list,
     name: c::name,
     values: c::values,
+    eventb: plain_eventb::eventb,
     update: |table, words, event| updated(c::step, table, words, event),
     check: c::check,
     step: c::step,

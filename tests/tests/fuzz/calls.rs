@@ -48,6 +48,11 @@ pub fn random_calls(diagram: &Diagram, random: &mut Random) -> Vec<Call> {
     calls
 }
 
+/// The events of such a list.
+pub fn random_run(diagram: &Diagram, random: &mut Random) -> Vec<u64> {
+    random_calls(diagram, random).into_iter().filter_map(Call::event).collect()
+}
+
 fn random_call(diagram: &Diagram, book: &Book, habit: &Habit, random: &mut Random) -> Call {
     if random.below(100) < forward_chance(diagram, book, habit) {
         if let Some(event) = coming_event(book, habit, random) {

@@ -1,7 +1,8 @@
 //! One case: all that a comparison is given. It is written as one line of
 //! fields `key=value`, and read back from it.
 
-use crate::{runs, tables, texts};
+use crate::{eventb, runs, tables, texts};
+use reference::eventb::compare::Asked;
 use reference::plain::calls::Calls;
 use std::collections::BTreeMap;
 use std::fmt::{self, Display};
@@ -12,6 +13,8 @@ pub enum Case {
     Text(TextCase),
     Run(RunCase),
     Table(TableCase),
+    /// The Event-B text of a drawing's events.
+    Machine(Asked),
 }
 
 /// A text, the lengths of the buffers that are lent with it, the indices of
@@ -40,6 +43,16 @@ pub enum Call {
     /// A step through the thin call.
     Update(u64),
     Finished,
+}
+
+impl Call {
+    /// The event of a step.
+    pub fn event(self) -> Option<u64> {
+        match self {
+            Call::Step(event) | Call::Update(event) => Some(event),
+            Call::Finished => None,
+        }
+    }
 }
 
 /// A table with what is done to its bytes, a record, an event number and the
@@ -72,6 +85,7 @@ impl Case {
             Case::Text(case) => texts::difference(case, library),
             Case::Run(case) => runs::difference(case, library),
             Case::Table(case) => tables::difference(case, library),
+            Case::Machine(case) => eventb::difference(case, library),
         }
     }
 }
@@ -114,6 +128,10 @@ impl Display for Case {
             Case::Table(TableCase { table, damage, record, event, offer }) => {
                 write!(out, "case=table event={event} offer={offer} damage={} ", joined(damage))?;
                 write!(out, "record={} table={}", hexadecimal(record), hexadecimal(table))
+            }
+            Case::Machine(Asked { text, length, numbers, run }) => {
+                let (numbers, run, text) = (joined(numbers), joined(run), escaped(text));
+                write!(out, "case=machine length={length} numbers={numbers} run={run} text={text}")
             }
         }
     }
@@ -181,6 +199,12 @@ impl FromStr for Case {
                 record: bytes_in(fields.word("record")?)?,
                 event: fields.parsed("event")?,
                 offer: fields.parsed("offer")?,
+            })),
+            "machine" => Ok(Case::Machine(Asked {
+                text: unescaped(fields.word("text")?)?,
+                length: fields.parsed("length")?,
+                numbers: fields.list("numbers")?,
+                run: fields.list("run")?,
             })),
             other => Err(format!("no case is called {other}")),
         }

@@ -3,10 +3,13 @@
 //! of a run, each way to make a case, each length of a buffer.
 
 use crate::case::{Call, Case, Damage, RunCase, TableCase, TextCase};
+use crate::machines::{add_machine, machine_nestings, MACHINES};
 use crate::make::{Made, WAYS};
 use crate::texts::answer_in;
 use crate::watch::{watch, SITUATIONS};
 use reference::drawings::{all_nestings, nestings};
+use reference::eventb::compare::Asked;
+use reference::eventb::{asked, drawing_of, EVENTB_LIMIT};
 use reference::kit::Counts;
 use reference::listing::{events, listing, Events, LISTING_LIMIT};
 use reference::meaning::Diagram;
@@ -35,6 +38,7 @@ impl Coverage {
             Case::Text(case) => add_text(case, &mut self.counts),
             Case::Run(case) => add_run(case, &mut self.counts),
             Case::Table(case) => add_table(case, &mut self.counts),
+            Case::Machine(case) => add_eventb(case, &mut self.counts),
         }
     }
 }
@@ -43,7 +47,7 @@ impl Coverage {
 // Titles
 // ---------------------------------------------------------------------------
 
-const CALLS: [&str; 13] = [
+const CALLS: [&str; 14] = [
     "read",
     "node",
     "place",
@@ -52,6 +56,7 @@ const CALLS: [&str; 13] = [
     "list",
     "name",
     "values",
+    "eventb",
     "check",
     "step",
     "update",
@@ -68,6 +73,7 @@ fn numbers_of(call: &str) -> Vec<u8> {
         "node" | "place" => (&[0], &[255]),
         "print" | "translate" => (&[0, 1], &[]),
         "name" | "values" => (&[0], &[14]),
+        "eventb" => (&[0, 1], &[14, 16]),
         "check" => return vec![0, 12],
         "step" => return vec![0, 1, 12, 13, 14, 15],
         "update" => return vec![0, 12, 13, 14, 15],
@@ -121,12 +127,18 @@ const TRAITS: [&str; 19] = [
     "text with some nodes asked for",
 ];
 
-const BUFFERS: [(&str, usize); 4] =
-    [("print", TEXT_LIMIT), ("translate", TABLE_LIMIT), ("list", LISTING_LIMIT), ("name", WORD_LIMIT)];
+const BUFFERS: [(&str, usize); 5] = [
+    ("print", TEXT_LIMIT),
+    ("translate", TABLE_LIMIT),
+    ("list", LISTING_LIMIT),
+    ("name", WORD_LIMIT),
+    ("eventb", EVENTB_LIMIT),
+];
 const LENGTHS: [&str; 4] = ["empty", "short", "exact", "long"];
 const OFFER_LENGTHS: [usize; 5] = [0, 63, 64, 65, 100];
 const RECORD_LENGTHS: [usize; 5] = [0, 63, 64, 65, 128];
 
+const SORTS: [&str; 4] = ["text", "run", "table", "machine"];
 const EVENT_NUMBERS: [&str; 4] = ["below E", "at E", "past E", "2^32 and more"];
 
 const TABLES: [&str; 12] = [
@@ -147,14 +159,13 @@ const TABLES: [&str; 12] = [
 fn titles() -> Vec<String> {
     let answers = CALLS.iter().flat_map(|call| numbers_of(call).into_iter().map(move |number| title(call, number)));
     let buffers = BUFFERS.iter().flat_map(|(call, _)| LENGTHS.map(|length| format!("{call} buffer {length}")));
-    let numbers = ["text", "run", "table"]
-        .iter()
-        .flat_map(|sort| EVENT_NUMBERS.map(|number| format!("{sort} event number {number}")));
-    let plain = TRAITS.iter().chain(&SITUATIONS).chain(&WAYS).chain(&TABLES);
+    let numbers = SORTS.iter().flat_map(|sort| EVENT_NUMBERS.map(|number| format!("{sort} event number {number}")));
+    let plain = TRAITS.iter().chain(&SITUATIONS).chain(&WAYS).chain(&TABLES).chain(&MACHINES);
     answers
         .chain(nesting_titles(DIRECTLY, can_hold_directly))
         .chain(nesting_titles(INSIDE, can_hold))
         .chain(all_nestings())
+        .chain(machine_nestings())
         .chain(buffers)
         .chain(OFFER_LENGTHS.map(|length| format!("offer buffer {length}")))
         .chain(RECORD_LENGTHS.map(|length| format!("record of {length}")))
@@ -186,10 +197,8 @@ fn add_text(case: &TextCase, counts: &mut Counts) {
     case.nodes.iter().for_each(|index| add_index(&summary, *index, counts));
     let events = events(&case.text);
     add_answers(case, &events, counts);
-    let lengths = [case.print, case.translate, case.list, case.name];
-    for ((call, limit), length) in BUFFERS.iter().zip(lengths) {
-        counts.add(&format!("{call} buffer {}", length_kind(length, *limit)));
-    }
+    let lengths = [("print", case.print), ("translate", case.translate), ("list", case.list), ("name", case.name)];
+    lengths.iter().for_each(|(call, length)| add_length(call, *length, counts));
     if let (Ok(summary), Ok(_)) = (&summary, &events) {
         add_drawing(&case.text, summary, &events, counts);
         let every_node = summary.nodes.len() < case.nodes.len();
@@ -197,13 +206,15 @@ fn add_text(case: &TextCase, counts: &mut Counts) {
     }
 }
 
-fn length_kind(length: usize, limit: usize) -> &'static str {
-    match length {
+fn add_length(call: &str, length: usize, counts: &mut Counts) {
+    let limit = BUFFERS.iter().find(|(other, _)| *other == call).expect("the call is lent a buffer").1;
+    let kind = match length {
         0 => "empty",
         _ if length < limit => "short",
         _ if length == limit => "exact",
         _ => "long",
-    }
+    };
+    counts.add(&format!("{call} buffer {kind}"));
 }
 
 fn add_index(summary: &Result<Summary, Refusal>, index: u64, counts: &mut Counts) {
@@ -360,6 +371,19 @@ fn add_table(case: &TableCase, counts: &mut Counts) {
     }
 }
 
+/// The events of a machine are all asked for, whatever the numbers are.
+fn add_eventb(case: &Asked, counts: &mut Counts) {
+    let drawing = drawing_of(&case.text);
+    add_length("eventb", case.length, counts);
+    for number in &case.numbers {
+        counts.add(&title("eventb", number_of(&asked(&drawing, *number, case.length))));
+        if let Ok(diagram) = &drawing {
+            add_event_number("machine", *number, diagram.events.len(), counts);
+        }
+    }
+    add_machine(case, &drawing, counts);
+}
+
 fn add_table_step(case: &TableCase, table: &[u8], counts: &mut Counts) {
     let mut record = case.record.clone();
     let answer = table::step(table, &mut record, case.event);
@@ -387,7 +411,7 @@ fn damage_title(damage: &[Damage], sound: bool) -> &'static str {
 
 impl Display for Coverage {
     fn fmt(&self, out: &mut fmt::Formatter) -> fmt::Result {
-        let numbers: Vec<String> = (0..=15).chain([255]).map(|number: u8| number.to_string()).collect();
+        let numbers: Vec<String> = (0..=16).chain([255]).map(|number: u8| number.to_string()).collect();
         let numbers: Vec<&str> = numbers.iter().map(String::as_str).collect();
         writeln!(out, "\nanswers: 0 for what is no refusal, 255 for finished or an index past the nodes")?;
         self.matrix(out, &numbers, &CALLS, |number, call| format!("{call} {number}"))?;
@@ -398,16 +422,18 @@ impl Display for Coverage {
         writeln!(out, "\nthe same, no other constructor between; a loop over a leaf told apart")?;
         let inner = ["and", "or", "xor", "all", "some", "one", "loop", "leaf loop"];
         self.matrix(out, &inner, &inner[..7], |inner, outer| format!("{inner} in {outer}"))?;
+        writeln!(out, "\nthe same in machines")?;
+        let inner = ["and", "or", "xor", "loop", "leaf loop"];
+        self.matrix(out, &inner, &inner[..4], |inner, outer| format!("machine with {inner} in {outer}"))?;
         writeln!(out, "\nbuffers")?;
         let calls = BUFFERS.map(|(call, _)| call);
         self.matrix(out, &LENGTHS, &calls, |length, call| format!("{call} buffer {length}"))?;
         writeln!(out, "\nevent numbers")?;
-        let sorts = ["text", "run", "table"];
-        self.matrix(out, &EVENT_NUMBERS, &sorts, |number, sort| format!("{sort} event number {number}"))?;
+        self.matrix(out, &EVENT_NUMBERS, &SORTS, |number, sort| format!("{sort} event number {number}"))?;
         writeln!(out)?;
         let lengths = OFFER_LENGTHS.map(|length| format!("offer buffer {length}"));
         let records = RECORD_LENGTHS.map(|length| format!("record of {length}"));
-        let plain = TRAITS.iter().chain(&SITUATIONS).chain(&WAYS).chain(&TABLES).copied();
+        let plain = TRAITS.iter().chain(&SITUATIONS).chain(&WAYS).chain(&TABLES).chain(&MACHINES).copied();
         let lines = plain.chain(lengths.iter().map(String::as_str)).chain(records.iter().map(String::as_str));
         for title in lines {
             writeln!(out, "{title:<50} {:>9}", self.counts.get(title).unwrap_or_default())?;

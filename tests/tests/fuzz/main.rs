@@ -1,5 +1,5 @@
-//! Holds the proved library against the reference, on texts, runs and tables, when
-//! ADL_ARCHIVE=1 is set, see build.rs. Without it there is nothing to hold, and
+//! Holds the proved library against the reference, on texts, runs, tables and
+//! Event-B machines, when ADL_ARCHIVE=1 is set, see build.rs. Without it there is nothing to hold, and
 //! the one test that is left fails.
 //!
 //! Every case is a value of `Case`; case k of a seed is made from the two
@@ -17,7 +17,9 @@ with_the_archives! {
     mod calls;
     mod case;
     mod coverage;
+    mod eventb;
     mod fixed;
+    mod machines;
     mod make;
     mod model;
     mod playing;

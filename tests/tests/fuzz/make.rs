@@ -1,10 +1,13 @@
 //! The generated cases: case k of a seed is made from the two numbers alone. In
 //! some of them the library's own translation has a part, which is fixed too.
 
-use crate::calls::{past_the_events, random_calls};
+use crate::calls::{past_the_events, random_calls, random_run};
 use crate::case::{Case, Damage, RunCase, TableCase, TextCase};
+use crate::machines::sizes_of;
 use crate::model::{random_past_a_limit, random_sound};
-use reference::drawings::{accepted_text, Size};
+use reference::drawings::{accepted_text, machine_text, Machine, Size};
+use reference::eventb::compare::Asked;
+use reference::eventb::{drawing_of, EVENTB_LIMIT};
 use reference::generate::{damaged, damaged_by_a_token, random_sort, text_of, Random, Sort};
 use reference::listing::LISTING_LIMIT;
 use reference::meaning::Diagram;
@@ -19,7 +22,7 @@ pub struct Made {
 }
 
 /// All ways that `make` tells.
-pub const WAYS: [&str; 21] = [
+pub const WAYS: [&str; 30] = [
     "text: drawing",
     "text: drawing, tokens damaged",
     "text: drawing, bytes damaged",
@@ -41,11 +44,24 @@ pub const WAYS: [&str; 21] = [
     "record: random below E",
     "record: with a stray bit",
     "record: of a wrong length",
+    "machine: of a small drawing",
+    "machine: of a middle drawing",
+    "machine: of a deep drawing",
+    "machine: of a nested drawing",
+    "machine: of just 32 events",
+    "machine: 33 events",
+    "machine: replicators of size 1",
+    "machine: any accepted drawing",
+    "machine: text of any sort",
 ];
+
+/// One case in so many is a machine, whatever the seed is.
+const MACHINE_EACH: u64 = 13;
 
 pub fn make(seed: u64, number: u64) -> Made {
     let random = &mut Random::new(Random::new(seed).number().wrapping_add(number));
     match random.below(100) {
+        _ if number % MACHINE_EACH == MACHINE_EACH - 1 => make_machine(random),
         0..=34 => make_text(random),
         35..=59 => make_run(random),
         _ => make_table(random),
@@ -307,4 +323,52 @@ fn random_damage(length: usize, random: &mut Random) -> Vec<Damage> {
         }
         _ => (0..*random.pick(&[1, 4, 4, 7])).map(|_| Damage::Longer(random.number() as u8)).collect(),
     }
+}
+
+// ---------------------------------------------------------------------------
+// Event-B machines
+// ---------------------------------------------------------------------------
+
+fn make_machine(random: &mut Random) -> Made {
+    let (way, text) = machine_source(random);
+    let length = random_length(EVENTB_LIMIT, random);
+    let events = read(&text).map_or(0, |summary| summary.events);
+    let run = match drawing_of(&text) {
+        Ok(diagram) => random_run(&diagram, random),
+        Err(_) => Vec::new(),
+    };
+    let case = Asked { numbers: machine_numbers(events, random), text, length, run };
+    Made { case: Case::Machine(case), ways: vec![way] }
+}
+
+fn machine_source(random: &mut Random) -> (&'static str, Vec<u8>) {
+    match random.below(100) {
+        0..=23 => ("machine: of a small drawing", machine_text(Machine::UpTo(random.within(1, 10)), random)),
+        24..=43 => ("machine: of a middle drawing", machine_text(Machine::UpTo(random.within(8, 32)), random)),
+        44..=53 => ("machine: of a deep drawing", machine_text(Machine::Deep(random.within(20, 32)), random)),
+        54..=63 => ("machine: of a nested drawing", machine_text(Machine::Nested(random.within(24, 32)), random)),
+        64..=70 => ("machine: of just 32 events", machine_text(Machine::Exactly(32), random)),
+        71..=73 => ("machine: 33 events", machine_text(Machine::Exactly(33), random)),
+        74..=76 => ("machine: replicators of size 1", with_size_1(random)),
+        77..=83 => ("machine: any accepted drawing", accepted_text(random_size(random), random)),
+        _ => ("machine: text of any sort", text_of_any_sort(random).1),
+    }
+}
+
+/// A small drawing, whose sizes are 1 and 2, with all of them 1.
+fn with_size_1(random: &mut Random) -> Vec<u8> {
+    loop {
+        let text = accepted_text(Size::Small(random.within(3, 14)), random);
+        let text = String::from_utf8(text).expect("no byte is foreign").replace(":2)", ":1)");
+        let sizes = sizes_of(&read(text.as_bytes()).expect("fewer copies are accepted too"));
+        if !sizes.is_empty() && sizes.iter().all(|size| *size == 1) {
+            return text.into_bytes();
+        }
+    }
+}
+
+/// Some event numbers; the events of a machine are all asked for anyway.
+fn machine_numbers(events: usize, random: &mut Random) -> Vec<u64> {
+    let below: Vec<u64> = (0..3).map(|_| random.below(events.max(1)) as u64).collect();
+    below.into_iter().chain([events as u64, past_the_events(events, random)]).collect()
 }

@@ -11,7 +11,7 @@ use std::sync::atomic::{AtomicU64, Ordering};
 use std::{env, fs, thread};
 
 /// How many cases are played if ADL_CASES does not say.
-const CASES: u64 = 120_000;
+const CASES: u64 = 130_000;
 
 #[test]
 fn proved_library_agrees_with_the_reference() {

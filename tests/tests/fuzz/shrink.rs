@@ -4,6 +4,8 @@
 
 use crate::case::{Call, Case, Damage, RunCase, TableCase, TextCase};
 use crate::model::Model;
+use reference::eventb::compare::Asked;
+use reference::eventb::EVENTB_LIMIT;
 use reference::kit::shorten;
 use reference::listing::LISTING_LIMIT;
 use reference::meaning::{Diagram, Event};
@@ -24,6 +26,7 @@ pub fn smaller(case: &Case, fails: Fails) -> Case {
             Case::Text(text) => Case::Text(smaller_text(text, fails)),
             Case::Run(run) => Case::Run(smaller_run(run, fails)),
             Case::Table(table) => Case::Table(smaller_table(table, fails)),
+            Case::Machine(machine) => Case::Machine(smaller_machine(machine, fails)),
         };
         if next == case {
             break;
@@ -248,6 +251,39 @@ fn same_event(event: &Event, diagram: &Diagram) -> Option<usize> {
 }
 
 // ---------------------------------------------------------------------------
+// Event-B machines
+// ---------------------------------------------------------------------------
+
+fn smaller_machine(mut case: Asked, fails: Fails) -> Asked {
+    let still = |case: &Asked| fails(&Case::Machine(case.clone()));
+    case.run = shorten(&case.run, |run| still(&Asked { run: run.to_vec(), ..case.clone() }));
+    case.numbers = smaller_numbers(&case.numbers, &|list| still(&Asked { numbers: list.to_vec(), ..case.clone() }));
+    let mut current = case.clone();
+    with_fewer_nodes(&case.text, &mut |text| {
+        let run = same_run(&current, text).unwrap_or_default();
+        let simpler = Asked { text: text.to_vec(), run, ..current.clone() };
+        let taken = still(&simpler);
+        if taken {
+            current = simpler;
+        }
+        taken
+    });
+    current.text = with_fewer_bytes(&current.text, &|text| still(&Asked { text: text.to_vec(), ..current.clone() }));
+    let plain = Asked { length: EVENTB_LIMIT, ..current.clone() };
+    match still(&plain) {
+        true => plain,
+        false => current,
+    }
+}
+
+/// The events of a case for another drawing.
+fn same_run(case: &Asked, text: &[u8]) -> Option<Vec<u64>> {
+    let calls = case.run.iter().map(|event| Call::Step(*event)).collect();
+    let calls = same_calls(&RunCase { text: case.text.clone(), calls }, text)?;
+    Some(calls.into_iter().filter_map(Call::event).collect())
+}
+
+// ---------------------------------------------------------------------------
 // Tables
 // ---------------------------------------------------------------------------
 
@@ -356,8 +392,11 @@ mod wrong {
     use crate::case::{Call, Case};
     use crate::make;
     use crate::playing::{play, report};
+    use reference::eventb::compare::{self, Asked};
+    use reference::eventb::EVENTB_LIMIT;
     use reference::plain::calls::{Calls, PROVED};
     use reference::plain::TABLE_LIMIT;
+    use reference::plain_eventb::{written, Ways, RIGHT};
     use reference::proved;
     use reference::table::Words;
 
@@ -476,5 +515,57 @@ mod wrong {
         let Case::Table(case) = case else { panic!("no table: {case}") };
         assert!(case.damage.len() == 1 && case.table.len() <= 24, "{case:?}");
         assert_eq!((case.event, case.record), (0, vec![0; 64]));
+    }
+
+    fn printed_machine(eventb: compare::Call) -> Asked {
+        match printed(&Calls { eventb, ..PROVED }) {
+            Case::Machine(case) => case,
+            case => panic!("no machine: {case}"),
+        }
+    }
+
+    #[test]
+    fn a_refusal_that_writes_is_found_and_made_small() {
+        let case = printed_machine(|text, event, out| {
+            let answer = proved::eventb(text, event, out);
+            if let (Some(last), true) = (out.last_mut(), answer >> 32 != 0) {
+                *last = 0;
+            }
+            answer
+        });
+        assert!(case.text.len() <= 30 && case.numbers.len() == 1 && case.run.is_empty(), "{case:?}");
+    }
+
+    #[test]
+    fn a_forgotten_successor_is_found_and_made_small() {
+        let case =
+            printed_machine(|text, event, out| written(Ways { all_later_children: false, ..RIGHT }, text, event, out));
+        assert!(case.text.len() <= 90 && case.run.len() <= 3 && case.numbers.is_empty(), "{case:?}");
+        assert_eq!(case.length, EVENTB_LIMIT);
+    }
+
+    #[test]
+    fn a_member_halfway_is_found_and_made_small() {
+        let case =
+            printed_machine(|text, event, out| written(Ways { members_halfway: false, ..RIGHT }, text, event, out));
+        assert!(case.text.len() <= 90 && case.run.len() <= 3 && case.numbers.is_empty(), "{case:?}");
+    }
+
+    #[test]
+    fn a_forgotten_clearing_is_found_and_made_small() {
+        let case = printed_machine(|text, event, out| written(Ways { clears: false, ..RIGHT }, text, event, out));
+        assert!(case.text.len() <= 60 && case.run.is_empty(), "{case:?}");
+    }
+
+    #[test]
+    fn guards_from_0_are_found_and_made_small() {
+        let case = printed_machine(|text, event, out| written(Ways { first_guard: 0, ..RIGHT }, text, event, out));
+        assert!(case.text.len() <= 30 && case.run.is_empty(), "{case:?}");
+    }
+
+    #[test]
+    fn a_machine_of_33_events_is_found() {
+        let case = printed_machine(|text, event, out| written(Ways { most_events: 33, ..RIGHT }, text, event, out));
+        assert!(case.text.len() <= 700 && case.numbers.len() == 1, "{case:?}");
     }
 }

@@ -124,29 +124,29 @@ fn is_round_over(path: &[Around], diagram: &Diagram, book: &Book) -> bool {
     is_begun(body, book) && is_complete(body, diagram, book)
 }
 
-fn is_or(kind: Kind) -> bool {
+pub fn is_or(kind: Kind) -> bool {
     matches!(kind, Kind::Or | Kind::Some(_))
 }
 
-fn is_xor(kind: Kind) -> bool {
+pub fn is_xor(kind: Kind) -> bool {
     matches!(kind, Kind::Xor | Kind::One(_))
 }
 
-fn is_loop(kind: Kind) -> bool {
+pub fn is_loop(kind: Kind) -> bool {
     kind == Kind::Loop
 }
 
 /// The flow of a loop over a flow.
-fn body_of(copy: &Copy) -> Option<&Copy> {
+pub fn body_of(copy: &Copy) -> Option<&Copy> {
     copy.below.first().filter(|body| is_loop(copy.kind) && body.kind == Kind::Flow)
 }
 
 /// Whether a bit of the copy is set.
-fn is_begun(copy: &Copy, book: &Book) -> bool {
+pub fn is_begun(copy: &Copy, book: &Book) -> bool {
     copy.events.clone().any(|event| book.is_set(event))
 }
 
-fn any_copy(copy: &Copy, holds: &dyn Fn(&Copy) -> bool) -> bool {
+pub fn any_copy(copy: &Copy, holds: &dyn Fn(&Copy) -> bool) -> bool {
     holds(copy) || copy.below.iter().any(|below| any_copy(below, holds))
 }
 
@@ -182,7 +182,7 @@ fn successor_begun(path: &[Around], book: &Book) -> bool {
 
 /// The event is of a member of an or that has not begun, though the or has and
 /// so has something after it.
-fn is_late_member(path: &[Around], book: &Book) -> bool {
+pub fn is_late_member(path: &[Around], book: &Book) -> bool {
     (0..path.len()).any(|at| {
         let around = &path[at];
         is_or(around.copy.kind)
@@ -193,23 +193,23 @@ fn is_late_member(path: &[Around], book: &Book) -> bool {
 }
 
 /// In the flows around, the children left of that with the event.
-fn children_before<'d>(path: &[Around<'d>]) -> Vec<&'d Copy> {
+pub fn children_before<'d>(path: &[Around<'d>]) -> Vec<&'d Copy> {
     let flows = path.iter().filter(|around| around.copy.kind == Kind::Flow);
     flows.flat_map(|around| &around.copy.below[..around.way]).collect()
 }
 
 /// A loop over a flow in the middle of a round.
-fn is_round_halfway(copy: &Copy, diagram: &Diagram, book: &Book) -> bool {
+pub fn is_round_halfway(copy: &Copy, diagram: &Diagram, book: &Book) -> bool {
     body_of(copy).is_some_and(|body| is_begun(body, book) && !is_complete(body, diagram, book))
 }
 
 /// The events of the copy in this round are a whole run of it.
-fn is_complete(copy: &Copy, diagram: &Diagram, book: &Book) -> bool {
+pub fn is_complete(copy: &Copy, diagram: &Diagram, book: &Book) -> bool {
     holds(&runs_of(copy), &latest(copy, diagram, book))
 }
 
 /// An or with a member that is complete and one that is begun but not.
-fn is_halfway(copy: &Copy, diagram: &Diagram, book: &Book) -> bool {
+pub fn is_halfway(copy: &Copy, diagram: &Diagram, book: &Book) -> bool {
     if !is_or(copy.kind) {
         return false;
     }
