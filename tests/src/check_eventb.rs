@@ -8,9 +8,10 @@ use crate::eventb::machine::Machine;
 use crate::eventb::text::{read_event, read_machine, EventText, Formula, Joint, MachineText, Part};
 use crate::eventb::{drawing_of, event_fault, machine_fault, variables, EVENTB_LIMIT};
 use crate::generate::{edge_texts, every_constructor, many_copies, many_events, random_text, root, Random, T, U};
+use crate::kit::refusal_number;
 use crate::meaning::{Book, Diagram};
 use crate::plain_eventb::{eventb, plain_event, written, Ways, RIGHT};
-use crate::Refusal;
+use crate::{read, Refusal};
 
 // ---------------------------------------------------------------------------
 // Texts written by hand
@@ -457,6 +458,39 @@ fn slips_of_writers_are_found() {
         let told = told(call);
         assert!(told.contains(words), "{told}");
     }
+}
+
+/// Writers that look at things in another order, or let in what is outside.
+#[test]
+fn wrong_refusals_are_found() {
+    let text_first: Call = |text, event, out| match drawing_of(text) {
+        Err(refusal) => refusal_number(refusal),
+        Ok(_) => eventb(text, event, out),
+    };
+    let number_first: Call = |text, event, out| match read(text) {
+        Ok(summary) if event >= summary.events as u64 && out.len() >= EVENTB_LIMIT => 14 << 32,
+        _ => eventb(text, event, out),
+    };
+    let size_1: Call = |text, event, out| match eventb(text, event, out) {
+        answer if answer == 16 << 32 && text.windows(3).any(|word| word == b":1)") => 40,
+        answer => answer,
+    };
+    let short_by_one: Call = |text, event, out| {
+        let mut longer = [&*out, b"\n"].concat();
+        let answer = eventb(text, event, &mut longer);
+        out.copy_from_slice(&longer[..out.len()]);
+        answer
+    };
+    let lost_bits: Call = |text, event, out| eventb(text, event & 0xFFFF_FFFF, out);
+    let no_place: Call = |text, event, out| match eventb(text, event, out) {
+        answer if answer >> 32 == 0 => answer,
+        answer => answer >> 32 << 32,
+    };
+    for call in [text_first, number_first, size_1, short_by_one, no_place] {
+        let told = told(call);
+        assert!(told.contains("the answer is"), "{told}");
+    }
+    assert_ne!(numbers_difference(T.as_bytes(), &[1 << 32], EVENTB_LIMIT, lost_bits), None);
 }
 
 /// Writers that are wrong in the very answer or in bytes past what they wrote.

@@ -322,7 +322,8 @@ impl<'r> Maker<'r> {
     }
 
     /// Children with just so many events: a constructor around a flow of the same
-    /// sort, and a leaf after it. At the bottom there are leaves alone.
+    /// sort, now and then a loop over a leaf, and a leaf. At the bottom there are
+    /// leaves alone.
     fn nested_children(&mut self, depth: usize, events: usize) {
         if depth + 2 > self.room.depth || events < 4 {
             self.leaf(&[]);
@@ -331,16 +332,23 @@ impl<'r> Maker<'r> {
         }
         let keyword = *self.random.pick(&["or", "or", "or", "or", "and", "xor", "loop"]);
         let beside = if keyword == "loop" { 1 } else { self.random.within(1, 2) };
+        let loops = events > 8 && self.random.once_in(4);
         self.count(&[]);
         self.put(&format!("{keyword}("));
         self.open_flow(&[]);
-        self.nested_children(depth + 2, events - beside - 1);
+        self.nested_children(depth + 2, events - beside - usize::from(loops) - 1);
         self.put(")");
         match keyword {
             "loop" => self.events += 1,
             _ => (0..beside).for_each(|_| self.leaf(&[])),
         }
         self.put(")(0)");
+        if loops {
+            self.count(&[]);
+            self.put("loop(");
+            self.leaf(&[]);
+            self.put(")(0)");
+        }
         self.leaf(&[]);
         self.put("(1)");
     }

@@ -9,11 +9,12 @@
 //!
 //! - `cargo test --lib`: the reference on the drawings of document 01, and its
 //!   grammar and the meaning of drawings checked a second time in another way;
+//!   the comparison of Event-B text on a plain writer of it and on wrong ones;
 //!   needs no archive.
 //! - `ADL_ARCHIVE=1 cargo test --release --test fuzz -- --nocapture`: the
-//!   proved library against the reference, on texts, runs and tables. ADL_CASES
-//!   and ADL_SEED say how many generated cases and from which seed; ADL_REPLAY
-//!   plays a failing case again, see tests/fuzz/main.rs.
+//!   proved library against the reference, on texts, runs, tables and Event-B
+//!   machines. ADL_CASES and ADL_SEED say how many generated cases and from which
+//!   seed; ADL_REPLAY plays a failing case again, see tests/fuzz/main.rs.
 //! - `ADL_LISTING=/path/to/program cargo test --test program`: the listing
 //!   program against the reference, with ADL_TRANSLATE, ADL_PLAY and ADL_EVENTB
 //!   the others; with ADL_ARCHIVE=1 also docs/LANGUAGE.md against programs and
