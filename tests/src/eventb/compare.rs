@@ -94,9 +94,9 @@ fn read_written(buffer: &Lent, given: u64, diagram: &Diagram, event: usize) -> R
     let Some(written) = buffer.bytes().get(..length) else {
         return Err(format!("the answer is {}, should be a length", in_words(given)));
     };
-    // What is wrong in front of the length is told by the reader.
+    // What stands in these bytes is for the reader to judge.
     if let Some(difference) = buffer.difference(written) {
-        return Err(format!("past the {length} bytes: {difference}"));
+        return Err(format!("around the {length} bytes written: {difference}"));
     }
     let event_text = read_event(written)?;
     match event_fault(diagram, event, &event_text) {
