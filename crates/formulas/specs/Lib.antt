@@ -3,3 +3,4 @@ pub mod Actions
 pub mod Lines
 pub mod Conditions
 pub mod Machine
+pub mod Opening
