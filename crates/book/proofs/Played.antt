@@ -1,6 +1,7 @@
 -- Property 3, of a table that says of the control bits what the process of a diagram says: calls played from the blank record go by the book.
-use mathlib.Core.Path.{_≡_, refl, ap, _∙_}
-use mathlib.Core.Bool.{not}
+use mathlib.Core.Path.{_≡_, refl, sym, ap, _∙_}
+use mathlib.Core.Logic.{_↔_}
+use mathlib.Core.Bool.{true, not}
 use mathlib.Core.List.{List, [], _∷_, _++_}
 use Prim.Native.Nat.{ℕ, _≤_, _<_}
 use native.Mathlib.Omega.{arith}
@@ -64,6 +65,18 @@ module _ (d : Flow) (k : Keeps d) (few : flow-events d ≤ 512) (t : List ℕ) (
 
   end-says : (book : List ℕ) → ended t (values-of t (record-after d book .bits)) ≡ complete (expand d) (after (expand d) book)
   end-says book = T .its-end (record-after d book .bits) ∙ complete-local (expand d) (record-agrees book)
+
+  -- A step is done exactly where the bits after the events of the book say that the event may be taken.
+  pub done-iff-enabled : (book : List ℕ) → Begins (expand d) book → (e : ℕ)
+      → (step-of t (record-after d book) e .answer ≡ Done) ↔ ((e < flow-events d) × (enabled (expand d) (after (expand d) book) e ≡ true))
+  done-iff-enabled book h e = (
+    λ y.
+        let k = done-exactly t (record-after d book) e .0 y in
+        let l = rw (T .its-events) at (k .below) in
+        (l, sym (guard-says book e l) ∙ k .allowed),
+    λ (l, y).
+        done-exactly t (record-after d book) e .1 record { ready = record-ready book h; below = rw (T .its-events) l; allowed = guard-says book e l ∙ y },
+  )
 
   -- The record after a step that is done is the one after the book with the event at its end.
   step-marks : (book : List ℕ) (e : ℕ) → step-of t (record-after d book) e .answer ≡ Done

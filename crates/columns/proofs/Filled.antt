@@ -40,7 +40,7 @@ module _ (ns : List Node) (m : length ns ≡ 256) where
       (array-more (map f (take n ns)) n (f (getD ns n x)) (length-map (take n ns) f ∙ length-take-le n ns (omega arith)) h)
 
   -- There are 256 nodes, so those that count are the first n, where n is as many as count, or 256.
-  counted : (n count : ℕ) → n ≤ count → (count ≤ n) ⊎ (256 ≤ n) → take n ns ≡ take count ns
+  pub counted : (n count : ℕ) → n ≤ count → (count ≤ n) ⊎ (256 ≤ n) → take n ns ≡ take count ns
   counted n count l =
       ⊎-elim
       (λ h. let e : n ≡ count = omega arith in rw e)

@@ -148,11 +148,16 @@ marked-one false false n m vs ws a b h k e = (refl, leaf-one n m vs ws a b h k e
 an-event : Bool → Name → List ℕ → Event
 an-event r n vs = record { reset = r; name = n; values = vs }
 
+-- Two events are the same where their marks, names and values are.
+pub same-event : (k l : Event) → k .reset ≡ l .reset → k .name ≡ l .name → k .values ≡ l .values → k ≡ l
+unfolding an-event
+same-event k l p q r =
+    let x : an-event (k .reset) (k .name) (k .values) ≡ an-event (l .reset) (l .name) (l .values) = cc in
+    x
+
 -- In a listing an event is called by `reset` and a space for a reset, the name, and the values, each after a space.
 pub called-one : (k l : Event) → Short k → Short l
     → mark (k .reset) ++ (k .name ++ spaced (k .values)) ≡ mark (l .reset) ++ (l .name ++ spaced (l .values)) → k ≡ l
-unfolding an-event
 called-one k l s t e =
     let r = marked-one (k .reset) (l .reset) (k .name) (l .name) (k .values) (l .values) (s .word) (t .word) (s .small) (t .small) e in
-    let x : an-event (k .reset) (k .name) (k .values) ≡ an-event (l .reset) (l .name) (l .values) = cc (r .0, r .1 .0, r .1 .1) in
-    x
+    same-event k l (r .0) (r .1 .0) (r .1 .1)

@@ -17,11 +17,12 @@ use Rattle.process.specs.Expand.{expand}
 use Rattle.postfix.specs.Postfix.{postfix}
 use Rattle.process.proofs.Numbered.{size, Numbered}
 use Rattle.process.proofs.Events.{expand-laid}
+use Rattle.agreement.specs.Agrees.{Agrees}
 use Rattle.book.proofs.Played.{agreeing-plays}
 use Rattle.expansion.specs.Walks.{Place, place, expanded}
 use Rattle.postfix.proofs.Short.{postfix-short}
 use Rattle.expansion.proofs.Postfixed.{expansion-exact}
-use Rattle.plan.specs.Plan.{rows-of, planned}
+use Rattle.plan.specs.Plan.{rows-of}
 use Rattle.plan.proofs.Few.{rows-few}
 use Rattle.plan.proofs.Lengths.{planned-length}
 use Rattle.plan.proofs.Guarded.{plan-agrees, plan-rows}
@@ -68,17 +69,20 @@ module _ (text : List ℕ) (d : Flow) (a : Accepted text d) where
   unfolding table-of
   its-length = omega (arith, planned-length (expand d) (flow-events d) its-size, a .events, few)
 
+  -- They say of the control bits what the diagram's process says.
+  pub its-agreement : Agrees (expand d) (flow-events d) (table-of d)
+  unfolding table-of
+  its-agreement = plan-agrees (expand d) (flow-events d) its-numbers its-size (a .events) few
+
   pub its-table : Table-of d (table-of d)
   unfolding table-of
-  its-table =
-      let agrees = plan-agrees (expand d) (flow-events d) its-numbers its-size (a .events) few in
-      record {
-        its-sound = agrees .its-sound;
-        its-events = agrees .its-events;
-        its-clears = agrees .its-clears;
-        its-rows = rw (plan-rows (expand d) (flow-events d) its-numbers its-size (a .events) few) (rows-few d (a .keeps .sizes));
-        its-runs = agreeing-plays d (a .keeps) (a .events) (planned (expand d)) agrees;
-      }
+  its-table = record {
+    its-sound = its-agreement .its-sound;
+    its-events = its-agreement .its-events;
+    its-clears = its-agreement .its-clears;
+    its-rows = rw (plan-rows (expand d) (flow-events d) its-numbers its-size (a .events) few) (rows-few d (a .keeps .sizes));
+    its-runs = agreeing-plays d (a .keeps) (a .events) (table-of d) its-agreement;
+  }
 
   -- They are what is written, whatever was lent.
   pub plan-written : (lent : List ℕ) → 51204 ≤ length lent → (ops : List ℕ) (events size : ℕ) (left : List ℕ) → TableWritten ops events lent size left

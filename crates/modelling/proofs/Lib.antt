@@ -1,0 +1,3 @@
+pub mod Unvalued
+pub mod Names
+pub mod Guarded

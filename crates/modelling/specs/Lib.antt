@@ -1,0 +1,3 @@
+pub mod Profile
+pub mod Texts
+pub mod Guards
