@@ -17,9 +17,10 @@ use Rattle.process.proofs.Numbered.{size, Numbered, size-events}
 use Rattle.process.proofs.Cleared.{size-positive}
 use Rattle.formulas.specs.Formulas.{Formula, is, both, either, Speaks, All-speak}
 use Rattle.formulas.specs.Conditions.{some-true, all-false, begun-when, idle-when, Condition, always, when, meet, choice, complete-when, settled-when, guarded, of-second, of-first, conditions}
-use Rattle.formulas.specs.Actions.{Action, cleared, actions}
+use Rattle.formulas.specs.Actions.{Action, cleared, actions, All-set}
 use Rattle.formulas.specs.Lines.{Naming, truth, formula, labelled, guard-lines, action, action-lines, event-lines}
-use Rattle.formulas.proofs.Spoken.{conditions-speak, All-set, actions-below}
+use Rattle.formulas.specs.Opening.{variable-lines, invariant-lines, cleared-all, opening-lines}
+use Rattle.formulas.proofs.Spoken.{conditions-speak, actions-below, all-below}
 
 -- ---- how often variables are named
 unfoldable atoms : Formula → ℕ
@@ -193,6 +194,43 @@ module _ (v : Naming) (n : ℕ) (short : (m : ℕ) → m < n → length (v m) �
       → length (event-lines v e gs acts) ≤ 48 + 61 * total gs + 62 * length acts
   unfolding event-lines
   event-short e h gs a acts b = simp length-append (omega (arith, short e h, guards-short 1 gs a, actions-short 1 acts b))
+
+  -- The opening: for each variable 27 bytes where it is named, 61 for its type, and 62 for its first value.
+  variables-short : (from k : ℕ) → from + k ≤ n → length (variable-lines v from k) ≤ 27 * k
+  unfolding variable-lines
+  variables-short from zero h = omega arith
+  variables-short from (suc k) h = simp length-append (omega (arith, short from (omega arith), variables-short (suc from) k (omega arith)))
+
+  invariants-short : (i from k : ℕ) → from + k ≤ n → length (invariant-lines v i from k) ≤ 61 * k
+  unfolding invariant-lines
+  invariants-short i from zero h = omega arith
+  invariants-short i from (suc k) h =
+      rw (length-append (labelled (bytes "@inv_") i (v from ++ bytes " : BOOL")))
+      (omega (
+        arith,
+        labelled-short (bytes "@inv_") i (v from ++ bytes " : BOOL") refl,
+        length-append (v from) (bytes " : BOOL"),
+        short from (omega arith),
+        invariants-short (suc i) (suc from) k (omega arith),
+      ))
+
+  cleared-all-count : (from k : ℕ) → length (cleared-all from k) ≡ k
+  unfolding cleared-all
+  cleared-all-count from zero = refl
+  cleared-all-count from (suc k) = omega (arith, cleared-all-count (suc from) k)
+
+  -- 65,536 bytes are enough for the opening of a machine.
+  pub opening-short : n ≤ 32 → (name : List ℕ) → length name ≤ 24 → length (opening-lines v name n) ≤ 65536
+  unfolding opening-lines
+  opening-short few name h =
+      simp length-append
+      (omega (
+        arith,
+        variables-short 0 n (omega arith),
+        invariants-short 1 0 n (omega arith),
+        actions-short 1 (cleared-all 0 n) (all-below n 0 n (omega arith)),
+        cleared-all-count 0 n,
+      ))
 
 -- 65,536 bytes are enough for the text of an event.
 pub text-short : (p : Process) (n : ℕ) → Numbered p 0 → size p ≡ n → n ≤ 32 → (v : Naming) → ((m : ℕ) → m < n → length (v m) ≤ 26) → (e : ℕ) → e < n

@@ -13,8 +13,9 @@ use Rattle.process.proofs.Numbered.{size, Numbered, size-events}
 use Rattle.process.proofs.Cleared.{first-lowest, size-positive}
 use Rattle.formulas.specs.Formulas.{Formula, is, both, either, Speaks, All-speak}
 use Rattle.formulas.specs.Conditions.{some-true, all-false, begun-when, idle-when, Condition, always, when, meet, choice, complete-when, settled-when, guarded, of-second, of-first, conditions}
-use Rattle.formulas.specs.Actions.{Action, cleared, actions}
+use Rattle.formulas.specs.Actions.{Action, cleared, actions, All-set}
 use Rattle.formulas.specs.Lines.{Naming, formula, guard-lines, action-lines, event-lines}
+use Rattle.formulas.specs.Opening.{variable-lines, invariant-lines, cleared-all, opening-lines}
 
 -- ---- conditions
 module _ (n : ℕ) where
@@ -110,11 +111,6 @@ conditions-speak (rounds p r l) lo n m h x =
     either-speaks (owns p x) n _ _ (conditions-speak p lo n (m .0) hp x) (tests-speak n p lo (m .0) hp .0)
 
 -- ---- actions
--- The actions set variables of the first n events only.
-unfoldable pub All-set : ℕ → List Action → Type 0
-All-set n [] = Unit {0}
-All-set n (a ∷ more) = (a .variable < n) × All-set n more
-
 cleared-below : (n : ℕ) (clear : ℕ → Bool) (from k : ℕ) → from + k ≤ n → All-set n (cleared clear from k)
 unfolding All-set cleared
 cleared-below n clear from zero h = tt
@@ -127,6 +123,12 @@ cleared-below n clear from (suc k) h =
 pub actions-below : (p : Process) (n e : ℕ) → e < n → All-set n (actions p n e)
 unfolding All-set actions
 actions-below p n e h = (h, cleared-below n (clears p e) 0 n (omega arith))
+
+-- So do those that a machine begins with.
+pub all-below : (n from k : ℕ) → from + k ≤ n → All-set n (cleared-all from k)
+unfolding All-set cleared-all
+all-below n from zero h = tt
+all-below n from (suc k) h = (omega arith, all-below n (suc from) k (omega arith))
 
 -- ---- the text, by two namings that agree on the first n events
 module _ (v w : Naming) (n : ℕ) (same : (m : ℕ) → m < n → v m ≡ w m) where
@@ -151,3 +153,19 @@ module _ (v w : Naming) (n : ℕ) (same : (m : ℕ) → m < n → v m ≡ w m) w
       → event-lines v e gs acts ≡ event-lines w e gs acts
   unfolding event-lines
   same-text e h gs a acts b = rw (same e h, same-guards 1 gs a, same-actions 1 acts b)
+
+  same-variables : (from k : ℕ) → from + k ≤ n → variable-lines v from k ≡ variable-lines w from k
+  unfolding variable-lines
+  same-variables from zero h = refl
+  same-variables from (suc k) h = rw (same from (omega arith), same-variables (suc from) k (omega arith))
+
+  same-invariants : (i from k : ℕ) → from + k ≤ n → invariant-lines v i from k ≡ invariant-lines w i from k
+  unfolding invariant-lines
+  same-invariants i from zero h = refl
+  same-invariants i from (suc k) h = rw (same from (omega arith), same-invariants (suc i) (suc from) k (omega arith))
+
+  -- So does the opening of the machine.
+  pub same-opening : (name : List ℕ) → opening-lines v name n ≡ opening-lines w name n
+  unfolding opening-lines
+  same-opening name =
+      rw (same-variables 0 n (omega arith), same-invariants 1 0 n (omega arith), same-actions 1 (cleared-all 0 n) (all-below n 0 n (omega arith)))

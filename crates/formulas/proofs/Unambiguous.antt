@@ -10,9 +10,8 @@ use Rattle.output.specs.Decimal.{decimal}
 use Rattle.tokens.specs.Classes.{class-of, worded}
 use Rattle.tokens.specs.Words.{every}
 use Rattle.formulas.specs.Formulas.{Formula, is, both, either, Speaks, All-speak}
-use Rattle.formulas.specs.Actions.{Action, becomes}
+use Rattle.formulas.specs.Actions.{Action, becomes, All-set}
 use Rattle.formulas.specs.Lines.{Naming, truth, formula, labelled, guard-lines, action, action-lines, event-lines}
-use Rattle.formulas.proofs.Spoken.{All-set}
 
 -- The names of the first n events are words, and no two are the same.
 pub record Proper (n : ℕ) (v : Naming) : Type 0 where

@@ -1,7 +1,7 @@
 -- The actions of an event. Card 2 of document 02: "The event's own variable is set first; those it clears follow in event order, as FALSE."
 use mathlib.Core.Bool.{Bool, true, false, cond}
 use mathlib.Core.List.{List, [], _∷_}
-use Prim.Native.Nat.{ℕ, zero, suc}
+use Prim.Native.Nat.{ℕ, zero, suc, _<_}
 use lib.Dec.{eqb}
 use Rattle.process.specs.Process.{Process}
 use Rattle.process.specs.Bits.{Bits, clears}
@@ -27,3 +27,8 @@ actions p n e = becomes e true ∷ cleared (clears p e) 0 n
 unfoldable pub perform : List Action → Bits → Bits
 perform [] s = s
 perform (a ∷ more) s = perform more (λ i. cond (eqb (a .variable) i) (a .value) (s i))
+
+-- They set variables of the first n events only.
+unfoldable pub All-set : ℕ → List Action → Type 0
+All-set n [] = Unit {0}
+All-set n (a ∷ more) = (a .variable < n) × All-set n more

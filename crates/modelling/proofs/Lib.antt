@@ -1,3 +1,4 @@
 pub mod Unvalued
 pub mod Names
 pub mod Guarded
+pub mod Machines

@@ -1,3 +1,4 @@
 pub mod Profile
 pub mod Texts
 pub mod Guards
+pub mod Machines

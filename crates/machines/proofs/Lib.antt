@@ -1,0 +1,4 @@
+pub mod Cleared
+pub mod Drawn
+pub mod Written
+pub mod Answers

@@ -1,0 +1,3 @@
+pub mod Reports
+pub mod Answers
+pub mod code

@@ -1,0 +1,2 @@
+// Machines of drawings, as text.
+pub mod eventb;
