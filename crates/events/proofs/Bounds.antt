@@ -28,10 +28,11 @@ use Rattle.events.specs.Reports.{marked, event-marked, report}
 use Rattle.events.specs.Bounds.{Name-bounded, Within, Reason, unread, no-event, Values-bounded, result, refusal, List-bounded}
 use Rattle.events.specs.declared.Label.{Label}
 use Rattle.events.specs.declared.Label.the-variants.{Leaf, Reset, Refused}
+use Rattle.reading.proofs.Bounds.{refused-at-near}
 use Rattle.reading.proofs.Reading.{Same, same-drawing, same-no-drawing, one-reading}
 use Rattle.events.proofs.OneListing.{one-listing}
 use Rattle.events.proofs.Short.{Each, Small, Short}
-use Rattle.events.proofs.ListingFits.{near, listing-short}
+use Rattle.events.proofs.ListingFits.{listing-short}
 use Rattle.events.proofs.Answers.{short-at}
 
 -- The listing.
@@ -92,15 +93,15 @@ reading-bounded {text} (drawing d a) e r q =
       near = omega arith;
     })
 reading-bounded {text} (no-drawing number place h) e r q =
-    let n = near text number place h in
+    let n = refused-at-near text number place h in
     refusal
     record {
       number = number;
       place = place;
       why = unread h;
       reported = ap report q;
-      one-of = inl (n .0, n .1);
-      near = n .2;
+      one-of = inl (n .low, n .high);
+      near = n .close;
     }
 
 pub values-bounded : (text : List ℕ) (e : ℕ) (r : Label) → Valued text e r → Values-bounded text e r

@@ -1,5 +1,5 @@
 -- A listing has at most 32,768 bytes: at most 22 for the first line, and 44 for each of at most 512 events.
-use mathlib.Core.Path.{_≡_, sym, _∙_, ap}
+use mathlib.Core.Path.{_≡_}
 use mathlib.Core.Bool.{Bool, true, false}
 use mathlib.Core.List.{List, [], _∷_}
 use Prim.Native.Nat.{ℕ, suc, _+_, _*_, _≤_, _<_}
@@ -9,13 +9,7 @@ use Rattle.diagram.specs.Count.{flow-events, flow-copies}
 use Rattle.base.specs.Text.{bytes}
 use Rattle.output.proofs.Decimals.{decimal-short}
 use Rattle.output.proofs.Lines.{two-numbers-short, refused-short}
-use Rattle.reading.specs.Answers.{read-of}
-use Rattle.reading.specs.Bounds.{Bounded, result, refusal}
-use Rattle.reading.specs.declared.Answer.the-variants.{Refused}
-use Rattle.reading.specs.declared.ReadResult.{ReadResult}
-use Rattle.reading.specs.Refused.{RefusedAt}
-use Rattle.reading.proofs.Exact.{done-refused, refused-exactly}
-use Rattle.reading.proofs.Bounds.{read-bounded}
+use Rattle.reading.proofs.Bounds.{refused-at-near}
 use Rattle.process.specs.Process.{Event, events}
 use Rattle.process.specs.Expand.{expand}
 use Rattle.process.proofs.Events.{events-counted}
@@ -50,25 +44,10 @@ first-short : (e c : ℕ) → e < 1000 → c < 1000 → length (first-line e c) 
 unfolding first-line
 first-short e c h k = omega (arith, two-numbers-short (bytes "events ") (bytes " copies ") e c 2 2 h k)
 
--- The number and the place with which a text is turned away are small.
-pub near : (text : List ℕ) (number place : ℕ) → RefusedAt text number place → (2 ≤ number) × (number ≤ 11) × (place ≤ 16384)
-near text n p t = go (read-bounded text)
-  where
-    e : read-of text .answer ≡ Refused n p
-    e = refused-exactly text n p .1 t
-
-    go : Bounded text (read-of text) → (2 ≤ n) × (n ≤ 11) × (p ≤ 16384)
-    go (result r) = done-refused (sym (r .done) ∙ e)
-    go (refusal r) =
-        let q : Refused (r .number) (r .place) ≡ Refused n p = sym (ap (λ (o : ReadResult). o .answer) (r .is)) ∙ e in
-        let x : r .number ≡ n = cc in
-        let y : r .place ≡ p = cc in
-        omega (arith, r .low, r .high, r .near)
-
 pub listing-short : {text : List ℕ} (w : Reading text) → length (listing w) ≤ 32768
 unfolding listing
 listing-short {text} (drawing d a) =
     let c = events-counted d (a .keeps .sizes) in
     simp length-append
     (omega (arith, first-short (flow-events d) (flow-copies d) (omega arith) (omega arith), lines-short 0 (events (expand d)) (omega arith) (events-short text d a)))
-listing-short {text} (no-drawing n p r) = let h = near text n p r in omega (arith, refused-short n p (omega arith) (omega arith))
+listing-short {text} (no-drawing n p r) = let h = refused-at-near text n p r in omega (arith, refused-short n p (omega arith) (omega arith))

@@ -2,3 +2,5 @@ pub mod Cleared
 pub mod Drawn
 pub mod Written
 pub mod Answers
+pub mod Promised
+pub mod Bounds

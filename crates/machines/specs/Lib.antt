@@ -1,3 +1,4 @@
 pub mod Reports
 pub mod Answers
+pub mod Bounds
 pub mod code

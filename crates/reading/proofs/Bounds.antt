@@ -48,10 +48,10 @@ place-near text k none h = ⊎-elim inside outside (cases (ltb k (length (places
     outside q = rw (List·getD-eq-default (places text) none (ltb-false k (length (places text)) q)) h
 
 -- The numbers and places of the table.
-record Near (text : List ℕ) (c at : ℕ) : Type 0 where
-  low : 2 ≤ c
-  high : c ≤ 11
-  close : at ≤ 16384
+pub record Near (text : List ℕ) (c at : ℕ) : Type 0 where
+  pub low : 2 ≤ c
+  pub high : c ≤ 11
+  pub close : at ≤ 16384
 
 near : (text : List ℕ) (c at : ℕ) (n : ℕ) → c ≡ n → 2 ≤ n → n ≤ 11 → at ≤ 16384 → Near text c at
 near text c at n e l h k = record { low = omega arith; high = omega arith; close = k }
@@ -62,7 +62,7 @@ derived-near text d at k g e = omega (arith, g .size, place-near text k 0 (omega
 broken-near : (text : List ℕ) (d : Flow) (at : ℕ) {kept : PlacedNode → Bool} → Breaks text at d kept → at ≤ 16384
 broken-near text d at b = derived-near text d at (b .token) (b .derived) (b .place)
 
-refused-at-near : (text : List ℕ) (c at : ℕ) → RefusedAt text c at → Near text c at
+pub refused-at-near : (text : List ℕ) (c at : ℕ) → RefusedAt text c at → Near text c at
 refused-at-near text c at (by-size e h) = near text c at 2 e (omega arith) (omega arith) (omega (arith, h .place))
 refused-at-near text c at (by-byte e h) = near text c at 3 e (omega arith) (omega arith) (omega (arith, h .inside, h .size))
 refused-at-near text c at (by-word e h) =

@@ -301,3 +301,15 @@ refused-exactly text c at = (λ e. go (fate text) e, λ t. ap (λ (o : ReadResul
 -- "its diagram is the one derived": there is no other.
 pub accepted-once : (text : List ℕ) (d e : Flow) → Accepted text d → Accepted text e → d ≡ e
 accepted-once text d e a b = derived-once (tokens text) d e (a .derived) (b .derived)
+
+-- A text is turned away with one number at one place,
+pub refused-at-once : (text : List ℕ) (n p m q : ℕ) → RefusedAt text n p → RefusedAt text m q → (n ≡ m) × (p ≡ q)
+refused-at-once text n p m q a b =
+    let e : Refused n p ≡ Refused m q = sym (refused-exactly text n p .1 a) ∙ refused-exactly text m q .1 b in
+    let x : n ≡ m = cc in
+    let y : p ≡ q = cc in
+    (x, y)
+
+-- and is not accepted then.
+pub never-both : (text : List ℕ) (d : Flow) (n p : ℕ) → Accepted text d → RefusedAt text n p → ⊥
+never-both text d n p a t = done-refused (sym (ap (λ (o : ReadResult). o .answer) (accepted-read text d a)) ∙ refused-exactly text n p .1 t)

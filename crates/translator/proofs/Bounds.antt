@@ -12,14 +12,10 @@ use Rattle.base.specs.Reports.{Report, result}
 use Rattle.base.proofs.Filled.{fill-length, fill-front, fill-past, fill-none, fill-taken}
 use Rattle.base.proofs.Truth.{by-cases}
 use Rattle.diagram.specs.Tree.{Flow}
-use Rattle.reading.specs.Answers.{read-of}
 use Rattle.reading.specs.Accepted.{Accepted}
 use Rattle.reading.specs.Refused.{RefusedAt}
-use Rattle.reading.specs.Bounds.{Bounded as Answered, result as read-result, refusal as read-refusal}
-use Rattle.reading.specs.declared.Answer.the-variants.{Refused as Unread}
-use Rattle.reading.specs.declared.ReadResult.{ReadResult}
-use Rattle.reading.proofs.Bounds.{read-bounded}
-use Rattle.reading.proofs.Exact.{accepted-read, accepted-once, refused-exactly, done-refused, Fate, taken, refused-at, fate}
+use Rattle.reading.proofs.Bounds.{refused-at-near}
+use Rattle.reading.proofs.Exact.{accepted-once, refused-at-once, never-both, Fate, taken, refused-at, fate}
 use Rattle.layout.specs.Sound.{Sound-table}
 use Rattle.layout.proofs.Sentences.{sound-exactly}
 use Rattle.translator.specs.Reports.{report}
@@ -46,18 +42,6 @@ bytes-reported r n e = report-once r (Bytes n) e
 -- No refusal has bytes.
 bytes-refused : {n number place : ℕ} → report (Bytes n) ≡ report (Refused number place) → ⊥
 bytes-refused e = cons≢nil (ap (λ (x : Report). x .values) e)
-
--- ---- what a text is
-module _ (text : List ℕ) where
-  refused-at-once : (n p m q : ℕ) → RefusedAt text n p → RefusedAt text m q → (n ≡ m) × (p ≡ q)
-  refused-at-once n p m q a b =
-      let e : Unread n p ≡ Unread m q = sym (refused-exactly text n p .1 a) ∙ refused-exactly text m q .1 b in
-      let x : n ≡ m = cc in
-      let y : p ≡ q = cc in
-      (x, y)
-
-  never-both : (d : Flow) (n p : ℕ) → Accepted text d → RefusedAt text n p → ⊥
-  never-both d n p a t = done-refused (sym (ap (λ (o : ReadResult). o .answer) (accepted-read text d a)) ∙ refused-exactly text n p .1 t)
 
 -- ---- the table that was written
 -- A table of at most 512 events and 12,288 rows.
@@ -91,20 +75,17 @@ module _ (text lent : List ℕ) (r : Translated) (left : List ℕ) where
     past = rw (w .its-count, w .its-left) (fill-past lent (table-of d));
   }
 
-  read-refused : (number place : ℕ) → 51204 ≤ length lent → RefusedAt text number place → report r ≡ report (Refused number place) → left ≡ lent → Answered text (read-of text)
+  read-refused : (number place : ℕ) → 51204 ≤ length lent → RefusedAt text number place → report r ≡ report (Refused number place) → left ≡ lent
       → Refusal text lent r left
-  read-refused number place h t e q (read-result k) = absurd (done-refused (sym (k .done) ∙ refused-exactly text number place .1 t))
-  read-refused number place h t e q (read-refusal k) =
-      let same : Unread (k .number) (k .place) ≡ Unread number place = sym (ap (λ (o : ReadResult). o .answer) (k .is)) ∙ refused-exactly text number place .1 t in
-      let x : k .number ≡ number = cc in
-      let y : k .place ≡ place = cc in
+  read-refused number place h t e q =
+      let n = refused-at-near text number place t in
       record {
         number = number;
         place = place;
         is = e;
-        low = omega (arith, x, k .low);
-        high = omega (arith, x, k .high);
-        near = omega (arith, y, k .near);
+        low = omega (arith, n .low);
+        high = n .high;
+        near = n .close;
         reason = of-text h t;
         untouched = q;
       }
@@ -123,7 +104,7 @@ module _ (text lent : List ℕ) (r : Translated) (left : List ℕ) where
         reason = short-sheet h refl refl;
         untouched = q;
       }
-  translate-bounded (refused number place h t e q) = its-refusal (read-refused number place h t e q (read-bounded text))
+  translate-bounded (refused number place h t e q) = its-refusal (read-refused number place h t e q)
   translate-bounded (done d count h a e w) = its-result (written-result d count h a e w)
 
   -- The converse: what is bounded so is what translation answers and leaves.
