@@ -12,6 +12,9 @@ use Rattle.events.specs.declared.Label.{Label}
 use Rattle.events.specs.Labels.{Valued}
 use Rattle.events.specs.Names.{Named}
 use Rattle.events.specs.Reports.{report as label-report}
+use Rattle.machines.specs.Answers.{Event-answer}
+use Rattle.machines.specs.Reports.{report as written-report}
+use Rattle.machines.specs.declared.eventb.Written.{Written}
 use Rattle.packing.specs.Packed.{packed}
 
 -- Translation's answer, and the lent bytes as it leaves them.
@@ -19,6 +22,12 @@ pub record Translates (text lent : List ℕ) (r : ℕ) (left : List ℕ) : Type 
   pub answer : Translated
   pub its-promise : Translation text lent answer left
   pub its-number : r ≡ packed 32 (report answer)
+
+-- The answer of the call that writes an event of a machine, and the lent bytes as it leaves them.
+pub record Writes-event (text : List ℕ) (e : ℕ) (lent : List ℕ) (r : ℕ) (left : List ℕ) : Type 0 where
+  pub answer : Written
+  pub its-promise : Event-answer text e lent answer left
+  pub its-number : r ≡ packed 32 (written-report answer)
 
 -- The label of an event: the mark, the count and the three values.
 pub record Labels (text : List ℕ) (e r : ℕ) : Type 0 where

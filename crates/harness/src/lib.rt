@@ -15,7 +15,7 @@ ghost use Rattle.events.specs.Listing.{Listed};
 ghost use Rattle.packing.specs.Packed.{packed};
 ghost use Rattle.packing.specs.Nodes.{node-values, place-values};
 ghost use Rattle.harness.specs.Nodes.{unread as unread-found, found-at, report as found-report};
-ghost use Rattle.harness.specs.Calls.{Translates, Labels, Names};
+ghost use Rattle.harness.specs.Calls.{Translates, Writes-event, Labels, Names};
 use diagram::Diagram;
 use diagram::Node;
 use reading::Answer;
@@ -44,6 +44,14 @@ pub extern "C" fn adl_test_translate(text: &[u8], out: &mut [u8]) -> u64
 {
     let t = translator::translate(text, out);
     packing::translate_number(t)
+}
+
+#[no_mangle]
+pub extern "C" fn adl_test_eventb(text: &[u8], event: u64, out: &mut [u8]) -> u64
+    ensures { λ r. ⌜ Writes-event (now (text .entry)) event (now (out .entry)) r (now (out .exit)) ⌝ }
+{
+    let w = machines::eventb::event(text, event, out);
+    packing::written_number(w)
 }
 
 // Bytes over the front of `out`, as far as it goes; answers how many there are.

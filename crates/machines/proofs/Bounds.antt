@@ -123,11 +123,17 @@ module _ (lent : List ℕ) (r : Written) (left : List ℕ) where
   pub opening-bounded : (text : List ℕ) → Opening-answer text lent r left → Bounded lent r left
   opening-bounded text = answered-bounded text (λ d. Filled (opening-text d) lent r left) (λ d. filled-bounded (opening-text d))
 
-  -- As a caller takes the bytes that were written.
-  pub room : Bounded lent r left → (n : ℕ) → r ≡ Bytes n → (n ≤ length left) × (n ≡ length (take n left))
+  room : Bounded lent r left → (n : ℕ) → r ≡ Bytes n → (n ≤ length left) × (n ≡ length (take n left))
   room (its-result k) n t =
       let same : Bytes n ≡ Bytes (k .count) = sym t ∙ same-report r (Bytes (k .count)) (k .reported) refl in
       let x : n ≡ k .count = cc in
       let l : n ≤ length left = omega (arith, x, k .room, k .length-stays) in
       (l, sym (length-take-le n left l))
   room (its-refusal k) n t = absurd (cons≢nil (ap (λ (x : Report). x .values) (sym (ap report t) ∙ k .reported)))
+
+  -- As a caller takes the bytes that were written.
+  pub event-room : (text : List ℕ) (e : ℕ) → Event-answer text e lent r left → (n : ℕ) → r ≡ Bytes n → (n ≤ length left) × (n ≡ length (take n left))
+  event-room text e w = room (event-bounded text e w)
+
+  pub opening-room : (text : List ℕ) → Opening-answer text lent r left → (n : ℕ) → r ≡ Bytes n → (n ≤ length left) × (n ≡ length (take n left))
+  opening-room text w = room (opening-bounded text w)

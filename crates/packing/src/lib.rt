@@ -8,12 +8,14 @@ ghost use Rattle.base.specs.Reports.{result};
 ghost use Rattle.reading.specs.Reports.{report as read-report};
 ghost use Rattle.printer.specs.Reports.{report as print-report};
 ghost use Rattle.translator.specs.Reports.{report as translate-report};
+ghost use Rattle.machines.specs.Reports.{report as written-report};
 ghost use Rattle.events.specs.Reports.{marked as marked-values, report as label-report};
 ghost use Rattle.packing.specs.Packed.{packed};
 ghost use Rattle.packing.specs.Nodes.{node-values, place-values};
 use diagram::Node;
 use events::Label;
 use labels::Values;
+use machines::eventb::Written;
 use printer::Printed;
 use reading::Answer;
 use reading::ReadResult;
@@ -60,6 +62,16 @@ pub fn translate_number(t: Translated) -> u64
     match t {
         Translated::Bytes(n) => (n as u64) % 4294967296,
         Translated::Refused(number, place) => refusal(number, place),
+    }
+}
+
+// The bytes of an event's text.
+pub fn written_number(w: Written) -> u64
+    ensures { λ r. ⌜ r ≡ packed 32 (written-report w) ⌝ }
+{
+    match w {
+        Written::Bytes(n) => (n as u64) % 4294967296,
+        Written::Refused(number, place) => refusal(number, place),
     }
 }
 

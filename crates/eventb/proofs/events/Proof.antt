@@ -1,71 +1,24 @@
+-- `eventb::events` is safe and ends: what is written of an event fits its buffer. The loop's measure is how many events there may be. Assumes nothing.
+use Prim.Native.Nat.{_-_}
+use Rattle.machines.proofs.Bounds.{event-room}
 use borrow.Author.Needs.{needs}
-use native.Mathlib.Omega.{arith}
 use Rattle.eventb.proofs.events.Statement.{statement}
 use Rattle.eventb.proofs.events.Tie as tie
-use Rattle.eventb.proofs.events.Reads as reads
-use Rattle.eventb.proofs.events.Lts as lts
-use Rattle.eventb.proofs.show.Reads as show-reads
-use Rattle.machines.proofs.eventb.event.Reads as event-reads
 
 abbrev Inv-loop : tie.InvT-loop
-Inv-loop text out₀ e₀ out e = ?
+Inv-loop text e₀ e = Unit {0}
 
 abbrev μ-loop : tie.MeasureT-loop
-μ-loop text out₀ e₀ out e = ?
+μ-loop text e₀ e = 32 - e
 
--- src/main.rt:28:5
-loop-holds : tie.Need-loop-holds Inv-loop μ-loop
-loop-holds c = search needs
+array-share-prefix-out : tie.Need-array-share-prefix-out Inv-loop μ-loop
+array-share-prefix-out c = event-room _ _ _ _ _ (c .before .before .before .before .event .ensures) _ (c .before .w .given .1) .0
 
--- src/main.rt:29:13
-event-requires : tie.Need-event-requires Inv-loop μ-loop
-event-requires c κs = search needs
-
--- src/main.rt:30:28
-enum-known-w : tie.Need-enum-known-w Inv-loop μ-loop
-enum-known-w c = search needs
-
--- src/main.rt:31:13
-enum-told : tie.Need-enum-told Inv-loop μ-loop
-enum-told c = search needs
-
--- src/main.rt:31:13
-returns : tie.Need-returns Inv-loop μ-loop
-returns c = search needs
-
--- src/main.rt:33:9
-show-requires : tie.Need-show-requires Inv-loop μ-loop
-show-requires c κs = search needs
-
--- src/main.rt:34:9
-add-e : tie.Need-add-e Inv-loop μ-loop
-add-e c = search needs
-
--- src/main.rt:28:5
-loop-less : tie.Need-loop-less Inv-loop μ-loop
-loop-less c = search needs
-
--- src/main.rt:28:5
-loop-again : tie.Need-loop-again Inv-loop μ-loop
-loop-again c = search needs
-
--- src/main.rt:26:1
-returns-2 : tie.Need-returns-2 Inv-loop μ-loop
-returns-2 c = search needs
+slice-aggregate-write-all : tie.Need-slice-aggregate-write-all Inv-loop μ-loop
+slice-aggregate-write-all c = event-room _ _ _ _ _ (c .before .before .before .before .before .event .ensures) _ (c .before .before .w .given .1) .1
 
 pub events-spec : {M : Type 1} → statement M
 events-spec =
     tie.close
-    (tie.spec
-    Inv-loop
-    μ-loop
-    loop-holds
-    event-requires
-    enum-known-w
-    enum-told
-    returns
-    show-requires
-    add-e
-    loop-less
-    loop-again
-    returns-2)
+    (tie.spec Inv-loop μ-loop (λ c. tt) (λ c. search needs) (λ c κs. search needs) (λ c. search needs) (λ c. search needs) (λ c. search needs)
+    array-share-prefix-out slice-aggregate-write-all (λ c κs. search needs) (λ c. search needs) (λ c. search needs) (λ c. tt) (λ c. search needs))
