@@ -17,6 +17,8 @@ use Rattle.tokens.specs.Words.{lettered, every, short, named}
 use Rattle.grammar.specs.Named.{all-named, flow-named}
 use Rattle.reading.specs.Accepted.{Accepted}
 use Rattle.process.specs.Expand.{expand, flow-name}
+use Rattle.formulas.specs.Actions.{All-set}
+use Rattle.formulas.proofs.Spoken.{actions-below}
 use Rattle.formulas.proofs.Machine.{takes-iff-begins, once}
 use Rattle.formulas.proofs.Sized.{text-short, opening-short}
 use Rattle.formulas.proofs.Unambiguous.{text-once}
@@ -47,6 +49,10 @@ module _ (text : List ℕ) (d : Flow) (a : Accepted text d) (p : in-profile d �
   unfolding opening-text
   opening-fits =
       opening-short (naming d) (flow-events d) (short-names text d a) few-events (flow-name d) (root-named d (a .derived .proper .names))
+
+  pub actions-set : (e : ℕ) → e < flow-events d → All-set (flow-events d) (actions-of d e)
+  unfolding actions-of
+  actions-set e l = actions-below (expand d) (flow-events d) e l
 
   pub machine-right : Machine-of d
   unfolding guards-of actions-of

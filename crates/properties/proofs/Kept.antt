@@ -28,7 +28,10 @@ use Rattle.events.specs.Labels.{Valued}
 use Rattle.events.specs.Listing.{Listed}
 use Rattle.events.specs.declared.Label.{Label}
 use Rattle.events.proofs.Promised as events
-use Rattle.properties.specs.Calls.{Made, Reads, Prints, Translates, Names, Values, Lists, Checks, Steps, Finishes, Offers, Updates, C-checks, C-steps, C-finishes, C-offers}
+use Rattle.machines.specs.Answers.{Event-answer, Opening-answer}
+use Rattle.machines.specs.declared.eventb.Written.{Written}
+use Rattle.machines.proofs.Promised as machines
+use Rattle.properties.specs.Calls.{Made, Reads, Prints, Translates, Names, Values, Lists, Writes-event, Writes-opening, Checks, Steps, Finishes, Offers, Updates, C-checks, C-steps, C-finishes, C-offers}
 
 -- What a law makes of a contract holds of a call that was made.
 kept : {Lifetimes : Type 0} {Args Result Exit : Lifetimes → Type 0} {contract these law : (κs : Lifetimes) → Args κs → Result κs → Exit κs → Type 0}
@@ -69,6 +72,12 @@ values-met text e l m = let (x, y, q) = m .said in rw (← x, ← y, ← q) (kep
 
 pub lists-met : (text lent : List ℕ) (n : ℕ) (left : List ℕ) → Lists text lent n left → Listed text lent n left
 lists-met text lent n left m = let (x, y, q, k) = m .said in rw (← x, ← y, ← q, ← k) (kept events.list-promised m)
+
+pub writes-event-met : (text : List ℕ) (e : ℕ) (lent : List ℕ) (w : Written) (left : List ℕ) → Writes-event text e lent w left → Event-answer text e lent w left
+writes-event-met text e lent w left m = let (x, y, z, q, k) = m .said in rw (← x, ← y, ← z, ← q, ← k) (kept machines.event-promised m)
+
+pub writes-opening-met : (text lent : List ℕ) (w : Written) (left : List ℕ) → Writes-opening text lent w left → Opening-answer text lent w left
+writes-opening-met text lent w left m = let (x, y, q, k) = m .said in rw (← x, ← y, ← q, ← k) (kept machines.opening-promised m)
 
 pub checks-met : (t : List ℕ) (a : Answer) → Checks t a → a ≡ check-of t
 checks-met t a m = cc (kept table.check-promised m)

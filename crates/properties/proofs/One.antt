@@ -10,9 +10,10 @@ use Rattle.reading.proofs.Bounds.{read-bounded}
 use Rattle.printer.proofs.Bounds.{print-bounded}
 use Rattle.translator.proofs.Bounds.{translate-bounded}
 use Rattle.events.proofs.Bounds.{name-bounded, values-bounded, list-bounded}
+use Rattle.machines.proofs.Bounds.{event-bounded, opening-bounded}
 use Rattle.properties.specs.Calls.{Updates}
 use Rattle.properties.specs.One.{NothingAsked, Property-1}
-use Rattle.properties.proofs.Kept.{reads-met, prints-met, translates-met, names-met, values-met, lists-met, checks-met, steps-met, finishes-met, offers-met, updates-met, c-checks-met, c-steps-met, c-finishes-met, c-offers-met}
+use Rattle.properties.proofs.Kept.{reads-met, prints-met, translates-met, names-met, values-met, lists-met, writes-event-met, writes-opening-met, checks-met, steps-met, finishes-met, offers-met, updates-met, c-checks-met, c-steps-met, c-finishes-met, c-offers-met}
 
 nothing-asked : NothingAsked
 nothing-asked = record {
@@ -22,6 +23,8 @@ nothing-asked = record {
   name = λ κs a. tt;
   values = λ κs a. tt;
   list = λ κs a. tt;
+  event = λ κs a. tt;
+  opening = λ κs a. tt;
   check = λ κs a. tt;
   step = λ κs a. tt;
   finished = λ κs a. tt;
@@ -45,6 +48,8 @@ property-1 = record {
   name = λ text e part m. let n = names-met text e part m in (n, name-bounded text e part n);
   values = λ text e l m. values-bounded text e l (values-met text e l m);
   list = λ text lent n left m. let l = lists-met text lent n left m in (l, list-bounded text lent n left l);
+  event = λ text e lent w left m. let k = writes-event-met text e lent w left m in (k, event-bounded lent w left text e k);
+  opening = λ text lent w left m. let k = writes-opening-met text lent w left m in (k, opening-bounded lent w left text k);
   check = λ t a m. rw (checks-met t a m) (check-answered t);
   step = λ t before e s m. rw (steps-met t before e s m) (step-answered t before e);
   finished = λ t before f m. rw (finishes-met t before f m) (finished-answered t before);

@@ -12,12 +12,15 @@ use Rattle.reading.specs.declared.ReadResult.{ReadResult}
 use Rattle.printer.specs.declared.Printed.{Printed}
 use Rattle.translator.specs.declared.Translated.{Translated}
 use Rattle.events.specs.declared.Label.{Label}
+use Rattle.machines.specs.declared.eventb.Written.{Written}
 use Rattle.reader.proofs.read.Reads as read-reads
 use Rattle.printer.proofs.print.Reads as print-reads
 use Rattle.translator.proofs.translate.Reads as translate-reads
 use Rattle.events.proofs.name.Reads as name-reads
 use Rattle.events.proofs.values.Reads as values-reads
 use Rattle.events.proofs.list.Reads as list-reads
+use Rattle.machines.proofs.eventb.event.Reads as event-reads
+use Rattle.machines.proofs.eventb.opening.Reads as opening-reads
 use Rattle.table.proofs.check.Reads as check-reads
 use Rattle.table.proofs.step.Reads as step-reads
 use Rattle.table.proofs.finished.Reads as finished-reads
@@ -63,6 +66,15 @@ Values text e l = Made values-reads.Post (λ κs a r s. (a .0 .now ≡ text) × 
 -- `events::list`, of a text and a lent buffer: how many bytes it wrote, and the buffer after it.
 abbrev pub Lists : List ℕ → List ℕ → ℕ → List ℕ → Type 0
 Lists text lent n left = Made list-reads.Post (λ κs a r s. (a .0 .now ≡ text) × (a .1 .0 .now ≡ lent) × (r ≡ n) × (s .1 .0 .now ≡ left))
+
+-- `eventb::event` of `machines`, of a text, an event number and a lent buffer: what it answers, and the buffer after it. `eventb::opening` is asked for no event.
+abbrev pub Writes-event : List ℕ → ℕ → List ℕ → Written → List ℕ → Type 0
+Writes-event text e lent w left =
+    Made event-reads.Post (λ κs a r s. (a .0 .now ≡ text) × (a .1 .0 ≡ e) × (a .1 .1 .0 .now ≡ lent) × (r ≡ w) × (s .1 .1 .0 .now ≡ left))
+
+abbrev pub Writes-opening : List ℕ → List ℕ → Written → List ℕ → Type 0
+Writes-opening text lent w left =
+    Made opening-reads.Post (λ κs a r s. (a .0 .now ≡ text) × (a .1 .0 .now ≡ lent) × (r ≡ w) × (s .1 .0 .now ≡ left))
 
 -- `table::check`, `table::step`, `table::finished` and `table::offer`: a table, a record by value, an event number, a lent buffer.
 abbrev pub Checks : List ℕ → Answer → Type 0

@@ -3,3 +3,4 @@ pub mod One
 pub mod Two
 pub mod InC
 pub mod Three
+pub mod Modelled

@@ -19,12 +19,17 @@ use Rattle.events.specs.Names.{Named}
 use Rattle.events.specs.Listing.{Listed}
 use Rattle.events.specs.Bounds.{Name-bounded, Values-bounded, List-bounded}
 use Rattle.events.specs.declared.Label.{Label}
+use Rattle.machines.specs.Answers.{Event-answer, Opening-answer}
+use Rattle.machines.specs.Bounds as machines
+use Rattle.machines.specs.declared.eventb.Written.{Written}
 use Rattle.reader.proofs.read.Reads as read-reads
 use Rattle.printer.proofs.print.Reads as print-reads
 use Rattle.translator.proofs.translate.Reads as translate-reads
 use Rattle.events.proofs.name.Reads as name-reads
 use Rattle.events.proofs.values.Reads as values-reads
 use Rattle.events.proofs.list.Reads as list-reads
+use Rattle.machines.proofs.eventb.event.Reads as event-reads
+use Rattle.machines.proofs.eventb.opening.Reads as opening-reads
 use Rattle.table.proofs.check.Reads as check-reads
 use Rattle.table.proofs.step.Reads as step-reads
 use Rattle.table.proofs.finished.Reads as finished-reads
@@ -34,7 +39,7 @@ use Rattle.firmware.proofs.adl_check.Reads as adl-check-reads
 use Rattle.firmware.proofs.adl_step.Reads as adl-step-reads
 use Rattle.firmware.proofs.adl_finished.Reads as adl-finished-reads
 use Rattle.firmware.proofs.adl_offer.Reads as adl-offer-reads
-use Rattle.properties.specs.Calls.{Reads, Prints, Translates, Names, Values, Lists, Checks, Steps, Finishes, Offers, Updates, C-checks, C-steps, C-finishes, C-offers}
+use Rattle.properties.specs.Calls.{Reads, Prints, Translates, Names, Values, Lists, Writes-event, Writes-opening, Checks, Steps, Finishes, Offers, Updates, C-checks, C-steps, C-finishes, C-offers}
 
 -- Whatever is handed to a call, what it asks of its caller holds.
 abbrev pub Free : {Lifetimes : Type 0} {Args : Lifetimes → Type 0} → ((κs : Lifetimes) → Args κs → Type 0) → Type 0
@@ -48,6 +53,8 @@ pub record NothingAsked : Type 0 where
   pub name : Free name-reads.Asked
   pub values : Free values-reads.Asked
   pub list : Free list-reads.Asked
+  pub event : Free event-reads.Asked
+  pub opening : Free opening-reads.Asked
   pub check : Free check-reads.Asked
   pub step : Free step-reads.Asked
   pub finished : Free finished-reads.Asked
@@ -67,6 +74,9 @@ pub record Property-1 : Type 0 where
   pub name : (text : RefT (List ℕ)) (e : ℕ) (part : RefT (List ℕ)) → Names text e part → Named text e part × Name-bounded text part
   pub values : (text : List ℕ) (e : ℕ) (l : Label) → Values text e l → Values-bounded text e l
   pub list : (text lent : List ℕ) (n : ℕ) (left : List ℕ) → Lists text lent n left → Listed text lent n left × List-bounded lent n left
+  pub event : (text : List ℕ) (e : ℕ) (lent : List ℕ) (w : Written) (left : List ℕ) → Writes-event text e lent w left
+      → Event-answer text e lent w left × machines.Bounded lent w left
+  pub opening : (text lent : List ℕ) (w : Written) (left : List ℕ) → Writes-opening text lent w left → Opening-answer text lent w left × machines.Bounded lent w left
   pub check : (t : List ℕ) (a : Answer) → Checks t a → Check-answer t a
   pub step : (t : List ℕ) (before : Record) (e : ℕ) (s : Stepped) → Steps t before e s → Step-answer t before e s
   pub finished : (t : List ℕ) (before : Record) (f : Finish) → Finishes t before f → Finish-answer t before f

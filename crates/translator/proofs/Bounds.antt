@@ -145,6 +145,15 @@ module _ (text lent : List ℕ) (r : Translated) (left : List ℕ) where
   accepted-translated (done f count h b e w) d a long =
       (count, bytes-reported r count e, subst (λ tree. Table-of tree (take count left)) (accepted-once text f d b a) (rw (front-is f lent count left w) (w .its-table)))
 
+  -- Of an accepted text the bytes that were written are its table.
+  pub accepted-table : Translation text lent r left → (d : Flow) → Accepted text d → (n : ℕ) → r ≡ Bytes n → take n left ≡ table-of d
+  accepted-table (short h e q) d a n t = absurd (bytes-refused (sym (ap report t) ∙ e))
+  accepted-table (refused number place h u e q) d a n t = absurd (bytes-refused (sym (ap report t) ∙ e))
+  accepted-table (done f count h b e w) d a n t =
+      let same : Bytes n ≡ Bytes count = sym t ∙ bytes-reported r count e in
+      let x : n ≡ count = cc in
+      rw x (front-is f lent count left w ∙ ap table-of (accepted-once text f d b a))
+
 -- ---- one answer
 -- What a text that is read or turned away gets, where the buffer is long enough: an answer, and bytes over the front of what was lent.
 abbrev answer-for : {text : List ℕ} → Fate text → Translated
