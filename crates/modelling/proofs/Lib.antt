@@ -2,3 +2,4 @@ pub mod Unvalued
 pub mod Names
 pub mod Guarded
 pub mod Machines
+pub mod Worked
