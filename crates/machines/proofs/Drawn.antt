@@ -29,7 +29,7 @@ use Rattle.variables.specs.declared.Variables.{Variables}
 use Rattle.profile.specs.Profiles.{some-copies, outside-of, Names}
 use Rattle.modelling.specs.Profile.{in-profile}
 use Rattle.modelling.specs.Texts.{naming}
-use Rattle.modelling.proofs.Machines.{few-events}
+use Rattle.modelling.proofs.Profile.{few-events}
 use Rattle.machines.specs.code.Drawn.{Drawn}
 
 -- ---- the profile
@@ -75,7 +75,7 @@ module _ (text : List ℕ) (g : Diagram) (k : Drawn text g) where
   as-read = record { text = text; tree = k .tree; accepted = k .accepted; shown = its-shown }
 
   few : flow-events (k .tree) ≤ 32
-  few = few-events text (k .tree) (k .accepted) (k .profile)
+  few = few-events (k .tree) (k .profile)
 
   -- The columns spell the variables of the diagram.
   pub spelled-names : (v : Variables) → Names g v → (n : ℕ) → n < flow-events (k .tree) → spelled text v n ≡ naming (k .tree) n

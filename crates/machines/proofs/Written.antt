@@ -35,7 +35,7 @@ use Rattle.guarding.specs.declared.Guards.{Guards}
 use Rattle.profile.specs.Profiles.{Names}
 use Rattle.modelling.specs.Texts.{naming, guards-of, actions-of, event-text, opening-text}
 use Rattle.modelling.proofs.Guarded.{its-numbers, its-size}
-use Rattle.modelling.proofs.Machines.{few-events}
+use Rattle.modelling.proofs.Profile.{few-events}
 use Rattle.machines.specs.code.Drawn.{head, Drawn}
 use Rattle.machines.proofs.Cleared.{from-most, its-actions}
 use Rattle.machines.proofs.Drawn.{its-shown, spelled-names}
@@ -61,7 +61,7 @@ module _ (text : List ℕ) (g : Diagram) (k : Drawn text g) (v : Variables) (w :
     numbers = rw (count-is, ops-are) (numbers-are text (k .tree) (k .accepted) g (its-shown text g k))
 
     short : length (take n ops) ≤ 64
-    short = rw numbers (omega (arith, postfix-short (expand (k .tree)), its-size text (k .tree) (k .accepted), few-events text (k .tree) (k .accepted) (k .profile)))
+    short = rw numbers (omega (arith, postfix-short (expand (k .tree)), its-size text (k .tree) (k .accepted), few-events (k .tree) (k .profile)))
 
     its-fits : Fits (expand (k .tree)) (take n ops) 0
     its-fits = record { numbered = its-numbers text (k .tree) (k .accepted); few = omega (arith, short) }
@@ -82,7 +82,7 @@ module _ (text : List ℕ) (g : Diagram) (k : Drawn text g) (v : Variables) (w :
     event-written lent one two three four left a b c r guards h1 h2 h3 h4 h5 =
         let p = expand (k .tree) in
         let m = its-numbers text (k .tree) (k .accepted) in
-        let few = few-events text (k .tree) (k .accepted) (k .profile) in
+        let few = few-events (k .tree) (k .profile) in
         let guarded = h2 p numbers its-fits owned (omega (arith, short)) in
         let from = from-most e p 0 m owned in
         let acts : buffer c four ≡ put-all (action-lines (spelled text v) 1 (actions p (flow-events (k .tree)) e)) (buffer b three) =
@@ -114,6 +114,6 @@ module _ (text : List ℕ) (g : Diagram) (k : Drawn text g) (v : Variables) (w :
   unfolding opening-text
   opening-written lent left r z h =
       let s = its-shown text g k in
-      let few = few-events text (k .tree) (k .accepted) (k .profile) in
+      let few = few-events (k .tree) (k .profile) in
       same-put _ _ _ (h (omega (arith, s .events)))
       (rw (s .events, root-name z (k .tree) (s .nodes)) (same-opening (spelled text v) (naming (k .tree)) (flow-events (k .tree)) (spelled-names text g k v w) (flow-name (k .tree))))

@@ -99,6 +99,5 @@ pub fn opening(text: &[u8], out: &mut [u8]) -> Written
     if profile::outside(d) {
         return Written::Refused(16, 0);
     }
-    let n = open(text, d, out);
-    Written::Bytes(n)
+    Written::Bytes(open(text, d, out))
 }

@@ -1,3 +1,4 @@
+pub mod Profile
 pub mod Unvalued
 pub mod Names
 pub mod Guarded

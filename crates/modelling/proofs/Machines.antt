@@ -1,17 +1,13 @@
 -- The machine of an accepted text's diagram in the profile.
-use mathlib.Core.Path.{_≡_, ap}
-use mathlib.Core.Bool.{true, false, _&&_, not}
-use mathlib.Core.List.{List, []}
+use mathlib.Core.Path.{_≡_}
+use mathlib.Core.Bool.{true, _&&_}
+use mathlib.Core.List.{List}
 use Prim.Native.Nat.{ℕ, _≤_, _<_}
-use native.Mathlib.Omega.{arith}
-use lib.Dec.{leb}
 use lib.ListN.{length}
 use borrow.Author.Tests.{leb-true}
 use Rattle.base.proofs.Truth.{and-l, and-r}
 use Rattle.diagram.specs.Tree.{Flow, flow}
 use Rattle.diagram.specs.Count.{flow-events}
-use Rattle.diagram.specs.TreeNodes.{flow-tree-nodes}
-use Rattle.diagram.specs.Replicators.{some-replicates}
 use Rattle.tokens.specs.Classes.{worded}
 use Rattle.tokens.specs.Words.{lettered, every, short, named}
 use Rattle.grammar.specs.Named.{all-named, flow-named}
@@ -25,6 +21,7 @@ use Rattle.formulas.proofs.Unambiguous.{text-once}
 use Rattle.modelling.specs.Profile.{in-profile}
 use Rattle.modelling.specs.Texts.{naming, guards-of, actions-of, event-text, opening-text}
 use Rattle.modelling.specs.Machines.{Machine-of}
+use Rattle.modelling.proofs.Profile.{few-events}
 use Rattle.modelling.proofs.Names.{short-names, proper-names}
 use Rattle.modelling.proofs.Guarded.{its-numbers, its-size, guards-right}
 
@@ -36,19 +33,15 @@ root-named (flow n ps sw c r cs) h =
     leb-true (length n) 24 (and-l (short n) _ (and-r (lettered n && every worded n) _ k))
 
 module _ (text : List ℕ) (d : Flow) (a : Accepted text d) (p : in-profile d ≡ true) where
-  pub few-events : flow-events d ≤ 32
-  unfolding in-profile
-  few-events = leb-true (flow-events d) 32 (and-r (not (some-replicates (flow-tree-nodes d false 1 []))) (leb (flow-events d) 32) p)
-
   pub event-fits : (e : ℕ) → e < flow-events d → length (event-text d e) ≤ 65536
   unfolding event-text guards-of actions-of
   event-fits e l =
-      text-short (expand d) (flow-events d) (its-numbers text d a) (its-size text d a) few-events (naming d) (short-names text d a) e l
+      text-short (expand d) (flow-events d) (its-numbers text d a) (its-size text d a) (few-events d p) (naming d) (short-names text d a) e l
 
   pub opening-fits : length (opening-text d) ≤ 65536
   unfolding opening-text
   opening-fits =
-      opening-short (naming d) (flow-events d) (short-names text d a) few-events (flow-name d) (root-named d (a .derived .proper .names))
+      opening-short (naming d) (flow-events d) (short-names text d a) (few-events d p) (flow-name d) (root-named d (a .derived .proper .names))
 
   pub actions-set : (e : ℕ) → e < flow-events d → All-set (flow-events d) (actions-of d e)
   unfolding actions-of

@@ -1,10 +1,9 @@
 -- An event of a diagram without replicators has no values.
 use mathlib.Core.Path.{_≡_, refl, sym}
-use mathlib.Core.Bool.{Bool, true, false, _&&_, _||_, not, false≢true}
+use mathlib.Core.Bool.{Bool, true, false, _||_, false≢true}
 use mathlib.Core.List.{List, [], _∷_}
 use Prim.Native.Nat.{ℕ, suc, _+_}
-use lib.Dec.{leb}
-use Rattle.base.proofs.Truth.{by-cases, and-l, not-e}
+use Rattle.base.proofs.Truth.{by-cases}
 use Rattle.diagram.specs.Tree.{Way, all, some, one, Flow, flow, Children, none, next, Child, plain, loop, group, replicator, Member, leaf, inner, Members, end, also}
 use Rattle.diagram.specs.Count.{flow-events, child-events, member-events}
 use Rattle.diagram.specs.TreeNodes.{TreeNode, tree-node, group-kind, flow-tree-nodes, children-tree-nodes, child-tree-nodes, member-tree-nodes, members-tree-nodes}
@@ -12,6 +11,7 @@ use Rattle.diagram.specs.Replicators.{some-replicates}
 use Rattle.process.specs.Process.{Joint, seq, Process, join, rounds, owns, event-of, Event}
 use Rattle.process.specs.Expand.{reset-of, joint, expand, flow-process, children-process, child-process, loop-process, member-process, members-process}
 use Rattle.modelling.specs.Profile.{in-profile}
+use Rattle.modelling.proofs.Profile.{no-replicators}
 
 abbrev Valued : Process → List ℕ → Type 0
 Valued p vs = (x : ℕ) → event-of p x .values ≡ vs
@@ -87,7 +87,4 @@ mutual
       members-bare ms d more (k .1) j vs (join j p (member-process m vs e)) (e + member-events m) (join-valued j p (member-process m vs e) vs P (k .0))
 
 pub no-values : (d : Flow) → in-profile d ≡ true → (x : ℕ) → event-of (expand d) x .values ≡ []
-unfolding in-profile
-no-values d h =
-    let all-nodes = flow-tree-nodes d false 1 [] in
-    flow-bare d false 1 [] (not-e (some-replicates all-nodes) (and-l (not (some-replicates all-nodes)) (leb (flow-events d) 32) h)) [] 0 .0
+no-values d p = flow-bare d false 1 [] (no-replicators d p) [] 0 .0
