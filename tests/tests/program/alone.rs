@@ -17,18 +17,23 @@ pub fn course() -> String {
     fs::read_to_string(format!("{ROOT}/docs/COURSE.md")).unwrap()
 }
 
-/// A `target/bin/play < FILE` of the course, with the block after it.
+/// The page with the machines.
+pub fn modellers() -> String {
+    fs::read_to_string(format!("{ROOT}/docs/MODELLERS.md")).unwrap()
+}
+
+/// A `target/bin/PROGRAM < FILE` of a page, with the block after it.
 pub struct Run<'c> {
     pub file: &'c str,
     pub shown: &'c str,
 }
 
-pub fn runs_in(part: &str) -> Vec<Run<'_>> {
+pub fn runs_in<'c>(part: &'c str, program: &str) -> Vec<Run<'c>> {
     let run = |part| {
         let (file, after) = str::split_once(part, '\n').expect("a line");
         Run { file, shown: block(after) }
     };
-    part.split("    target/bin/play < ").skip(1).map(run).collect()
+    part.split(&format!("    target/bin/{program} < ")).skip(1).map(run).collect()
 }
 
 /// The first block of a document's part, without its fences.
@@ -47,7 +52,7 @@ fn part<'c>(course: &'c str, heading: &str) -> &'c str {
 #[test]
 fn the_reference_prints_what_the_course_shows() {
     let course = course();
-    let runs = runs_in(&course);
+    let runs = runs_in(&course, "play");
     for Run { file, shown } in &runs {
         let input = fs::read(format!("{ROOT}/{file}")).unwrap();
         assert_eq!(String::from_utf8(played(&input)).unwrap(), *shown, "the course at {file}");
@@ -75,7 +80,7 @@ fn every_exercise_is_answered_by_a_run() {
     assert!(count >= 6, "only {count} exercises");
     for number in 1..=count {
         let answer = part(answers, &format!("### To {number}"));
-        assert!(!runs_in(answer).is_empty(), "no run answers exercise {number}");
+        assert!(!runs_in(answer, "play").is_empty(), "no run answers exercise {number}");
     }
     assert_eq!(answers.matches("\n### To ").count(), count);
 }
@@ -106,7 +111,7 @@ fn the_exercises_come_out_as_told() {
     ];
     for (exercise, run, lines) in told {
         let answer = part(answers, &format!("### To {exercise}"));
-        let mut left = runs_in(answer)[run].shown;
+        let mut left = runs_in(answer, "play")[run].shown;
         for line in lines {
             // The next begins with the line end of this one, at the latest.
             let at = left.find(line).unwrap_or_else(|| panic!("exercise {exercise}: no {line:?} in {left}"));

@@ -2,7 +2,7 @@
 //! back, held against the drawing and played beside the book; a text that is
 //! turned away gives one line.
 
-use crate::alone::ROOT;
+use crate::alone::{modellers, runs_in, Run, ROOT};
 use crate::running::{assert_printed, finish, printed, program, start, Printed};
 use reference::drawings::{accepted_text, machine_text, Machine as Plan, Size};
 use reference::eventb::compare::records_difference;
@@ -130,6 +130,20 @@ fn random_drawings_and_bytes() {
         assert_played(&program, &random_bytes(random));
     }
     assert_eq!(machines, CASES);
+}
+
+/// What docs/MODELLERS.md shows is what is printed, byte by byte; that it is
+/// right is seen by reading it back, as everywhere.
+#[test]
+fn the_page_shows_what_is_printed() {
+    let program = program(PROGRAM);
+    let (mut machines, page) = (0, modellers());
+    for Run { file, shown } in runs_in(&page, "eventb") {
+        let text = fs::read(format!("{ROOT}/{file}")).unwrap();
+        machines += usize::from(assert_played(&program, &text));
+        assert_printed(printed(&program, &[&text]), shown.as_bytes(), &text);
+    }
+    assert_eq!(machines, 2, "docs/MODELLERS.md has two machines");
 }
 
 /// The drawings of the repository, and those of the course, which end at an

@@ -30,7 +30,7 @@ fn assert_played(program: &OsString, input: &[u8]) {
 #[test]
 fn the_course_shows_what_is_printed() {
     let program = program(PROGRAM);
-    for Run { file, shown } in runs_in(&course()) {
+    for Run { file, shown } in runs_in(&course(), "play") {
         let input = fs::read(format!("{ROOT}/{file}")).unwrap();
         assert_prints(&program, &[&input], shown.as_bytes());
     }

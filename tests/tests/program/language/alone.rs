@@ -118,6 +118,7 @@ fn damaged_blocks_are_noticed() {
         format!("{drawing}\n-> events 4 copies 6\n-> ..\na, b, reset r, c -> whole\nrecord after a, b -> C0 00*63"),
         format!("{drawing}\nevents::name 2 -> r\nevents::values 2 -> reset"),
         format!("{drawing}\nprinter::print into 16384 bytes -> {drawing}"),
+        format!("{drawing}\neventb::event 2 into 65536 bytes -> done\neventb::event 4 into 65536 bytes -> refused 14 0"),
         format!("{table}\nadl_step 0 -> 15\nrecord -> 00*64\nadl_finished -> 0"),
         format!("{table}\nadl_offer into 64 bytes -> 0\noffer -> 00*64"),
     ];
@@ -139,6 +140,8 @@ fn damaged_blocks_are_noticed() {
         format!("{drawing}\nevents::name 2 -> reset r"),
         format!("{drawing}\nevents::size 2 -> 1"),
         format!("{drawing}\nprinter::print into 16383 bytes -> {drawing}"),
+        format!("{drawing}\neventb::event 2 into 65535 bytes -> done"),
+        format!("{drawing}\neventb::event 2 -> done"),
         format!("{drawing}\na -> begins\nand a remark"),
         format!("{drawing}{{ }}*x\na -> begins"),
         format!("{drawing}\n  ^\n  ^ here\n-> refused 5 2"),

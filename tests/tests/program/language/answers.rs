@@ -1,8 +1,9 @@
 //! Who answers what the page asks: the reference here, the product in `product`.
 
 use reference::listing::{listing, name, values, Values};
+use reference::plain_eventb::{plain_event, RIGHT};
 use reference::player::played;
-use reference::{plain, print, table, Refusal};
+use reference::{eventb, plain, print, table, Refusal};
 
 pub trait Answers {
     /// What the program `listing` prints.
@@ -13,6 +14,8 @@ pub trait Answers {
     fn translate(&self, text: &[u8], room: usize) -> Result<Vec<u8>, Refusal>;
     fn name(&self, text: &[u8], event: u64) -> Vec<u8>;
     fn values(&self, text: &[u8], event: u64) -> Result<Values, Refusal>;
+    /// How many bytes the Event-B text of the event has.
+    fn event(&self, text: &[u8], event: u64, room: usize) -> Result<usize, Refusal>;
     fn check(&self, table: &[u8]) -> u8;
     fn step(&self, table: &[u8], record: &mut [u8], event: u64) -> u8;
     fn offer(&self, table: &[u8], record: &[u8], out: &mut [u8]) -> u8;
@@ -47,6 +50,11 @@ impl Answers for Reference {
 
     fn values(&self, text: &[u8], event: u64) -> Result<Values, Refusal> {
         values(text, event)
+    }
+
+    fn event(&self, text: &[u8], event: u64, room: usize) -> Result<usize, Refusal> {
+        eventb::asked(&eventb::drawing_of(text), event, room)?;
+        plain_event(RIGHT, text, event).map(|lines| lines.len())
     }
 
     fn check(&self, table: &[u8]) -> u8 {

@@ -5,7 +5,7 @@ use reference::table::{Effect, Row};
 use std::ops::RangeInclusive;
 
 /// The numbers for what is turned away.
-pub const NUMBERS: RangeInclusive<u8> = 1..=15;
+pub const NUMBERS: RangeInclusive<u8> = 1..=16;
 /// So many times a drawing may say that a part stands there.
 const MOST_TIMES: usize = 20_000;
 
@@ -38,6 +38,8 @@ pub enum Question {
     Translate(usize),
     Name(u64),
     Values(u64),
+    /// An event, and how many bytes are lent.
+    Event(u64, usize),
 }
 
 /// Bytes that are given, or that were left; or a C call with its answer.
@@ -147,6 +149,7 @@ fn question_of(line: &str) -> Result<Question, String> {
         "translator::translate" => room(rest).map(Question::Translate),
         "events::name" => rest.parse().ok().map(Question::Name),
         "events::values" => rest.parse().ok().map(Question::Values),
+        "eventb::event" => event_and_room(rest),
         _ => None,
     };
     question.ok_or_else(|| format!("no call: {line}"))
@@ -158,6 +161,12 @@ fn events(list: &str) -> Vec<String> {
         "nothing" => Vec::new(),
         _ => list.split(", ").map(str::to_string).collect(),
     }
+}
+
+/// `E into N bytes`
+fn event_and_room(words: &str) -> Option<Question> {
+    let (event, lent) = words.split_once(' ')?;
+    Some(Question::Event(event.parse().ok()?, room(lent)?))
 }
 
 /// `into N bytes`

@@ -46,6 +46,7 @@ fn answer(question: &Question, text: &[u8], listed: &[&str], answers: &impl Answ
         Question::Translate(room) => answers.translate(text, *room).map_or_else(refused, |_| "done".to_string()),
         Question::Name(event) => shown_or_nothing(&answers.name(text, *event)),
         Question::Values(event) => answers.values(text, *event).map_or_else(refused, told),
+        Question::Event(event, room) => answers.event(text, *event, *room).map_or_else(refused, |_| "done".to_string()),
     }
 }
 

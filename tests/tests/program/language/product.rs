@@ -68,6 +68,10 @@ impl Answers for Product {
         Ok(Values { reset: packed >> 24 == 1, list: values[..packed >> 18 & 63].to_vec() })
     }
 
+    fn event(&self, text: &[u8], event: u64, room: usize) -> Result<usize, Refusal> {
+        written(room, |out| proved::eventb(text, event, out)).map(|lines| lines.len())
+    }
+
     fn check(&self, table: &[u8]) -> u8 {
         proved::check(table)
     }
