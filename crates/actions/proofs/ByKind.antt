@@ -12,7 +12,7 @@ use Rattle.output.proofs.Buffers.{put-all-append}
 use Rattle.formulas.specs.Lines.{Naming, labelled, truth, action, action-lines}
 use Rattle.formulas.specs.Actions.{becomes}
 use Rattle.formulas.specs.Opening.{variable-lines, invariant-lines, cleared-all, opening-lines}
-use Rattle.actions.specs.Written.{line, lines, declarations}
+use Rattle.actions.specs.code.Written.{line, lines, declarations}
 
 -- ---- one line
 -- A label and a number, and then what they label, with the line's end.

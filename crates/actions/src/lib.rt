@@ -7,8 +7,8 @@ ghost use Rattle.tokens.specs.Words.{word-at};
 ghost use Rattle.formulas.specs.Lines.{action-lines};
 ghost use Rattle.formulas.specs.Actions.{becomes};
 ghost use Rattle.formulas.specs.Opening.{cleared-all, opening-lines};
-ghost use Rattle.variables.specs.Spelled.{spelled};
-ghost use Rattle.actions.specs.Written.{label as label-of, head as head-of, tail as tail-of, line as line-of, lines as lines-of, declarations as declarations-of};
+ghost use Rattle.variables.specs.code.Spelled.{spelled};
+ghost use Rattle.actions.specs.code.Written.{label as label-of, head as head-of, tail as tail-of, line as line-of, lines as lines-of, declarations as declarations-of};
 use variables::Variables;
 
 // The lines that name a variable: as one of the machine's, with its type, set TRUE, and set FALSE.

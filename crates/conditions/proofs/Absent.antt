@@ -9,10 +9,10 @@ use lib.ListN.{length, getD, take, drop}
 use borrow.Author.Tests.{eq-eqb, ne-eqb}
 use Rattle.process.specs.Process.{Joint, seq, and, or, xor, Process, event, join, again, rounds}
 use Rattle.postfix.specs.Postfix.{postfix, joint-code}
-use Rattle.parts.specs.Cuts.{second-begins}
+use Rattle.parts.specs.code.Cuts.{second-begins}
 use Rattle.parts.proofs.Ends.{own, inner, some-number, last-is, inner-is, first-part, second-part, joint-high}
 use Rattle.formulas.specs.Conditions.{begun-when, idle-when, Condition, always, when, meet, choice, complete-when, settled-when}
-use Rattle.conditions.specs.Asked.{absent, wanted, joint-lacks}
+use Rattle.conditions.specs.code.Asked.{absent, wanted, joint-lacks}
 
 -- ---- conditions joined
 meet-absent : (c d : Condition) → (absent c && absent d) ≡ absent (meet c d)

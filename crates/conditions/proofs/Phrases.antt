@@ -12,13 +12,13 @@ use Rattle.process.specs.Process.{Joint, seq, and, or, xor, Process, event, joi
 use Rattle.process.proofs.Numbered.{size, Numbered, size-events}
 use Rattle.process.proofs.Cleared.{first-lowest}
 use Rattle.postfix.specs.Postfix.{postfix, joint-code}
-use Rattle.parts.specs.Cuts.{event-count}
+use Rattle.parts.specs.code.Cuts.{event-count}
 use Rattle.parts.proofs.Cut.{count-is}
 use Rattle.formulas.specs.Formulas.{Formula, both, either}
 use Rattle.formulas.specs.Lines.{Naming, formula}
 use Rattle.formulas.specs.Conditions.{begun-when, idle-when, Condition, always, when, meet, choice, complete-when, settled-when}
-use Rattle.variables.specs.Spelled.{connective, over}
-use Rattle.conditions.specs.Asked.{absent, wanted, condition, of-parts, form, shape-by, shape-of, before-parts, opening, between, after-parts, closing}
+use Rattle.variables.specs.code.Spelled.{connective, over}
+use Rattle.conditions.specs.code.Asked.{absent, wanted, condition, of-parts, form, shape-by, shape-of, before-parts, opening, between, after-parts, closing}
 use Rattle.conditions.specs.declared.Shape.{Shape}
 
 -- ---- the variables of a process

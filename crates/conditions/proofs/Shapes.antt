@@ -9,9 +9,9 @@ use lib.ListN.{length, getD, take, drop, length-take}
 use borrow.Author.Tests.{eq-eqb, ne-eqb}
 use Rattle.process.specs.Process.{Joint, Process, join}
 use Rattle.postfix.specs.Postfix.{postfix, joint-code}
-use Rattle.parts.specs.Cuts.{second-begins, event-count}
+use Rattle.parts.specs.code.Cuts.{second-begins, event-count}
 use Rattle.parts.proofs.Ends.{last-is, second-at, first-part, second-part}
-use Rattle.conditions.specs.Asked.{absent, wanted, of-parts, form, shape-by, shape-of, Inside}
+use Rattle.conditions.specs.code.Asked.{absent, wanted, of-parts, form, shape-by, shape-of, Inside}
 use Rattle.conditions.specs.declared.Shape.{Shape}
 
 module _ (code : ℕ) (settled lack : Bool) where

@@ -15,7 +15,7 @@ use Rattle.parts.proofs.Ends.{own, inner, last-is, inner-is, second-at, first-p
 use Rattle.formulas.specs.Formulas.{is}
 use Rattle.formulas.specs.Lines.{Naming, formula}
 use Rattle.formulas.specs.Conditions.{Condition, always, when, complete-when, settled-when}
-use Rattle.conditions.specs.Asked.{absent, wanted, condition, of-parts, shape-of, opening, between, closing}
+use Rattle.conditions.specs.code.Asked.{absent, wanted, condition, of-parts, shape-of, opening, between, closing}
 use Rattle.conditions.specs.declared.Shape.{Shape}
 use Rattle.conditions.proofs.Phrases.{joint-text}
 

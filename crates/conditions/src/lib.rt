@@ -7,8 +7,8 @@ ghost use Rattle.output.specs.Buffer.{buffer, put-all};
 ghost use Rattle.process.specs.Process.{Joint, Process, join};
 ghost use Rattle.process.proofs.Numbered.{Numbered};
 ghost use Rattle.postfix.specs.Postfix.{postfix};
-ghost use Rattle.variables.specs.Spelled.{spelled};
-ghost use Rattle.conditions.specs.Asked.{absent, wanted, joint-lacks as joint-lacks-of, form as form-of, shape-of, Inside, before-parts, opening, between as between-parts, after-parts, closing, condition};
+ghost use Rattle.variables.specs.code.Spelled.{spelled};
+ghost use Rattle.conditions.specs.code.Asked.{absent, wanted, joint-lacks as joint-lacks-of, form as form-of, shape-of, Inside, before-parts, opening, between as between-parts, after-parts, closing, condition};
 use variables::Variables;
 
 // How the condition on a joint is put: where its second part begins, how many events the first part has and how many come after the first event of both, whether both

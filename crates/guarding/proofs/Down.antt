@@ -15,15 +15,15 @@ use Rattle.process.specs.Bodies.{first}
 use Rattle.process.proofs.Numbered.{size, Numbered, interval}
 use Rattle.process.proofs.Cleared.{first-lowest}
 use Rattle.postfix.specs.Postfix.{postfix, joint-code}
-use Rattle.parts.specs.Cuts.{second-begins, event-count}
+use Rattle.parts.specs.code.Cuts.{second-begins, event-count}
 use Rattle.parts.proofs.Cut.{count-is, few-events}
 use Rattle.parts.proofs.Ends.{own, last-is, inner-is, inner-length, inner-count, first-part, second-part, joint-high}
 use Rattle.formulas.specs.Formulas.{Formula, is}
 use Rattle.formulas.specs.Lines.{Naming, guard-lines}
 use Rattle.formulas.specs.Conditions.{complete-when, guarded, of-second, of-first, conditions}
-use Rattle.variables.specs.Spelled.{over}
+use Rattle.variables.specs.code.Spelled.{over}
 use Rattle.conditions.proofs.Phrases.{idle-over}
-use Rattle.guarding.specs.Asked.{own-guard, second-asked, first-asked, cut-at, Fits, Wrote, clears-from, Guarded}
+use Rattle.guarding.specs.code.Asked.{own-guard, second-asked, first-asked, cut-at, Fits, Wrote, clears-from, Guarded}
 use Rattle.guarding.specs.declared.Lines.{Lines}
 use Rattle.guarding.specs.declared.Guards.{Guards}
 use Rattle.guarding.proofs.Labelled.{lines-append, second-few, first-few}

@@ -17,14 +17,14 @@ use Rattle.output.proofs.Buffers.{before, same-put, none-put}
 use Rattle.process.specs.Process.{Process}
 use Rattle.process.proofs.Numbered.{size, Numbered}
 use Rattle.postfix.specs.Postfix.{postfix}
-use Rattle.parts.specs.Cuts.{second-begins, event-count}
+use Rattle.parts.specs.code.Cuts.{second-begins, event-count}
 use Rattle.formulas.specs.Formulas.{Formula, is}
 use Rattle.formulas.specs.Lines.{Naming, formula, labelled, guard-lines}
 use Rattle.formulas.specs.Conditions.{some-true, all-false, idle-when, Condition, always, when, complete-when, guarded}
-use Rattle.variables.specs.Spelled.{over}
-use Rattle.conditions.specs.Asked.{absent, wanted, condition}
+use Rattle.variables.specs.code.Spelled.{over}
+use Rattle.conditions.specs.code.Asked.{absent, wanted, condition}
 use Rattle.conditions.proofs.Phrases.{idle-over}
-use Rattle.guarding.specs.Asked.{label, own-guard, second-asked, first-asked, cut-at, Wrote}
+use Rattle.guarding.specs.code.Asked.{label, own-guard, second-asked, first-asked, cut-at, Wrote}
 use Rattle.guarding.specs.declared.Lines.{Lines}
 
 pub lines-append : (v : Naming) (k : ℕ) (fs gs : List Formula) → guard-lines v k (fs ++ gs) ≡ guard-lines v k fs ++ guard-lines v (k + length fs) gs

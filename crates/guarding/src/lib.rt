@@ -8,8 +8,8 @@ ghost use Rattle.process.specs.Process.{Process, owns};
 ghost use Rattle.postfix.specs.Postfix.{postfix};
 ghost use Rattle.formulas.specs.Lines.{guard-lines};
 ghost use Rattle.formulas.specs.Conditions.{complete-when, guarded};
-ghost use Rattle.variables.specs.Spelled.{spelled, over};
-ghost use Rattle.guarding.specs.Asked.{label as label-of, own-guard, second-asked, first-asked, cut-at, Fits, Wrote, Guarded};
+ghost use Rattle.variables.specs.code.Spelled.{spelled, over};
+ghost use Rattle.guarding.specs.code.Asked.{label as label-of, own-guard, second-asked, first-asked, cut-at, Fits, Wrote, Guarded};
 use variables::Variables;
 
 // How many bytes are written, and the number of the next guard.

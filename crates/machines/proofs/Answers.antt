@@ -16,7 +16,7 @@ use Rattle.reading.proofs.Exact.{accepted-exactly, refused-exactly}
 use Rattle.reading.proofs.Shown.{accepted-shown}
 use Rattle.output.specs.Buffer.{buffer, put-all}
 use Rattle.output.proofs.Buffers.{whole}
-use Rattle.profile.specs.Profiles.{outside-of}
+use Rattle.profile.specs.code.Profiles.{outside-of}
 use Rattle.modelling.specs.Texts.{event-text, opening-text}
 use Rattle.modelling.proofs.Guarded.{guards-right}
 use Rattle.modelling.proofs.Machines.{event-fits, opening-fits}

@@ -17,7 +17,7 @@ use Rattle.process.proofs.Cleared.{first-lowest}
 use Rattle.process.proofs.Local.{closed}
 use Rattle.formulas.specs.Actions.{Action, becomes, cleared, actions}
 use Rattle.formulas.specs.Opening.{cleared-all}
-use Rattle.guarding.specs.Asked.{clears-from}
+use Rattle.guarding.specs.code.Asked.{clears-from}
 
 -- ---- those that a process clears
 not-its : (p : Process) (x i : ℕ) → owns p x ≡ false → clears p x i ≡ false

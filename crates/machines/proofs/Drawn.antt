@@ -24,9 +24,9 @@ use Rattle.process.specs.Process.{event-of}
 use Rattle.process.specs.Expand.{expand}
 use Rattle.labels.proofs.SearchByText.{labelled}
 use Rattle.translator.specs.Translates.{Read}
-use Rattle.variables.specs.Spelled.{mark, spelled}
+use Rattle.variables.specs.code.Spelled.{mark, spelled}
 use Rattle.variables.specs.declared.Variables.{Variables}
-use Rattle.profile.specs.Profiles.{some-copies, outside-of, Names}
+use Rattle.profile.specs.code.Profiles.{some-copies, outside-of, Names}
 use Rattle.modelling.specs.Profile.{in-profile}
 use Rattle.modelling.specs.Texts.{naming}
 use Rattle.modelling.proofs.Profile.{few-events}

@@ -28,11 +28,11 @@ use Rattle.formulas.specs.Conditions.{conditions}
 use Rattle.formulas.specs.Lines.{Naming, guard-lines, action-lines, event-lines}
 use Rattle.formulas.specs.Opening.{cleared-all, opening-lines}
 use Rattle.formulas.proofs.Spoken.{conditions-speak, actions-below, same-text, same-opening}
-use Rattle.variables.specs.Spelled.{spelled}
+use Rattle.variables.specs.code.Spelled.{spelled}
 use Rattle.variables.specs.declared.Variables.{Variables}
-use Rattle.guarding.specs.Asked.{Fits, Guarded}
+use Rattle.guarding.specs.code.Asked.{Fits, Guarded}
 use Rattle.guarding.specs.declared.Guards.{Guards}
-use Rattle.profile.specs.Profiles.{Names}
+use Rattle.profile.specs.code.Profiles.{Names}
 use Rattle.modelling.specs.Texts.{naming, guards-of, actions-of, event-text, opening-text}
 use Rattle.modelling.proofs.Guarded.{its-numbers, its-size}
 use Rattle.modelling.proofs.Profile.{few-events}

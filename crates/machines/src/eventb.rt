@@ -1,7 +1,7 @@
 ghost use mathlib.Core.Path.{_≡_};
 ghost use Prim.Native.Nat.{_<_};
 ghost use Rattle.output.specs.Buffer.{buffer, put-all};
-ghost use Rattle.variables.specs.Spelled.{spelled};
+ghost use Rattle.variables.specs.code.Spelled.{spelled};
 ghost use Rattle.modelling.specs.Texts.{event-text, opening-text};
 ghost use Rattle.machines.specs.Answers.{Event-answer, Opening-answer};
 ghost use Rattle.machines.specs.code.Drawn.{passed-on, head as head-of, Drawn};

@@ -12,7 +12,7 @@ use Rattle.base.proofs.Truth.{by-cases}
 use Rattle.process.specs.Process.{Joint, seq, and, or, xor, Process, event, join, again, rounds}
 use Rattle.process.proofs.Numbered.{size}
 use Rattle.postfix.specs.Postfix.{postfix, joint-code}
-use Rattle.parts.specs.Cuts.{wanted, left-over, second-begins, event-count}
+use Rattle.parts.specs.code.Cuts.{wanted, left-over, second-begins, event-count}
 
 -- ---- where the second part begins
 none-wanted : (cs : List ℕ) → left-over cs 0 ≡ length cs

@@ -7,7 +7,7 @@ use lib.ListN.{length, getD, take, drop, length-append, length-drop}
 use lib.Seq.{take-at, drop-at, getD-at, length-take-le}
 use Rattle.process.specs.Process.{Joint, seq, and, or, xor, Process, event, join, again, rounds}
 use Rattle.postfix.specs.Postfix.{postfix, joint-code}
-use Rattle.parts.specs.Cuts.{second-begins}
+use Rattle.parts.specs.code.Cuts.{second-begins}
 use Rattle.parts.proofs.Cut.{second-is}
 
 -- A process's own number.

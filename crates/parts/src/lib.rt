@@ -4,7 +4,7 @@ ghost use mathlib.Core.Path.{_≡_};
 ghost use mathlib.Core.List.{[], _∷_};
 ghost use Prim.Native.Nat.{_-_, _^_, _≤_, _<_};
 ghost use lib.ListN.{length};
-ghost use Rattle.parts.specs.Cuts.{wanted as wanted-before, second-begins, event-count};
+ghost use Rattle.parts.specs.code.Cuts.{wanted as wanted-before, second-begins, event-count};
 
 // How many parts are wanted before a number, where so many were wanted after it.
 fn wanted(code: u8, n: usize) -> usize

@@ -12,7 +12,7 @@ use Rattle.base.proofs.Truth.{or-l, or-r}
 use Rattle.diagram.specs.Replicators.{replicates}
 use Rattle.diagram.specs.declared.Node.{Node}
 use Rattle.columns.proofs.Filled.{counted}
-use Rattle.profile.specs.Profiles.{some-copies}
+use Rattle.profile.specs.code.Profiles.{some-copies}
 
 copies-append : (ms ns : List Node) → some-copies (ms ++ ns) ≡ (some-copies ms || some-copies ns)
 unfolding some-copies

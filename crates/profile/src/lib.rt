@@ -2,7 +2,7 @@ ghost use mathlib.Core.Path.{_≡_};
 ghost use mathlib.Core.Bool.{cond};
 ghost use lib.ListN.{take};
 ghost use Rattle.diagram.specs.Replicators.{replicates as replicates-of};
-ghost use Rattle.profile.specs.Profiles.{some-copies, outside-of, Names};
+ghost use Rattle.profile.specs.code.Profiles.{some-copies, outside-of, Names};
 use diagram::Diagram;
 use diagram::Kind;
 use labels::Spot;

@@ -9,7 +9,7 @@ use Rattle.base.specs.Text.{bytes}
 use Rattle.formulas.specs.Formulas.{is}
 use Rattle.formulas.specs.Lines.{Naming, formula}
 use Rattle.formulas.specs.Conditions.{some-true, all-false}
-use Rattle.variables.specs.Spelled.{connective, lead, over}
+use Rattle.variables.specs.code.Spelled.{connective, lead, over}
 
 pub over-one : (v : Naming) (value : Bool) (from after : ℕ) → after ≡ 0 → formula v (is from value) ≡ formula v (over value from after)
 unfolding some-true all-false

@@ -1,1 +1,1 @@
-pub mod Spelled
+pub mod code

@@ -3,7 +3,7 @@ ghost use Prim.Native.Nat.{_+_, _<_};
 ghost use Rattle.output.specs.Buffer.{buffer, put-all};
 ghost use Rattle.formulas.specs.Formulas.{is as is-of};
 ghost use Rattle.formulas.specs.Lines.{truth as truth-of, formula};
-ghost use Rattle.variables.specs.Spelled.{mark as mark-of, spelled, connective as connective-of, lead as lead-of, over};
+ghost use Rattle.variables.specs.code.Spelled.{mark as mark-of, spelled, connective as connective-of, lead as lead-of, over};
 
 // Where the name of each of the first 32 events stands in the text, and whether it is a reset, 1, or a leaf, 0.
 pub struct Variables {

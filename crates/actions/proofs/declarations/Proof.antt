@@ -1,7 +1,7 @@
 -- One after the other.
 use native.Mathlib.Omega.{arith}
 use Rattle.output.proofs.Buffers.{before, same-put}
-use Rattle.variables.specs.Spelled.{spelled}
+use Rattle.variables.specs.code.Spelled.{spelled}
 use Rattle.actions.proofs.ByKind.{from-first}
 use borrow.Author.Needs.{needs}
 use Rattle.actions.proofs.declarations.Statement.{statement}

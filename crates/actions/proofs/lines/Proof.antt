@@ -5,8 +5,8 @@ use Prim.Native.Nat.{ℕ, _+_, _-_, _≤_}
 use native.Mathlib.Omega.{arith}
 use lib.ListN.{length}
 use Rattle.output.specs.Buffer.{buffer, put-all}
-use Rattle.variables.specs.Spelled.{spelled}
-use Rattle.actions.specs.Written.{lines as lines-of}
+use Rattle.variables.specs.code.Spelled.{spelled}
+use Rattle.actions.specs.code.Written.{lines as lines-of}
 use Rattle.actions.proofs.ByKind.{lines-begin, lines-next, lines-end}
 use borrow.Author.Needs.{needs}
 use Rattle.actions.proofs.lines.Statement.{statement}

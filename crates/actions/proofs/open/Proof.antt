@@ -2,7 +2,7 @@
 use Prim.Native.Nat.{_<_}
 use native.Mathlib.Omega.{arith}
 use Rattle.output.proofs.Buffers.{before, same-put}
-use Rattle.variables.specs.Spelled.{spelled}
+use Rattle.variables.specs.code.Spelled.{spelled}
 use Rattle.actions.proofs.ByKind.{opened, from-first}
 use borrow.Author.Needs.{needs}
 use Rattle.actions.proofs.open.Statement.{statement}

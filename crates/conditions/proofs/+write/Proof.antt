@@ -5,8 +5,8 @@ use Prim.Native.Nat.{_+_, _-_}
 use lib.ListN.{length, drop, length-take}
 use Rattle.output.proofs.Buffers.{same-put}
 use Rattle.parts.proofs.Ends.{inner-fewer, first-fewer, second-fewer, second-inside, inner-count, first-count}
-use Rattle.variables.specs.Spelled.{spelled}
-use Rattle.conditions.specs.Asked.{wanted}
+use Rattle.variables.specs.code.Spelled.{spelled}
+use Rattle.conditions.specs.code.Asked.{wanted}
 use Rattle.conditions.proofs.Absent.{some-code}
 use Rattle.conditions.proofs.Written.{absent-written, leaf-text, rounds-written, joint-written}
 use native.Mathlib.Omega.{arith}

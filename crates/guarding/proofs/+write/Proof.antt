@@ -3,7 +3,7 @@ use Prim.Native.Nat.{ℕ, _<_}
 use mathlib.Core.Path.{ap}
 use Prim.Native.Nat.{_+_, _-_}
 use lib.ListN.{length, drop, length-take}
-use Rattle.variables.specs.Spelled.{spelled}
+use Rattle.variables.specs.code.Spelled.{spelled}
 use Rattle.parts.proofs.Ends.{some-number, first-fewer, second-fewer, second-inside, first-count, within-inner}
 use Rattle.guarding.proofs.Down.{leaf-guarded, first-guarded, reset-guarded, second-guarded}
 use native.Mathlib.Omega.{arith}

@@ -3,8 +3,8 @@ use mathlib.Core.Path.{ap, _∙_}
 use mathlib.Core.List.{List}
 use Prim.Native.Nat.{ℕ, _-_}
 use native.Mathlib.Omega.{arith}
-use Rattle.parts.specs.Cuts.{event-count}
-use Rattle.variables.specs.Spelled.{spelled}
+use Rattle.parts.specs.code.Cuts.{event-count}
+use Rattle.variables.specs.code.Spelled.{spelled}
 use Rattle.parts.proofs.Ends.{some-number}
 use Rattle.guarding.proofs.Labelled.{one-wrote, none-wrote, choice-first, complete-first, nothing-first}
 use borrow.Author.Needs.{needs}

@@ -1,5 +1,5 @@
 -- By the code's test.
-use Rattle.variables.specs.Spelled.{spelled}
+use Rattle.variables.specs.code.Spelled.{spelled}
 use Rattle.guarding.proofs.Labelled.{one-wrote, none-wrote, asked-second, not-second}
 use borrow.Author.Needs.{needs}
 use Rattle.guarding.proofs.ask_second.Statement.{statement}

@@ -2,8 +2,8 @@
 use mathlib.Core.Path.{sym, _∙_}
 use mathlib.Core.Bool.{false}
 use Rattle.output.proofs.Buffers.{before}
-use Rattle.variables.specs.Spelled.{spelled}
-use Rattle.conditions.specs.Asked.{wanted}
+use Rattle.variables.specs.code.Spelled.{spelled}
+use Rattle.conditions.specs.code.Asked.{wanted}
 use Rattle.guarding.proofs.Labelled.{no-condition, condition-wrote}
 use borrow.Author.Needs.{needs}
 use Rattle.guarding.proofs.complete_line.Statement.{statement}

@@ -4,7 +4,7 @@ use Prim.Native.Nat.{ℕ, _+_, _-_, _≤_}
 use native.Mathlib.Omega.{arith}
 use lib.ListN.{length, take}
 use borrow.Author.Needs.{needs}
-use Rattle.parts.specs.Cuts.{event-count}
+use Rattle.parts.specs.code.Cuts.{event-count}
 use Rattle.parts.proofs.Cut.{none-counted, one-more, count-all}
 use Rattle.parts.proofs.events.Statement.{statement}
 use Rattle.parts.proofs.events.Tie as tie

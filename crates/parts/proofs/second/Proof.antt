@@ -5,7 +5,7 @@ use native.Mathlib.Omega.{arith}
 use mathlib.Core.List.{reverse}
 use lib.ListN.{length, getD, take}
 use borrow.Author.Needs.{needs}
-use Rattle.parts.specs.Cuts.{left-over, second-begins}
+use Rattle.parts.specs.code.Cuts.{left-over, second-begins}
 use Rattle.parts.proofs.Cut.{from-end, wanted-few, one-back, all-there, at-begin}
 use Rattle.parts.proofs.second.Statement.{statement}
 use Rattle.parts.proofs.second.Tie as tie

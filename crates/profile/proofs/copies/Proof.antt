@@ -6,7 +6,7 @@ use Prim.Native.Nat.{_-_, _≤_}
 use native.Mathlib.Omega.{arith}
 use lib.ListN.{length, take, length-map}
 use borrow.Author.Tests.{ltb-true, ltb-false}
-use Rattle.profile.specs.Profiles.{some-copies}
+use Rattle.profile.specs.code.Profiles.{some-copies}
 use Rattle.profile.proofs.Looked.{one-more, found-copies, none-copies, no-node}
 use borrow.Author.Needs.{needs}
 use Rattle.profile.proofs.copies.Statement.{statement}

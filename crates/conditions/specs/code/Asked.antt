@@ -7,10 +7,10 @@ use lib.ListN.{length, take}
 use Rattle.base.specs.Text.{bytes}
 use Rattle.process.specs.Process.{Joint, Process, join}
 use Rattle.postfix.specs.Postfix.{postfix, joint-code}
-use Rattle.parts.specs.Cuts.{event-count}
+use Rattle.parts.specs.code.Cuts.{event-count}
 use Rattle.formulas.specs.Lines.{Naming, formula}
 use Rattle.formulas.specs.Conditions.{Condition, always, when, complete-when, settled-when}
-use Rattle.variables.specs.Spelled.{connective, over}
+use Rattle.variables.specs.code.Spelled.{connective, over}
 use Rattle.conditions.specs.declared.Shape.{Shape}
 
 -- A condition that always holds is not written.

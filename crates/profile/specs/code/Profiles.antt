@@ -1,5 +1,5 @@
 -- Whether a diagram by value has a machine, and where the names of its events stand: for the contracts of the functions. That the first is
--- `modelling.specs.Profile.in-profile` of the diagram that was read is `machines.proofs.Drawn.outside-exactly`.
+-- `modelling.specs.Profile.in-profile` of the diagram that was read is `machines.proofs.Drawn.outside-profile` and `machines.proofs.Drawn.inside-profile`.
 use mathlib.Core.Path.{_≡_}
 use mathlib.Core.Bool.{Bool, false, _||_, cond}
 use mathlib.Core.List.{List, [], _∷_}

@@ -11,11 +11,11 @@ use Rattle.output.specs.Buffer.{buffer, put-all}
 use Rattle.process.specs.Process.{Process, event, join, again, rounds, owns}
 use Rattle.process.specs.Bodies.{first}
 use Rattle.process.proofs.Numbered.{Numbered}
-use Rattle.parts.specs.Cuts.{second-begins}
+use Rattle.parts.specs.code.Cuts.{second-begins}
 use Rattle.formulas.specs.Formulas.{Formula, is}
 use Rattle.formulas.specs.Lines.{Naming, guard-lines}
 use Rattle.formulas.specs.Conditions.{idle-when, complete-when, guarded, conditions}
-use Rattle.variables.specs.Spelled.{over}
+use Rattle.variables.specs.code.Spelled.{over}
 use Rattle.guarding.specs.declared.Lines.{Lines}
 use Rattle.guarding.specs.declared.Guards.{Guards}
 
