@@ -36,10 +36,7 @@ fn head(kind: u8, number: usize, out: &mut [u8], at: usize) -> usize
 fn label(kind: u8, out: &mut [u8], at: usize) -> usize
     ensures { λ r. ⌜ buffer r (now (out .exit)) ≡ put-all (label-of kind) (buffer at (now (out .entry))) ⌝ }
 {
-    if kind == TYPED {
-        return output::bytes(out, at, b"@inv_");
-    }
-    output::bytes(out, at, b"@act_")
+    variables::one_of(kind == TYPED, b"@inv_", b"@act_", out, at)
 }
 
 // What stands after the variable.

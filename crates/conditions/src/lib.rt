@@ -111,10 +111,7 @@ fn shaped(codes: &[u8], settled: bool) -> Shape
 fn sign(there: bool, bytes: &[u8], out: &mut [u8], at: usize) -> usize
     ensures { λ r. ⌜ buffer r (now (out .exit)) ≡ put-all (cond there (now (bytes .entry)) []) (buffer at (now (out .entry))) ⌝ }
 {
-    if there {
-        return output::bytes(out, at, bytes);
-    }
-    at
+    variables::one_of(there, bytes, b"", out, at)
 }
 
 // What stands around the condition on the parts, up to it.

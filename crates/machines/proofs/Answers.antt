@@ -7,6 +7,7 @@ use native.Mathlib.Omega.{arith}
 use lib.ListN.{length}
 use Rattle.diagram.specs.Tree.{Flow}
 use Rattle.diagram.specs.Count.{flow-events}
+use Rattle.diagram.specs.declared.Diagram.{Diagram}
 use Rattle.reading.specs.Answers.{read-of}
 use Rattle.reading.specs.Accepted.{Accepted}
 use Rattle.reading.specs.Shows.{Shows}
@@ -22,7 +23,8 @@ use Rattle.modelling.proofs.Guarded.{guards-right}
 use Rattle.modelling.proofs.Machines.{event-fits, opening-fits}
 use Rattle.machines.specs.Reports.{report}
 use Rattle.machines.specs.Answers.{Answered, refused, outside, inside, Filled, Event-of, no-event, event, Event-answer, Opening-answer}
-use Rattle.machines.specs.code.Drawn.{passed-on, Drawn}
+use Rattle.machines.specs.code.Drawn.{passed-on, Drawn, Admission, unread, outside as outside-profiled, inside as admitted}
+use Rattle.machines.specs.declared.eventb.Admitted.{Admitted}
 use Rattle.machines.specs.declared.eventb.Written.{Written}
 use Rattle.machines.specs.declared.eventb.Written.the-variants.{Bytes, Refused}
 use Rattle.machines.proofs.Drawn.{outside-profile, inside-profile, its-shown}
@@ -33,12 +35,12 @@ filled text lent left r q h long =
     let w = whole text lent left r q (omega arith) in
     record { its-count = ap (λ (n : ℕ). report (Bytes n)) (w .0); its-bytes = w .1; enough = h }
 
-module _ (text : List ℕ) (o : ReadResult) (read : o ≡ read-of text) (lent left : List ℕ) (long : 65536 ≤ length lent) where
+-- ---- whether a text has a machine
+module _ (text : List ℕ) (o : ReadResult) (read : o ≡ read-of text) (a : Admitted) where
   -- A refused text.
-  pub refused-answer : (Of : Flow → Type 0) (r : Written) (number place : ℕ) → o .answer ≡ Unread number place → r ≡ passed-on (o .answer) → left ≡ lent
-      → Answered text lent r left Of
-  refused-answer Of r number place a e q =
-      refused number place long (refused-exactly text number place .0 (sym (ap (λ (x : ReadResult). x .answer) read) ∙ a)) (ap report (e ∙ ap passed-on a)) q
+  pub unread-admission : (number place : ℕ) → o .answer ≡ Unread number place → a .answer ≡ passed-on (o .answer) → Admission text a
+  unread-admission number place q e =
+      unread number place (refused-exactly text number place .0 (sym (ap (λ (x : ReadResult). x .answer) read) ∙ q)) (e ∙ ap passed-on q)
 
   module _ (is-done : o .answer ≡ Done) where
     its-tree : (d : Flow) × Accepted text d
@@ -47,36 +49,56 @@ module _ (text : List ℕ) (o : ReadResult) (read : o ≡ read-of text) (lent le
     tree-shown : Shows text (its-tree .0) (o .diagram)
     tree-shown = subst (λ (x : ReadResult). Shows text (its-tree .0) (x .diagram)) (sym read) (accepted-shown text (its-tree .0) (its-tree .1))
 
-    -- A diagram outside the profile.
-    pub outside-answer : (Of : Flow → Type 0) → true ≡ outside-of (o .diagram) → left ≡ lent → Answered text lent (Refused 16 0) left Of
-    outside-answer Of h q = outside (its-tree .0) long (its-tree .1) (outside-profile text (its-tree .0) (o .diagram) tree-shown (sym h)) refl q
+    -- A diagram outside the profile, and one in it.
+    pub outside-admission : true ≡ outside-of (o .diagram) → a .answer ≡ Refused 16 0 → Admission text a
+    outside-admission h e = outside-profiled (its-tree .0) (its-tree .1) (outside-profile text (its-tree .0) (o .diagram) tree-shown (sym h)) e
 
-    module _ (h : false ≡ outside-of (o .diagram)) where
-      pub drawn : Drawn text (o .diagram)
-      drawn = record {
-        tree = its-tree .0;
-        accepted = its-tree .1;
-        profile = inside-profile text (its-tree .0) (o .diagram) tree-shown (sym h);
-        its-diagram = ap (λ (x : ReadResult). x .diagram) read;
-      }
+    pub inside-admission : false ≡ outside-of (o .diagram) → a .diagram ≡ o .diagram → a .answer ≡ Bytes 0 → Admission text a
+    inside-admission h q e =
+        admitted
+        (record {
+          tree = its-tree .0;
+          accepted = its-tree .1;
+          profile = inside-profile text (its-tree .0) (o .diagram) tree-shown (sym h);
+          its-diagram = q ∙ ap (λ (x : ReadResult). x .diagram) read;
+        })
+        e
 
-      shown : Shows text (drawn .tree) (o .diagram)
-      shown = its-shown text (o .diagram) drawn
+-- What is known of a text by the answer.
+bytes-or-refused : {n number place : ℕ} → _≡_ {A = Written} (Bytes n) (Refused number place) → ⊥
+bytes-or-refused e = let z : _≡_ {A = ℕ} 0 1 = cc in omega arith
 
-      pub past-answer : (e : ℕ) → o .diagram .events ≤ e → left ≡ lent → Event-answer text e lent (Refused 14 0) left
-      past-answer e l q = inside (drawn .tree) long (drawn .accepted) (drawn .profile) (no-event (omega (arith, shown .events)) refl q)
+pub drawn-by : (text : List ℕ) (a : Admitted) (n : ℕ) → Admission text a → a .answer ≡ Bytes n → Drawn text (a .diagram)
+drawn-by text a n (unread number place t q) e = absurd (bytes-or-refused (sym e ∙ q))
+drawn-by text a n (outside-profiled d b o q) e = absurd (bytes-or-refused (sym e ∙ q))
+drawn-by text a n (admitted k q) e = k
 
-      pub event-answer : (e r : ℕ) → e < o .diagram .events
-          → ((k : Drawn text (o .diagram)) → buffer r left ≡ put-all (event-text (k .tree) e) (buffer 0 lent)) → Event-answer text e lent (Bytes r) left
-      event-answer e r l w =
-          let d = drawn .tree in
-          let a = drawn .accepted in
-          let below : e < flow-events d = omega (arith, shown .events) in
-          inside d long a (drawn .profile)
-          (event below (filled (event-text d e) lent left r (w drawn) (event-fits text d a (drawn .profile) e below) long) (guards-right text d a e below))
+-- ---- the answers
+module _ (text lent left : List ℕ) (long : 65536 ≤ length lent) where
+  pub turned-away : (Of : Flow → Type 0) (a : Admitted) (number place : ℕ) → Admission text a → a .answer ≡ Refused number place → left ≡ lent
+      → Answered text lent (a .answer) left Of
+  turned-away Of a number place (unread n p t q) e u = refused n p long t (ap report q) u
+  turned-away Of a number place (outside-profiled d b o q) e u = outside d long b o (ap report q) u
+  turned-away Of a number place (admitted k q) e u = absurd (bytes-or-refused (sym q ∙ e))
 
-      pub opening-answer : (r : ℕ) → ((k : Drawn text (o .diagram)) → buffer r left ≡ put-all (opening-text (k .tree)) (buffer 0 lent)) → Opening-answer text lent (Bytes r) left
-      opening-answer r w =
-          let d = drawn .tree in
-          let a = drawn .accepted in
-          inside d long a (drawn .profile) (filled (opening-text d) lent left r (w drawn) (opening-fits text d a (drawn .profile)) long)
+  module _ (g : Diagram) (k : Drawn text g) where
+    shown : Shows text (k .tree) g
+    shown = its-shown text g k
+
+    pub past-answer : (e : ℕ) → g .events ≤ e → left ≡ lent → Event-answer text e lent (Refused 14 0) left
+    past-answer e l q = inside (k .tree) long (k .accepted) (k .profile) (no-event (omega (arith, shown .events)) refl q)
+
+    pub event-answer : (e r : ℕ) → e < g .events → ((j : Drawn text g) → buffer r left ≡ put-all (event-text (j .tree) e) (buffer 0 lent))
+        → Event-answer text e lent (Bytes r) left
+    event-answer e r l w =
+        let d = k .tree in
+        let a = k .accepted in
+        let below : e < flow-events d = omega (arith, shown .events) in
+        inside d long a (k .profile)
+        (event below (filled (event-text d e) lent left r (w k) (event-fits text d a (k .profile) e below) long) (guards-right text d a e below))
+
+    pub opening-answer : (r : ℕ) → ((j : Drawn text g) → buffer r left ≡ put-all (opening-text (j .tree)) (buffer 0 lent)) → Opening-answer text lent (Bytes r) left
+    opening-answer r w =
+        let d = k .tree in
+        let a = k .accepted in
+        inside d long a (k .profile) (filled (opening-text d) lent left r (w k) (opening-fits text d a (k .profile)) long)

@@ -4,7 +4,7 @@ ghost use Rattle.output.specs.Buffer.{buffer, put-all};
 ghost use Rattle.variables.specs.code.Spelled.{spelled};
 ghost use Rattle.modelling.specs.Texts.{event-text, opening-text};
 ghost use Rattle.machines.specs.Answers.{Event-answer, Opening-answer};
-ghost use Rattle.machines.specs.code.Drawn.{passed-on, head as head-of, Drawn};
+ghost use Rattle.machines.specs.code.Drawn.{passed-on, head as head-of, Drawn, Admission};
 use diagram::Diagram;
 use reading::Answer;
 use variables::Variables;
@@ -22,6 +22,36 @@ fn passed_on(answer: Answer) -> Written
     match answer {
         Answer::Done => Written::Bytes(0),
         Answer::Refused(number, place) => Written::Refused(number, place),
+    }
+}
+
+// The diagram of a text that has a machine, with no byte written yet; or the refusal.
+struct Admitted {
+    answer: Written,
+    diagram: Diagram,
+}
+
+fn admit(text: &[u8]) -> Admitted
+    ensures { λ r. ⌜ Admission (now (text .entry)) r ⌝ }
+{
+    let o = reader::read(text);
+    let answer = o.answer;
+    let diagram = o.diagram;
+    let Answer::Done = answer else {
+        return Admitted {
+            answer: passed_on(answer),
+            diagram,
+        };
+    };
+    if profile::outside(diagram) {
+        return Admitted {
+            answer: Written::Refused(16, 0),
+            diagram,
+        };
+    }
+    Admitted {
+        answer: Written::Bytes(0),
+        diagram,
     }
 }
 
@@ -57,15 +87,12 @@ pub fn event(text: &[u8], event: u64, out: &mut [u8]) -> Written
     if out.len() < 65536 {
         return Written::Refused(1, 0);
     }
-    let o = reader::read(text);
-    let answer = o.answer;
-    let Answer::Done = answer else {
-        return passed_on(answer);
+    let a = admit(text);
+    let answer = a.answer;
+    let Written::Bytes(_) = answer else {
+        return answer;
     };
-    let d = o.diagram;
-    if profile::outside(d) {
-        return Written::Refused(16, 0);
-    }
+    let d = a.diagram;
     if (d.events as u64) <= event {
         return Written::Refused(14, 0);
     }
@@ -90,14 +117,11 @@ pub fn opening(text: &[u8], out: &mut [u8]) -> Written
     if out.len() < 65536 {
         return Written::Refused(1, 0);
     }
-    let o = reader::read(text);
-    let answer = o.answer;
-    let Answer::Done = answer else {
-        return passed_on(answer);
+    let a = admit(text);
+    let answer = a.answer;
+    let Written::Bytes(_) = answer else {
+        return answer;
     };
-    let d = o.diagram;
-    if profile::outside(d) {
-        return Written::Refused(16, 0);
-    }
+    let d = a.diagram;
     Written::Bytes(open(text, d, out))
 }

@@ -1,4 +1,5 @@
 ghost use mathlib.Core.Path.{_≡_};
+ghost use mathlib.Core.Bool.{cond};
 ghost use Prim.Native.Nat.{_+_, _<_};
 ghost use Rattle.output.specs.Buffer.{buffer, put-all};
 ghost use Rattle.formulas.specs.Formulas.{is as is-of};
@@ -11,14 +12,21 @@ pub struct Variables {
     pub resets: [u8; 32],
 }
 
+// The one or the other.
+pub fn one_of(first: bool, one: &[u8], other: &[u8], out: &mut [u8], at: usize) -> usize
+    ensures { λ r. ⌜ buffer r (now (out .exit)) ≡ put-all (cond first (now (one .entry)) (now (other .entry))) (buffer at (now (out .entry))) ⌝ }
+{
+    if first {
+        return output::bytes(out, at, one);
+    }
+    output::bytes(out, at, other)
+}
+
 // `r_` for a reset, and `v_`.
 fn mark(reset: u8, out: &mut [u8], at: usize) -> usize
     ensures { λ r. ⌜ buffer r (now (out .exit)) ≡ put-all (mark-of reset) (buffer at (now (out .entry))) ⌝ }
 {
-    if reset == 1 {
-        return output::bytes(out, at, b"r_");
-    }
-    output::bytes(out, at, b"v_")
+    one_of(reset == 1, b"r_", b"v_", out, at)
 }
 
 // The variable of event n.
@@ -33,10 +41,7 @@ pub fn name(text: &[u8], v: Variables, n: usize, out: &mut [u8], at: usize) -> u
 pub fn truth(value: bool, out: &mut [u8], at: usize) -> usize
     ensures { λ r. ⌜ buffer r (now (out .exit)) ≡ put-all (truth-of value) (buffer at (now (out .entry))) ⌝ }
 {
-    if value {
-        return output::bytes(out, at, b"TRUE");
-    }
-    output::bytes(out, at, b"FALSE")
+    one_of(value, b"TRUE", b"FALSE", out, at)
 }
 
 // The variable of event n has a value.
@@ -52,10 +57,7 @@ pub fn is(text: &[u8], v: Variables, n: usize, value: bool, out: &mut [u8], at: 
 pub fn connective(either: bool, out: &mut [u8], at: usize) -> usize
     ensures { λ r. ⌜ buffer r (now (out .exit)) ≡ put-all (connective-of either) (buffer at (now (out .entry))) ⌝ }
 {
-    if either {
-        return output::bytes(out, at, b" or ");
-    }
-    output::bytes(out, at, b" & ")
+    one_of(either, b" or ", b" & ", out, at)
 }
 
 // A formula of two up to its second: the variable of event n has a value.

@@ -1,8 +1,8 @@
 -- By what the text is.
-use mathlib.Core.Path.{refl, sym, _∙_}
+use mathlib.Core.Path.{refl}
 use native.Mathlib.Omega.{arith}
 use Rattle.machines.specs.Answers.{short}
-use Rattle.machines.proofs.Answers.{refused-answer, outside-answer, drawn, opening-answer}
+use Rattle.machines.proofs.Answers.{drawn-by, turned-away, opening-answer}
 use borrow.Author.Needs.{needs}
 use Rattle.machines.proofs.eventb.opening.Statement.{statement}
 use Rattle.machines.proofs.eventb.opening.Tie as tie
@@ -12,36 +12,26 @@ returns c = short (omega (arith, c .if1 .taken)) refl refl
 
 returns-2 : tie.Need-returns-2
 returns-2 c =
-    let a = c .before .before .before .before .before .before .before .args in
-    let r = c .before .before .before .read in
-    let k = c .before .enum-told2 .given in
-    refused-answer (a .text .now) (r .result) (r .ensures) (a .out .now) (a .out .now) (omega (arith, c .before .before .before .before .if1 .left)) _ _ (k .0 .0) (k .0 .1 .0) (k .1)
-    (c .passed-on .ensures) refl
-
-returns-3 : tie.Need-returns-3
-returns-3 c =
-    let a = c .before .before .before .before .before .before .before .before .before .args in
-    let r = c .before .before .before .before .before .read in
-    outside-answer (a .text .now) (r .result) (r .ensures) (a .out .now) (a .out .now) (omega (arith, c .before .before .before .before .before .before .if1 .left)) (c .before .before .before .enum-told .given .1) _
-    (sym (c .if2 .taken) ∙ c .before .outside .ensures) refl
+    let s = c .before .before .before .before .before .before .args in
+    let a = c .before .before .admit in
+    let k = c .enum-told2 .given in
+    turned-away (s .text .now) (s .out .now) (s .out .now) (omega (arith, c .before .before .before .if1 .left)) _ (a .result) (k .0 .0) (k .0 .1 .0) (a .ensures) (k .1) refl
 
 open-requires : tie.Need-open-requires
 open-requires c κs =
-    let a = c .before .before .before .before .before .before .before .before .before .before .args in
-    let r = c .before .before .before .before .before .before .read in
-    drawn (a .text .now) (r .result) (r .ensures) (a .out .now) (a .out .now) (omega (arith, c .before .before .before .before .before .before .before .if1 .left)) (c .before .before .before .before .enum-told .given .1)
-    (sym (c .before .if2 .left) ∙ c .before .before .outside .ensures)
+    let s = c .before .before .before .before .before .before .before .before .args in
+    let a = c .before .before .before .before .admit in
+    drawn-by (s .text .now) (a .result) _ (a .ensures) (c .before .before .enum-told .given .1)
 
-returns-4 : tie.Need-returns-4
-returns-4 c =
-    let a = c .before .before .before .before .before .before .before .before .before .before .before .before .before .args in
-    let r = c .before .before .before .before .before .before .before .before .before .read in
+returns-3 : tie.Need-returns-3
+returns-3 c =
+    let s = c .before .before .before .before .before .before .before .before .before .before .before .args in
+    let a = c .before .before .before .before .before .before .before .admit in
     let w = c .before .before .«open» in
-    opening-answer (a .text .now) (r .result) (r .ensures) (a .out .now) _ (omega (arith, c .before .before .before .before .before .before .before .before .before .before .if1 .left)) (c .before .before .before .before .before .before .before .enum-told .given .1)
-    (sym (c .before .before .before .before .if2 .left) ∙ c .before .before .before .before .before .outside .ensures) (w .result) (w .ensures)
+    let k = drawn-by (s .text .now) (a .result) _ (a .ensures) (c .before .before .before .before .before .enum-told .given .1) in
+    opening-answer (s .text .now) (s .out .now) _ (omega (arith, c .before .before .before .before .before .before .before .before .if1 .left)) _ k (w .result) (w .ensures)
 
 pub opening-spec : {M : Type 1} → statement M
 opening-spec =
     tie.close
-    (tie.spec returns (λ c κs. search needs) (λ c. search needs) (λ c. search needs) (λ c κs. search needs) returns-2 (λ c κs. search needs) returns-3 open-requires
-    (λ c. search needs) returns-4)
+    (tie.spec returns (λ c κs. search needs) (λ c. search needs) (λ c. search needs) returns-2 open-requires (λ c. search needs) returns-3)
