@@ -17,12 +17,14 @@ uint64_t adl_test_translate(const uint8_t *text, size_t len, uint8_t *out, size_
 uint64_t adl_test_list(const uint8_t *text, size_t len, uint8_t *out, size_t out_len);
 uint64_t adl_test_name(const uint8_t *text, size_t len, uint64_t event, uint8_t *out, size_t out_len);
 uint64_t adl_test_values(const uint8_t *text, size_t len, uint64_t event);
+uint64_t adl_test_eventb(const uint8_t *text, size_t len, uint64_t event, uint8_t *out, size_t out_len);
 
 enum { MOST_STACK = 16384 };
 
 /* What the calls are given. */
-static uint8_t text[16384], lines[32768], record[ADL_RECORD_BYTES], offered[ADL_OFFER_BYTES];
+static uint8_t text[16384], lines[32768], event_text[65536], record[ADL_RECORD_BYTES], offered[ADL_OFFER_BYTES];
 static size_t length;
+static uint64_t event; /* of which the text is written */
 static struct table table;
 
 /* Calls. */
@@ -32,6 +34,7 @@ static void print_text(void) { adl_test_print(text, length, lines, sizeof lines)
 static void list_text(void) { adl_test_list(text, length, lines, sizeof lines); }
 static void name_event(void) { adl_test_name(text, length, 0, lines, sizeof lines); }
 static void values_of_event(void) { adl_test_values(text, length, 0); }
+static void write_event(void) { adl_test_eventb(text, length, event, event_text, sizeof event_text); }
 static void check(void) { adl_check(table.bytes, table.length); }
 static void finished(void) { adl_finished(table.bytes, table.length, record, sizeof record); }
 
@@ -99,6 +102,19 @@ static size_t copies(char *at) {
     return (size_t)(at - start);
 }
 
+/* The drawing of this title among the ratios, with shorter names and no blanks: as many events as a machine may have, to depth 12. */
+static size_t deep_ors(char *at) {
+    char *start = at;
+    at += sprintf(at, "flow(r,1)(or(flow(a,1)(xor(flow(b,1)(or(flow(c,1)(or(flow(d,1)(or(flow(e,1)(");
+    for (int i = 0; i < 16; i++) at += sprintf(at, "leaf(l%d)(%d)", i, i == 0);
+    at += sprintf(at, ")leaf(l16)leaf(l17))(0)loop(leaf(l18))(0)leaf(l19)(1)");
+    at += sprintf(at, ")leaf(l20)leaf(l21))(0)loop(leaf(l22))(0)leaf(l23)(1)");
+    at += sprintf(at, ")leaf(l24)leaf(l25))(0)leaf(l26)(1)");
+    at += sprintf(at, ")leaf(l27)leaf(l28))(0)leaf(l29)(1)");
+    at += sprintf(at, ")leaf(l30))(0)leaf(l31)(1))");
+    return (size_t)(at - start);
+}
+
 /* The largest table: every fourth event is a reset of all before it, kinds in turn. */
 static void full_table(void) {
     table_start(&table, ADL_MOST_EVENTS, ADL_MOST_ROWS);
@@ -126,12 +142,24 @@ static void print_calls(const struct call *calls, int count, size_t *most) {
     }
 }
 
+/* What the deepest of the drawing's events needs. The first number turned away is the one past them, or 0 if there is no machine. */
+static void print_eventb(void) {
+    size_t deepest = 0;
+    for (event = 0; adl_test_eventb(text, length, event, event_text, sizeof event_text) >> 32 == 0; event++) {
+        size_t bytes = stack_of(write_event);
+        if (bytes > deepest) deepest = bytes;
+    }
+    if (event == 0) printf(" %9s", "-");
+    else printf(" %9zu", deepest);
+}
+
 static void print_drawing(const char *title, size_t (*drawing)(char *), size_t *most) {
     size_t any = 0;
     length = drawing((char *)text);
     if (adl_test_read(text, length) >> 32) exit(1);
     printf("%-20s", title);
     print_calls(text_calls, TEXT_CALLS, &any);
+    print_eventb();
     print_calls(table_calls, TABLE_CALLS, most);
     printf("\n");
 }
@@ -139,6 +167,7 @@ static void print_drawing(const char *title, size_t (*drawing)(char *), size_t *
 static void print_head(void) {
     printf("3. Stack: bytes that one proved call takes below its caller\n\n%-20s", "input");
     for (int i = 0; i < TEXT_CALLS; i++) printf(" %9s", text_calls[i].title);
+    printf(" %9s", "eventb");
     for (int i = 0; i < TABLE_CALLS; i++) printf(" %9s", table_calls[i].title);
     printf("\n");
 }
@@ -151,10 +180,12 @@ int main(void) {
     print_drawing("255 leaves", leaves, &most);
     print_drawing("eleven nested flows", nested, &most);
     print_drawing("768 copies", copies, &most);
+    print_drawing("32 events, deep ors", deep_ors, &most);
     full_table();
-    printf("%-20s%*s", "12,288 rows", 10 * TEXT_CALLS, "");
+    printf("%-20s%*s", "12,288 rows", 10 * (TEXT_CALLS + 1), "");
     print_calls(table_calls, TABLE_CALLS, &most);
     printf("\n\nThe last four are the C calls of libfirmware.a: %s %d. List has the 32,768 bytes of the harness's own buffer in it.\n",
            most <= MOST_STACK ? "within" : "OVER", MOST_STACK);
+    printf("Eventb is that of the deepest event; - for a drawing that has no machine: with a replicator, or more than 32 events.\n");
     return most > MOST_STACK;
 }

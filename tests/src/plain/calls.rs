@@ -64,7 +64,8 @@ pub const RUST: Calls = Calls {
     finished: table::finished,
 };
 
-/// Event-B text is not timed and not written in C: there it is that of Rust.
+/// Event-B text is not written in C: there it is that of Rust, so the benchmark
+/// times only the proved one and that of Rust.
 pub const C: Calls = Calls {
     title: "plain C",
     read: c::read,

@@ -1,16 +1,17 @@
 //! How the time of each call grows with one thing at a time.
 
 use crate::input::{Input, Kinds};
-use crate::race::{run, Call, Effort, Race, RUNNERS, TABLE_CALLS, TEXT_CALLS};
+use crate::race::{run, Call, Effort, Race, MACHINE_CALLS, TABLE_CALLS, TEXT_CALLS};
 use reference::generate::{many_copies, pad_between, root, root_with_leaves};
 
-/// Inputs that differ in one thing; the calls on texts take the texts, those on
-/// tables the tables.
+/// Inputs that differ in one thing; the calls on texts take the texts, the one
+/// that writes Event-B text takes the machines, those on tables the tables.
 struct Series {
     title: &'static str,
     unit: &'static str,
     sizes: Vec<usize>,
     texts: Vec<Input>,
+    machines: Vec<Input>,
     tables: Vec<Input>,
 }
 
@@ -25,7 +26,7 @@ The same input comes again and again, and the processor learns the small ones: w
 Best of {} rounds each. Buffers are not cleared.",
         effort.passes * effort.rounds
     );
-    let all = [nodes(), nodes_and_bytes(), copies(), events(), bytes(), rows(), table_events()];
+    let all = [nodes(), nodes_and_bytes(), copies(), events(), bytes(), machine_events(), rows(), table_events()];
     let mut lines: Vec<Vec<Line>> = all.iter().map(lines_of).collect();
     run(lines.iter_mut().flatten().flat_map(|line| &mut line.races), effort);
     all.iter().zip(&lines).for_each(|(series, lines)| show_series(series, lines));
@@ -76,19 +77,33 @@ fn chains(nodes: usize, length: usize) -> String {
 fn bytes() -> Series {
     let sizes = vec![1024, 2048, 4096, 8192, 16_384];
     let texts = sizes.iter().map(|&length| padded(&root_with_leaves(64), length)).collect();
-    Series { title: "blanks between the tokens of 64 leaves", unit: "bytes", sizes, texts, tables: Vec::new() }
+    Series { title: "blanks between the tokens of 64 leaves", unit: "bytes", sizes, texts, ..empty() }
+}
+
+/// The last event's guards say of the `or` before it that no member is halfway.
+fn machine_events() -> Series {
+    let sizes = vec![4, 8, 16, 32];
+    let machines = sizes.iter().map(|&events| padded(&flow_in_or(events), 512)).collect();
+    let title = "a flow of leaves in an or, and a leaf after it; 512 bytes; nodes and copies grow along";
+    Series { title, unit: "events", sizes, machines, ..empty() }
+}
+
+fn flow_in_or(events: usize) -> String {
+    let leaf = |leaf: usize| format!("leaf(l{leaf})({})", usize::from(leaf == 0));
+    let leaves: String = (0..events - 2).map(leaf).collect();
+    root(&format!("or(flow(f,1)({leaves})leaf(m))(0)leaf(z)(1)"))
 }
 
 fn rows() -> Series {
     let sizes: Vec<usize> = (0..7).map(|doubled| 192 << doubled).collect();
     let tables = sizes.iter().map(|&rows| Input::made_table("made", 64, rows, Kinds::InTurn)).collect();
-    Series { title: "made tables of 64 events", unit: "rows", sizes, texts: Vec::new(), tables }
+    Series { title: "made tables of 64 events", unit: "rows", sizes, tables, ..empty() }
 }
 
 fn table_events() -> Series {
     let sizes: Vec<usize> = (0..6).map(|doubled| 16 << doubled).collect();
     let tables = sizes.iter().map(|&events| Input::made_table("made", events, 1536, Kinds::InTurn)).collect();
-    Series { title: "made tables of 1,536 rows", unit: "events", sizes, texts: Vec::new(), tables }
+    Series { title: "made tables of 1,536 rows", unit: "events", sizes, tables, ..empty() }
 }
 
 fn padded(text: &str, length: usize) -> Input {
@@ -98,7 +113,11 @@ fn padded(text: &str, length: usize) -> Input {
 fn drawings(title: &'static str, unit: &'static str, texts: Vec<Input>, size: fn(&Input) -> usize) -> Series {
     let sizes = texts.iter().map(size).collect();
     let tables = texts.iter().map(Input::table_of).collect();
-    Series { title, unit, sizes, texts, tables }
+    Series { title, unit, sizes, texts, tables, ..empty() }
+}
+
+fn empty() -> Series {
+    Series { title: "", unit: "", sizes: Vec::new(), texts: Vec::new(), machines: Vec::new(), tables: Vec::new() }
 }
 
 // ---------------------------------------------------------------------------
@@ -113,7 +132,8 @@ struct Line<'s> {
 
 fn lines_of(series: &Series) -> Vec<Line<'_>> {
     let mut lines = Vec::new();
-    for (calls, inputs) in [(&TEXT_CALLS[..], &series.texts), (&TABLE_CALLS[..], &series.tables)] {
+    let Series { texts, machines, tables, .. } = series;
+    for (calls, inputs) in [(&TEXT_CALLS[..], texts), (&MACHINE_CALLS, machines), (&TABLE_CALLS, tables)] {
         let races = |call| inputs.iter().map(|input| Race::new(call, input, false)).collect();
         lines.extend(calls.iter().map(|&call| Line { call, races: races(call) }));
     }
@@ -129,7 +149,7 @@ fn show_series(series: &Series, lines: &[Line]) {
 }
 
 fn show_line(line: &Line, sizes: &[usize]) {
-    for (at, runner) in RUNNERS.iter().enumerate() {
+    for (at, runner) in line.call.runners().iter().enumerate() {
         let point = |(&size, race): (&usize, &Race)| Point { size: size as f64, time: race.best[at] };
         let points: Vec<Point> = sizes.iter().zip(&line.races).map(point).collect();
         let title = if at == 0 { line.call.title() } else { "" };

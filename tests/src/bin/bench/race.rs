@@ -1,6 +1,8 @@
 //! One call on one input, by the proved library, Rust and plain C in turn.
 
 use crate::input::{events_of, rows_of, Input, Record};
+use reference::eventb::text::read_event;
+use reference::eventb::{drawing_of, event_fault, EVENTB_LIMIT};
 use reference::listing::LISTING_LIMIT;
 use reference::plain::calls::{Calls, C, PROVED, RUST};
 use reference::plain::TABLE_LIMIT;
@@ -9,7 +11,7 @@ use reference::{TEXT_LIMIT, WORD_LIMIT};
 use std::hint::black_box;
 use std::time::{Duration, Instant};
 
-pub const RUNNERS: [&Calls; 3] = [&PROVED, &RUST, &C];
+static RUNNERS: [&Calls; 3] = [&PROVED, &RUST, &C];
 
 #[derive(Clone, Copy, PartialEq)]
 pub enum Call {
@@ -19,6 +21,7 @@ pub enum Call {
     List,
     Name,
     Values,
+    Eventb,
     Check,
     Step,
     Offer,
@@ -26,6 +29,8 @@ pub enum Call {
 }
 
 pub const TEXT_CALLS: [Call; 6] = [Call::Read, Call::Print, Call::Translate, Call::List, Call::Name, Call::Values];
+/// Only for drawings that have a machine.
+pub const MACHINE_CALLS: [Call; 1] = [Call::Eventb];
 pub const TABLE_CALLS: [Call; 4] = [Call::Check, Call::Step, Call::Offer, Call::Finished];
 
 impl Call {
@@ -37,6 +42,7 @@ impl Call {
             Call::List => "list",
             Call::Name => "name",
             Call::Values => "values",
+            Call::Eventb => "eventb",
             Call::Check => "check",
             Call::Step => "step",
             Call::Offer => "offer",
@@ -51,13 +57,24 @@ impl Call {
             Call::Translate => TABLE_LIMIT,
             Call::List => LISTING_LIMIT,
             Call::Name => WORD_LIMIT,
+            Call::Eventb => EVENTB_LIMIT,
             Call::Offer => RECORD_BYTES,
             _ => 0,
         }
     }
+
+    /// Those that have the call: Event-B text is not written in C, and to time
+    /// Rust twice would say nothing.
+    pub fn runners(self) -> &'static [&'static Calls] {
+        match self {
+            Call::Eventb => &RUNNERS[..2],
+            _ => &RUNNERS,
+        }
+    }
 }
 
-/// What the calls write to, the same for all: a lent buffer and a record.
+/// What the calls write to, the same for all: a lent buffer, as long as the
+/// longest that a call needs, and a record.
 #[derive(Clone, PartialEq)]
 struct Sheet {
     buffer: Vec<u8>,
@@ -66,11 +83,11 @@ struct Sheet {
 
 impl Sheet {
     fn new() -> Sheet {
-        Sheet { buffer: vec![0; TABLE_LIMIT], record: [0; RECORD_BYTES] }
+        Sheet { buffer: vec![0; EVENTB_LIMIT], record: [0; RECORD_BYTES] }
     }
 }
 
-/// One call of one of the three, which tells its answer.
+/// One call of one of the runners, which tells its answer.
 type Turn<'i> = Box<dyn Fn(&mut Sheet) -> u64 + 'i>;
 
 /// With `cleared` the buffer is cleared before each call, which is timed too.
@@ -96,6 +113,7 @@ fn turn_of<'i>(calls: &'static Calls, call: Call, input: &'i Input) -> Turn<'i> 
         Call::List => Box::new(move |sheet| (calls.list)(black_box(bytes), &mut sheet.buffer[..length])),
         Call::Name => Box::new(move |sheet| (calls.name)(black_box(bytes), *event, &mut sheet.buffer[..length])),
         Call::Values => Box::new(|_| (calls.values)(black_box(bytes), *event)),
+        Call::Eventb => Box::new(move |sheet| (calls.eventb)(black_box(bytes), *event, &mut sheet.buffer[..length])),
         Call::Check => Box::new(|_| (calls.check)(black_box(bytes)).into()),
         Call::Step => Box::new(|sheet| {
             sheet.record = *record;
@@ -128,25 +146,26 @@ pub struct Race<'i> {
     pub call: Call,
     pub input: &'i Input,
     pub cleared: bool,
-    /// Nanoseconds for one call, the best so far, in the order of RUNNERS.
-    pub best: [f64; 3],
-    turns: [Turn<'i>; 3],
-    /// How many calls fill a round.
-    calls: [u32; 3],
+    /// Nanoseconds for one call, the best so far, in the order of the runners.
+    pub best: Vec<f64>,
+    turns: Vec<Turn<'i>>,
+    /// How many calls fill a round; none before the first pass.
+    calls: Vec<u32>,
     rounds: usize,
 }
 
 impl<'i> Race<'i> {
     pub fn new(call: Call, input: &'i Input, cleared: bool) -> Race<'i> {
-        let turns = RUNNERS.map(|calls| turn(calls, call, input, cleared));
+        let turns: Vec<Turn> = call.runners().iter().map(|calls| turn(calls, call, input, cleared)).collect();
         assert_agreement(call, input, &turns);
-        Race { call, input, cleared, best: [f64::INFINITY; 3], turns, calls: [0; 3], rounds: 0 }
+        Race { call, input, cleared, best: vec![f64::INFINITY; turns.len()], turns, calls: Vec::new(), rounds: 0 }
     }
 
     fn pass(&mut self, effort: Effort) {
         let mut sheet = Sheet::new();
-        if self.calls[0] == 0 {
-            self.calls = self.turns.each_ref().map(|turn| calls_per_round(turn, &mut sheet, effort.round_time));
+        if self.calls.is_empty() {
+            let calls = self.turns.iter().map(|turn| calls_per_round(turn, &mut sheet, effort.round_time));
+            self.calls = calls.collect();
         }
         for _ in 0..effort.rounds {
             for (at, turn) in self.turns.iter().enumerate() {
@@ -166,22 +185,37 @@ pub fn run<'r, 'i: 'r>(races: impl IntoIterator<Item = &'r mut Race<'i>>, effort
     }
 }
 
-/// All three do the same job: answers and written bytes are the same, but for
-/// the rows of a translation, which are each one's own choice.
-fn assert_agreement(call: Call, input: &Input, turns: &[Turn; 3]) {
-    let answers = turns.each_ref().map(|turn| {
+/// All do the same job: answers and written bytes are the same, but for the rows
+/// of a translation and the guards of an event, which are each one's own choice.
+fn assert_agreement(call: Call, input: &Input, turns: &[Turn]) {
+    let answer = |turn: &Turn| {
         let mut sheet = Sheet::new();
         (turn(&mut sheet), sheet)
-    });
-    let is_table = |(length, sheet): &(u64, Sheet)| {
-        let table = &sheet.buffer[..*length as usize];
-        table::check(table) == table::SOUND && events_of(table) == input.events
     };
+    let answers: Vec<(u64, Sheet)> = turns.iter().map(answer).collect();
     let agreed = match call {
-        Call::Translate => answers.iter().all(is_table),
-        _ => answers[0] == answers[1] && answers[0] == answers[2],
+        Call::Translate => answers.iter().all(|(length, sheet)| is_table(input, written(*length, sheet))),
+        Call::Eventb => answers.iter().all(|(length, sheet)| is_event(input, written(*length, sheet))),
+        _ => answers.iter().all(|answer| *answer == answers[0]),
     };
     assert!(agreed, "{} of {}: they differ", call.title(), input.title);
+}
+
+/// As many bytes as the answer says; none if it is no length but a refusal.
+fn written(answer: u64, sheet: &Sheet) -> &[u8] {
+    sheet.buffer.get(..answer as usize).unwrap_or(&[])
+}
+
+fn is_table(input: &Input, bytes: &[u8]) -> bool {
+    table::check(bytes) == table::SOUND && events_of(bytes) == input.events
+}
+
+/// A text of the event that was asked for, which does what it should do.
+fn is_event(input: &Input, bytes: &[u8]) -> bool {
+    match (drawing_of(&input.bytes), read_event(bytes)) {
+        (Ok(diagram), Ok(event)) => event_fault(&diagram, input.event as usize, &event).is_none(),
+        _ => false,
+    }
 }
 
 /// The rows that each translation gives a text.
@@ -191,6 +225,12 @@ pub fn rows(text: &Input) -> [usize; 3] {
         turn_of(calls, Call::Translate, text)(&mut sheet);
         rows_of(&sheet.buffer)
     })
+}
+
+/// How many bytes each that has the call writes for an event.
+pub fn lengths(text: &Input) -> Vec<u64> {
+    let runners = Call::Eventb.runners().iter();
+    runners.map(|calls| turn_of(calls, Call::Eventb, text)(&mut Sheet::new())).collect()
 }
 
 /// Times from another place of the stack in each round. The place changes some

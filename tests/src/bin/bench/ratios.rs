@@ -1,16 +1,21 @@
 //! The table of ratios: each call on each input.
 
 use crate::input::{Input, Kinds};
-use crate::race::{rows, run, Call, Effort, Race, TABLE_CALLS, TEXT_CALLS};
+use crate::race::{lengths, rows, run, Call, Effort, Race, MACHINE_CALLS, TABLE_CALLS, TEXT_CALLS};
+use reference::drawings::{machine_text, Machine};
+use reference::eventb::MACHINE_EVENTS;
 use reference::generate::{
-    every_constructor, longest_drawing, many_copies, many_events, nested_flows, pad_between, root_with_leaves, T,
+    every_constructor, longest_drawing, many_copies, many_events, nested_flows, pad_between, root_with_leaves, Random,
+    T,
 };
 use reference::TEXT_LIMIT;
 
 pub fn show(effort: Effort) {
     let texts = texts();
+    let machines = machines();
     let tables = tables(&texts);
     let mut races: Vec<Race> = TEXT_CALLS.iter().flat_map(|call| races_of(*call, &texts)).collect();
+    races.extend(MACHINE_CALLS.iter().flat_map(|call| races_of(*call, &machines)));
     races.extend(TABLE_CALLS.iter().flat_map(|call| races_of(*call, &tables)));
     run(&mut races, effort);
     println!("1. Ratios: the time of one proved call divided by that of the same call in Rust, and in plain C");
@@ -22,6 +27,7 @@ pub fn show(effort: Effort) {
     show_spans(&races);
     show_notes(effort);
     show_rows(&texts);
+    show_lengths(&machines);
 }
 
 /// Each input with the buffer as the call before left it, and the largest
@@ -29,13 +35,14 @@ pub fn show(effort: Effort) {
 fn races_of(call: Call, inputs: &[Input]) -> Vec<Race<'_>> {
     let mut races: Vec<Race> = inputs.iter().map(|input| Race::new(call, input, false)).collect();
     if call.buffer_length() > 0 {
-        let largest = inputs.iter().filter(|input| input.title == LARGEST);
+        let largest = inputs.iter().filter(|input| [LARGEST, LARGEST_MACHINE].contains(&&*input.title));
         races.extend(largest.map(|input| Race::new(call, input, true)));
     }
     races
 }
 
 const LARGEST: &str = "768 copies";
+const LARGEST_MACHINE: &str = "32 events, deep ors";
 
 fn texts() -> Vec<Input> {
     vec![
@@ -49,6 +56,14 @@ fn texts() -> Vec<Input> {
         Input::text("16,384 bytes, 255 leaves", pad_between(root_with_leaves(255).as_bytes(), TEXT_LIMIT)),
         Input::text("16,384 bytes, 768 copies", pad_between(many_copies(8).as_bytes(), TEXT_LIMIT)),
     ]
+}
+
+/// Drawings that have a machine. The second is at its limit: down to depth 12
+/// one constructor is in the other, and the last event has the longest text, as
+/// it is to say when all of them are complete.
+fn machines() -> Vec<Input> {
+    let nested = machine_text(Machine::Nested(MACHINE_EVENTS), &mut Random::new(1));
+    vec![Input::text("T", T), Input::text(LARGEST_MACHINE, nested)]
 }
 
 /// Those of the drawings, but for blanks, which no table shows; and made ones.
@@ -67,18 +82,27 @@ fn tables(texts: &[Input]) -> Vec<Input> {
 
 fn show_race(race: &Race) {
     let Input { title, bytes, nodes, copies, events, rows, .. } = race.input;
-    let [proved, rust, c] = race.best;
+    let proved = race.best[0];
     let known = |size: &Option<usize>| size.map_or("-".to_string(), |size| size.to_string());
     println!(
-        "{:<10} {title:<28} {:>6} {:>6} {:>6} {events:>6} {rows:>6} {proved:>11.0} {:>7.2} {:>10.2}  {}",
+        "{:<10} {title:<28} {:>6} {:>6} {:>6} {events:>6} {rows:>6} {proved:>11.0} {:>7} {:>10}  {}",
         race.call.title(),
         bytes.len(),
         known(nodes),
         known(copies),
-        proved / rust,
-        proved / c,
+        shown_ratio(race, 1),
+        shown_ratio(race, 2),
         buffer(race)
     );
+}
+
+/// None where the other does not have the call.
+fn ratio(race: &Race, other: usize) -> Option<f64> {
+    race.best.get(other).map(|time| race.best[0] / time)
+}
+
+fn shown_ratio(race: &Race, other: usize) -> String {
+    ratio(race, other).map_or("-".to_string(), |ratio| format!("{ratio:.2}"))
 }
 
 fn buffer(race: &Race) -> &'static str {
@@ -90,16 +114,19 @@ fn buffer(race: &Race) -> &'static str {
     }
 }
 
-/// The least and the greatest ratio of each call.
 fn show_spans(races: &[Race]) {
     println!("\nFrom the least to the greatest ratio");
-    for call in TEXT_CALLS.iter().chain(&TABLE_CALLS) {
-        let span = |other: usize| {
-            let ratios = races.iter().filter(|race| race.call == *call).map(|race| race.best[0] / race.best[other]);
-            let (least, greatest) = ratios.fold((f64::INFINITY, 0.0), |(a, b), ratio| (ratio.min(a), ratio.max(b)));
-            format!("{least:>5.2} to {greatest:>5.2}")
-        };
-        println!("{:<10} {} of Rust, {} of plain C", call.title(), span(1), span(2));
+    for call in TEXT_CALLS.iter().chain(&MACHINE_CALLS).chain(&TABLE_CALLS) {
+        println!("{:<10} {} of Rust, {} of plain C", call.title(), span(races, *call, 1), span(races, *call, 2));
+    }
+}
+
+/// The least and the greatest ratio of a call.
+fn span(races: &[Race], call: Call, other: usize) -> String {
+    let ratios = races.iter().filter(|race| race.call == call).filter_map(|race| ratio(race, other));
+    match ratios.fold((f64::INFINITY, 0.0), |(a, b), ratio| (ratio.min(a), ratio.max(b))) {
+        (f64::INFINITY, _) => format!("{:>14}", "-"),
+        (least, greatest) => format!("{least:>5.2} to {greatest:>5.2}"),
     }
 }
 
@@ -110,11 +137,13 @@ All of one run, on the same input; best of {} rounds each, which take turns. A r
 is faster. Times are for information: they are those of this machine.
 Rust: reading and the table calls are the reference's (tests/src/lib.rs, table.rs); the others are plain Rust after the
 reference's reader that writes to the lent buffer (plain.rs, plain_listing.rs). Plain C: tests/c/plain*.c, gcc -O3.
-Buffer: whether the lent buffer is cleared before each call, within the time of all three, or is as the call before left
-it. A step finds the same record at each call: setting its 64 bytes is within the time of all three.
-Name and values are asked for the last event. Tables of drawings are the proved translation's, with a record from the
-middle of a run, and the step's event is one that is taken there. Bytes are those of the text, for the last four calls
-those of the table.",
+Eventb is the Event-B text of an event. In Rust it is written to strings, after the reference's meaning of the drawing,
+and then copied to the lent buffer (plain_eventb.rs): plainly, and not made to be fast. In C it is not written: -.
+Buffer: whether the lent buffer is cleared before each call, within the time of all that are timed, or is as the call
+before left it. A step finds the same record at each call: setting its 64 bytes is within the time of all three.
+Name, values and eventb are asked for the last event. Tables of drawings are the proved translation's, with a record
+from the middle of a run, and the step's event is one that is taken there. Bytes are those of the text, for the last
+four calls those of the table.",
         effort.passes * effort.rounds
     );
 }
@@ -124,5 +153,13 @@ fn show_rows(texts: &[Input]) {
     for text in texts {
         let [proved, rust, c] = rows(text);
         println!("    {:<50} {proved:>9} {rust:>7} {c:>7}", text.title);
+    }
+}
+
+fn show_lengths(machines: &[Input]) {
+    println!("\nBytes of the event's text, whose guards are each writer's own choice: {:>7} {:>7}", "proved", "Rust");
+    for text in machines {
+        let shown: String = lengths(text).iter().map(|length| format!(" {length:>7}")).collect();
+        println!("    {:<65}{shown}", text.title);
     }
 }
