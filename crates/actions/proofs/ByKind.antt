@@ -1,7 +1,7 @@
 -- The lines of each kind are those of the machine's text.
 use mathlib.Core.Path.{_≡_, refl, ap, ap₂, sym, _∙_}
-use mathlib.Core.Bool.{Bool, true, false}
-use mathlib.Core.List.{List, [], _∷_, _++_, append-assoc}
+use mathlib.Core.Bool.{true, false}
+use mathlib.Core.List.{List, _∷_, _++_, append-assoc}
 use Prim.Native.Nat.{ℕ, zero, suc, _+_, _-_, _≤_, _<_}
 use native.Mathlib.Numerals.{add-one}
 use native.Mathlib.Omega.{arith}
@@ -9,7 +9,7 @@ use Rattle.base.specs.Text.{bytes}
 use Rattle.output.specs.Decimal.{decimal}
 use Rattle.output.specs.Buffer.{Buffer, put-all}
 use Rattle.output.proofs.Buffers.{put-all-append}
-use Rattle.formulas.specs.Lines.{Naming, labelled, truth, action, action-lines}
+use Rattle.formulas.specs.Lines.{Naming, labelled, action, action-lines}
 use Rattle.formulas.specs.Actions.{becomes}
 use Rattle.formulas.specs.Opening.{variable-lines, invariant-lines, cleared-all, opening-lines}
 use Rattle.actions.specs.code.Written.{line, lines, declarations}

@@ -1,24 +1,23 @@
 -- The text of what is asked of a joint is that of its parts, with what stands before, between and after them.
 use mathlib.Core.Path.{_≡_, refl, sym, ap, _∙_}
 use mathlib.Core.Bool.{Bool, true, false, not, _&&_, cond, true≢false}
-use mathlib.Core.List.{List, [], _∷_, _++_, append-assoc, append-nil}
-use Prim.Native.Nat.{ℕ, _+_, _-_, _≤_, _<_}
+use mathlib.Core.List.{List, [], _++_, append-assoc, append-nil}
+use Prim.Native.Nat.{ℕ, _+_, _-_}
 use native.Mathlib.Omega.{arith}
 use lib.Dec.{eqb}
 use lib.ListN.{length}
 use Rattle.base.specs.Text.{bytes}
-use Rattle.base.proofs.Truth.{clash}
-use Rattle.process.specs.Process.{Joint, seq, and, or, xor, Process, event, join, again, rounds, events}
-use Rattle.process.proofs.Numbered.{size, Numbered, size-events}
+use Rattle.process.specs.Process.{Joint, seq, and, or, xor, Process, join, events}
+use Rattle.process.proofs.Numbered.{Numbered, size-events}
 use Rattle.process.proofs.Cleared.{first-lowest}
 use Rattle.postfix.specs.Postfix.{postfix, joint-code}
 use Rattle.parts.specs.code.Cuts.{event-count}
 use Rattle.parts.proofs.Cut.{count-is}
-use Rattle.formulas.specs.Formulas.{Formula, both, either}
+use Rattle.formulas.specs.Formulas.{Formula}
 use Rattle.formulas.specs.Lines.{Naming, formula}
 use Rattle.formulas.specs.Conditions.{begun-when, idle-when, Condition, always, when, meet, choice, complete-when, settled-when}
 use Rattle.variables.specs.code.Spelled.{connective, over}
-use Rattle.conditions.specs.code.Asked.{absent, wanted, condition, of-parts, form, shape-by, shape-of, before-parts, opening, between, after-parts, closing}
+use Rattle.conditions.specs.code.Asked.{absent, wanted, condition, of-parts, shape-by, shape-of, before-parts, opening, between, after-parts, closing}
 use Rattle.conditions.specs.declared.Shape.{Shape}
 
 -- ---- the variables of a process

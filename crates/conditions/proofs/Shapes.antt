@@ -1,5 +1,5 @@
 -- How the condition on a joint is put, as the code finds it.
-use mathlib.Core.Path.{_≡_, refl, ap, _∙_}
+use mathlib.Core.Path.{_≡_}
 use mathlib.Core.Bool.{Bool, true, false, not, _&&_}
 use mathlib.Core.List.{List}
 use Prim.Native.Nat.{ℕ, _-_, _≤_}
@@ -8,10 +8,10 @@ use lib.Dec.{eqb}
 use lib.ListN.{length, getD, take, drop, length-take}
 use borrow.Author.Tests.{eq-eqb, ne-eqb}
 use Rattle.process.specs.Process.{Joint, Process, join}
-use Rattle.postfix.specs.Postfix.{postfix, joint-code}
+use Rattle.postfix.specs.Postfix.{postfix}
 use Rattle.parts.specs.code.Cuts.{second-begins, event-count}
 use Rattle.parts.proofs.Ends.{last-is, second-at, first-part, second-part}
-use Rattle.conditions.specs.code.Asked.{absent, wanted, of-parts, form, shape-by, shape-of, Inside}
+use Rattle.conditions.specs.code.Asked.{absent, wanted, of-parts, form, shape-of, Inside}
 use Rattle.conditions.specs.declared.Shape.{Shape}
 
 module _ (code : ℕ) (settled lack : Bool) where

@@ -1,5 +1,4 @@
 -- A listing has at most 32,768 bytes: at most 22 for the first line, and 44 for each of at most 512 events.
-use mathlib.Core.Path.{_≡_}
 use mathlib.Core.Bool.{Bool, true, false}
 use mathlib.Core.List.{List, [], _∷_}
 use Prim.Native.Nat.{ℕ, suc, _+_, _*_, _≤_, _<_}

@@ -1,6 +1,6 @@
 -- The text of an event, line by line. Card 2 of document 02: "The lines are `event` and the name, `where`, guards `@grd_1 ..` counted on, `then`, actions `@act_1 ..`
 -- as `v_fill := TRUE`, and `end`, each ended by byte 10."
-use mathlib.Core.Bool.{Bool, true, false, cond}
+use mathlib.Core.Bool.{Bool, cond}
 use mathlib.Core.List.{List, [], _∷_, _++_}
 use Prim.Native.Nat.{ℕ, suc}
 use Rattle.base.specs.Text.{bytes}

@@ -1,27 +1,24 @@
 -- From a process down to the part that has the event: the guards are what is asked of the other part, and then those of the event in its part.
 use mathlib.Core.Path.{_≡_, refl, sym, ap, _∙_}
-use mathlib.Core.Bool.{Bool, true, false, cond}
+use mathlib.Core.Bool.{true, false}
 use mathlib.Core.List.{List, [], _∷_, _++_}
 use Prim.Native.Nat.{ℕ, _+_, _-_, _≤_, _<_}
 use native.Mathlib.Omega.{arith}
-use lib.Dec.{eqb}
 use lib.ListN.{length, getD, take, drop, length-append, length-take}
 use borrow.Author.Tests.{ne-eqb}
 use Rattle.base.proofs.Truth.{is-false}
-use Rattle.output.specs.Buffer.{Buffer, buffer, put-all}
+use Rattle.output.specs.Buffer.{buffer, put-all}
 use Rattle.output.proofs.Buffers.{before, same-put}
 use Rattle.process.specs.Process.{Event, Joint, seq, and, or, xor, Process, event, join, again, rounds, owns}
-use Rattle.process.specs.Bodies.{first}
 use Rattle.process.proofs.Numbered.{size, Numbered, interval}
 use Rattle.process.proofs.Cleared.{first-lowest}
 use Rattle.postfix.specs.Postfix.{postfix, joint-code}
 use Rattle.parts.specs.code.Cuts.{second-begins, event-count}
 use Rattle.parts.proofs.Cut.{count-is, few-events}
 use Rattle.parts.proofs.Ends.{own, last-is, inner-is, inner-length, inner-count, first-part, second-part, joint-high}
-use Rattle.formulas.specs.Formulas.{Formula, is}
+use Rattle.formulas.specs.Formulas.{Formula}
 use Rattle.formulas.specs.Lines.{Naming, guard-lines}
-use Rattle.formulas.specs.Conditions.{complete-when, guarded, of-second, of-first, conditions}
-use Rattle.variables.specs.code.Spelled.{over}
+use Rattle.formulas.specs.Conditions.{of-second, of-first, conditions}
 use Rattle.conditions.proofs.Phrases.{idle-over}
 use Rattle.guarding.specs.code.Asked.{own-guard, second-asked, first-asked, cut-at, Fits, Wrote, clears-from, Guarded}
 use Rattle.guarding.specs.declared.Lines.{Lines}

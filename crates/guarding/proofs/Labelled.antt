@@ -1,9 +1,8 @@
 -- Guard lines one after the other, and what is asked as the code finds it.
 use mathlib.Core.Path.{_≡_, refl, sym, ap, _∙_}
-use mathlib.Core.Bool.{Bool, true, false, _||_, true≢false}
+use mathlib.Core.Bool.{true, false, _||_, true≢false}
 use mathlib.Core.List.{List, [], _∷_, _++_, append-assoc, append-nil}
 use Prim.Native.Nat.{ℕ, suc, _+_, _-_, _≤_}
-use native.Mathlib.Numerals.{add-one}
 use native.Mathlib.Omega.{arith}
 use lib.Dec.{eqb}
 use lib.ListN.{length, take}
@@ -12,17 +11,17 @@ use borrow.Author.Tests.{eq-eqb, ne-eqb}
 use Rattle.base.specs.Text.{bytes}
 use Rattle.base.proofs.Truth.{by-cases}
 use Rattle.output.specs.Decimal.{decimal}
-use Rattle.output.specs.Buffer.{Buffer, buffer, put-all}
-use Rattle.output.proofs.Buffers.{before, same-put, none-put}
+use Rattle.output.specs.Buffer.{buffer, put-all}
+use Rattle.output.proofs.Buffers.{same-put, none-put}
 use Rattle.process.specs.Process.{Process}
-use Rattle.process.proofs.Numbered.{size, Numbered}
+use Rattle.process.proofs.Numbered.{Numbered}
 use Rattle.postfix.specs.Postfix.{postfix}
 use Rattle.parts.specs.code.Cuts.{second-begins, event-count}
-use Rattle.formulas.specs.Formulas.{Formula, is}
+use Rattle.formulas.specs.Formulas.{Formula}
 use Rattle.formulas.specs.Lines.{Naming, formula, labelled, guard-lines}
-use Rattle.formulas.specs.Conditions.{some-true, all-false, idle-when, Condition, always, when, complete-when, guarded}
+use Rattle.formulas.specs.Conditions.{all-false, Condition, always, when, complete-when, guarded}
 use Rattle.variables.specs.code.Spelled.{over}
-use Rattle.conditions.specs.code.Asked.{absent, wanted, condition}
+use Rattle.conditions.specs.code.Asked.{absent, condition}
 use Rattle.conditions.proofs.Phrases.{idle-over}
 use Rattle.guarding.specs.code.Asked.{label, own-guard, second-asked, first-asked, cut-at, Wrote}
 use Rattle.guarding.specs.declared.Lines.{Lines}

@@ -22,7 +22,7 @@ use Rattle.modelling.specs.Texts.{event-text, opening-text}
 use Rattle.modelling.proofs.Guarded.{guards-right}
 use Rattle.modelling.proofs.Machines.{event-fits, opening-fits}
 use Rattle.machines.specs.Reports.{report}
-use Rattle.machines.specs.Answers.{Answered, refused, outside, inside, Filled, Event-of, no-event, event, Event-answer, Opening-answer}
+use Rattle.machines.specs.Answers.{Answered, refused, outside, inside, Filled, no-event, event, Event-answer, Opening-answer}
 use Rattle.machines.specs.code.Drawn.{passed-on, Drawn, Admission, unread, outside as outside-profiled, inside as admitted}
 use Rattle.machines.specs.declared.eventb.Admitted.{Admitted}
 use Rattle.machines.specs.declared.eventb.Written.{Written}

@@ -1,18 +1,15 @@
 -- Property 1, for the calls that write machines, and that each has one answer.
 use mathlib.Core.Path.{_≡_, refl, sym, ap, subst, _∙_}
 use mathlib.Core.Logic.{inl, inr}
-use mathlib.Core.List.{List, [], _∷_, cons≢nil, head-eq-of-cons-eq}
+use mathlib.Core.List.{List, cons≢nil, head-eq-of-cons-eq}
 use Prim.Native.Nat.{ℕ, _≤_}
 use native.Mathlib.Omega.{arith}
 use lib.ListN.{length, take}
 use lib.Seq.{length-take-le}
-use Rattle.base.specs.Fill.{fill}
-use Rattle.base.specs.Reports.{Report, result, refusal}
+use Rattle.base.specs.Reports.{Report}
 use Rattle.base.proofs.Filled.{fill-length, fill-past}
 use Rattle.base.proofs.Truth.{clash}
 use Rattle.diagram.specs.Tree.{Flow}
-use Rattle.reading.specs.Accepted.{Accepted}
-use Rattle.reading.specs.Refused.{RefusedAt}
 use Rattle.reading.proofs.Bounds.{refused-at-near}
 use Rattle.reading.proofs.Exact.{accepted-once, refused-at-once, never-both}
 use Rattle.modelling.specs.Profile.{in-profile}

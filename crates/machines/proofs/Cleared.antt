@@ -1,7 +1,7 @@
 -- What an event clears are the events from one on and up to it, so its actions are those that are written.
 use mathlib.Core.Path.{_≡_, refl, sym, ap, _∙_}
 use mathlib.Core.Logic.{_↔_, ⊎-elim}
-use mathlib.Core.Bool.{Bool, true, false, _&&_, _||_, or-false, false≢true}
+use mathlib.Core.Bool.{Bool, true, false, or-false, false≢true}
 use mathlib.Core.List.{List, [], _∷_}
 use Prim.Native.Nat.{ℕ, zero, suc, _+_, _-_, _≤_, _<_}
 use native.Mathlib.Nat.{eq-or-lt-of-le}
@@ -11,7 +11,6 @@ use borrow.Author.Tests.{eqb-true}
 use Rattle.base.proofs.Truth.{by-cases, clash, is-false}
 use Rattle.process.specs.Process.{Process, event, join, again, rounds, owns}
 use Rattle.process.specs.Bits.{clears}
-use Rattle.process.specs.Bodies.{first}
 use Rattle.process.proofs.Numbered.{size, Numbered, interval, apart, reset-out}
 use Rattle.process.proofs.Cleared.{first-lowest}
 use Rattle.process.proofs.Local.{closed}

@@ -1,10 +1,9 @@
 -- A text that was read and has a machine: the code's test of the profile, and what the columns of its names spell.
 use mathlib.Core.Path.{_≡_, refl, sym, ap, _∙_, subst}
-use mathlib.Core.Bool.{Bool, true, false, not, _&&_, _||_, cond}
-use mathlib.Core.List.{List, [], _∷_, _++_, map}
+use mathlib.Core.Bool.{Bool, true, false, _||_, cond}
+use mathlib.Core.List.{List, [], _∷_, map}
 use Prim.Native.Nat.{ℕ, _≤_, _<_}
 use native.Mathlib.Omega.{arith}
-use lib.Dec.{eqb, leb, ltb}
 use lib.ListN.{take}
 use borrow.Author.Tests.{le-leb, lt-leb, ltb-true, ltb-false}
 use Rattle.base.specs.Text.{bytes}
@@ -15,9 +14,6 @@ use Rattle.diagram.specs.TreeNodes.{flow-tree-nodes}
 use Rattle.diagram.specs.Replicators.{replicates, some-replicates}
 use Rattle.diagram.specs.declared.Diagram.{Diagram}
 use Rattle.diagram.specs.declared.Node.{Node}
-use Rattle.tokens.specs.Words.{word-at}
-use Rattle.reading.specs.Accepted.{Accepted}
-use Rattle.reading.specs.Answers.{read-of}
 use Rattle.reading.specs.Shows.{shown-node, shown-nodes, Shows}
 use Rattle.reading.proofs.Shown.{accepted-shown}
 use Rattle.process.specs.Process.{event-of}

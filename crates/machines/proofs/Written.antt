@@ -1,5 +1,5 @@
 -- The text of an event, and the opening of a machine, as they are written one part after the other.
-use mathlib.Core.Path.{_≡_, refl, sym, ap, _∙_}
+use mathlib.Core.Path.{_≡_, sym, ap, _∙_}
 use mathlib.Core.Bool.{Bool, true, false}
 use mathlib.Core.List.{List, [], _∷_, _++_, map, append-assoc, cons≢nil, head-eq-of-cons-eq}
 use Prim.Native.Nat.{ℕ, zero, suc, _+_, _-_, _≤_, _<_}
@@ -16,7 +16,6 @@ use Rattle.process.specs.Process.{Process, owns}
 use Rattle.tokens.specs.Words.{word-at}
 use Rattle.reading.specs.Shows.{shown-node, shown-nodes}
 use Rattle.process.specs.Expand.{expand, flow-name}
-use Rattle.process.proofs.Numbered.{size}
 use Rattle.process.proofs.Events.{expand-events}
 use Rattle.postfix.specs.Postfix.{postfix}
 use Rattle.postfix.proofs.Short.{postfix-short}
@@ -25,7 +24,7 @@ use Rattle.output.proofs.Buffers.{before, same-put}
 use Rattle.translator.proofs.Tables.{codes, numbers-are}
 use Rattle.formulas.specs.Actions.{becomes, actions}
 use Rattle.formulas.specs.Conditions.{conditions}
-use Rattle.formulas.specs.Lines.{Naming, guard-lines, action-lines, event-lines}
+use Rattle.formulas.specs.Lines.{guard-lines, action-lines, event-lines}
 use Rattle.formulas.specs.Opening.{cleared-all, opening-lines}
 use Rattle.formulas.proofs.Spoken.{conditions-speak, actions-below, same-text, same-opening}
 use Rattle.variables.specs.code.Spelled.{spelled}

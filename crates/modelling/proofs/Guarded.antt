@@ -1,6 +1,5 @@
 -- The guards of every event of an accepted text's diagram say what they have to.
-use mathlib.Core.Path.{_≡_, sym, ap, _∙_}
-use mathlib.Core.Bool.{true}
+use mathlib.Core.Path.{_≡_, sym, _∙_}
 use mathlib.Core.List.{List}
 use Prim.Native.Nat.{ℕ, _<_}
 use native.Mathlib.Omega.{arith}
@@ -8,7 +7,6 @@ use Rattle.diagram.specs.Tree.{Flow}
 use Rattle.diagram.specs.Count.{flow-events}
 use Rattle.reading.specs.Accepted.{Accepted}
 use Rattle.process.specs.Expand.{expand}
-use Rattle.process.specs.Runs.{Begins}
 use Rattle.process.specs.Bits.{after}
 use Rattle.process.specs.Guards.{enabled}
 use Rattle.process.proofs.Local.{enabled-local}

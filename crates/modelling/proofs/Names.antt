@@ -1,10 +1,10 @@
 -- What the variables of an accepted text's diagram are called: words of at most 26 bytes, and no two alike, where no event has values.
-use mathlib.Core.Path.{_≡_, refl, sym, ap, _∙_}
-use mathlib.Core.Bool.{Bool, true, false, _&&_, cond}
-use mathlib.Core.List.{List, [], _∷_, _++_, head-eq-of-cons-eq, tail-eq-of-cons-eq}
+use mathlib.Core.Path.{_≡_, refl, sym, _∙_}
+use mathlib.Core.Bool.{Bool, true, false, cond}
+use mathlib.Core.List.{List, _++_, head-eq-of-cons-eq, tail-eq-of-cons-eq}
 use Prim.Native.Nat.{ℕ, _+_, _≤_, _<_}
 use native.Mathlib.Omega.{arith}
-use lib.ListN.{length, length-append}
+use lib.ListN.{length}
 use Rattle.base.specs.Text.{bytes}
 use Rattle.base.proofs.Truth.{and-r}
 use Rattle.diagram.specs.Tree.{Flow}
@@ -12,12 +12,11 @@ use Rattle.diagram.specs.Count.{flow-events}
 use Rattle.tokens.specs.Classes.{class-of, worded}
 use Rattle.tokens.specs.Words.{lettered, every}
 use Rattle.reading.specs.Accepted.{Accepted}
-use Rattle.process.specs.Process.{Event, event-of}
+use Rattle.process.specs.Process.{event-of}
 use Rattle.process.specs.Expand.{expand}
 use Rattle.process.proofs.NoTwo.{no-event-twice}
 use Rattle.events.proofs.Called.{same-event}
 use Rattle.events.proofs.Answers.{short-at}
-use Rattle.formulas.specs.Lines.{variable}
 use Rattle.formulas.proofs.Unambiguous.{Proper}
 use Rattle.modelling.specs.Profile.{in-profile}
 use Rattle.modelling.specs.Texts.{naming}

@@ -1,9 +1,8 @@
 -- What the profile says of a diagram.
 use mathlib.Core.Path.{_≡_}
-use mathlib.Core.Bool.{true, false, not, _&&_}
+use mathlib.Core.Bool.{true, false, not}
 use mathlib.Core.List.{[]}
 use Prim.Native.Nat.{_≤_}
-use lib.Dec.{leb}
 use borrow.Author.Tests.{leb-true}
 use Rattle.base.proofs.Truth.{and-l, and-r, not-e}
 use Rattle.diagram.specs.Tree.{Flow}

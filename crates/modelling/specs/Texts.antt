@@ -1,5 +1,5 @@
 -- The text of a diagram's machine: of each event, of what stands before the first, and of all of it.
-use mathlib.Core.List.{List, [], _∷_, _++_}
+use mathlib.Core.List.{List, [], _++_}
 use Prim.Native.Nat.{ℕ, zero, suc}
 use Rattle.base.specs.Text.{bytes}
 use Rattle.diagram.specs.Tree.{Flow}

@@ -1,6 +1,5 @@
 -- Card 2, from the contracts of the calls.
-use mathlib.Core.Path.{_≡_, sym, ap, subst, _∙_}
-use mathlib.Core.Logic.{_↔_}
+use mathlib.Core.Path.{_≡_, ap, subst, _∙_}
 use mathlib.Core.Bool.{true}
 use mathlib.Core.List.{List}
 use Prim.Native.Nat.{ℕ, _≤_, _<_}
@@ -11,14 +10,12 @@ use Rattle.diagram.specs.Tree.{Flow}
 use Rattle.diagram.specs.Count.{flow-events}
 use Rattle.reading.specs.Accepted.{Accepted}
 use Rattle.reading.proofs.Exact.{accepted-once, never-both}
-use Rattle.table.specs.Steps.{step-of}
-use Rattle.table.specs.declared.Answer.the-variants.{Done}
 use Rattle.translator.proofs.Bounds.{accepted-table}
 use Rattle.modelling.specs.Profile.{in-profile}
 use Rattle.modelling.specs.Texts.{guards-of, actions-of, event-text}
 use Rattle.modelling.specs.Guards.{Guards}
 use Rattle.modelling.proofs.Machines.{machine-right, actions-set}
-use Rattle.machines.specs.Answers.{Answered, short, refused, outside, inside, Filled, Event-of, no-event, event, Event-answer}
+use Rattle.machines.specs.Answers.{short, refused, outside, inside, Filled, Event-of, no-event, event, Event-answer}
 use Rattle.machines.specs.declared.eventb.Written.{Written}
 use Rattle.properties.specs.Modelled.{Modelled, Events-modelled}
 use Rattle.properties.proofs.Kept.{steps-met, translates-met, writes-event-met}

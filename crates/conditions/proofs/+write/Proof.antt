@@ -1,6 +1,6 @@
 -- The measure is how many numbers there are.
 use Prim.Native.Nat.{ℕ, _<_}
-use mathlib.Core.Path.{_≡_, sym, _∙_}
+use mathlib.Core.Path.{sym, _∙_}
 use Prim.Native.Nat.{_+_, _-_}
 use lib.ListN.{length, drop, length-take}
 use Rattle.output.proofs.Buffers.{same-put}

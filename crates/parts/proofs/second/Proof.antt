@@ -1,6 +1,6 @@
 -- The invariant: from number i on, with n parts wanted before it, the same is left over. The measure is i.
 use mathlib.Core.Path.{_≡_, sym, _∙_}
-use Prim.Native.Nat.{ℕ, _+_, _-_, _≤_, _<_}
+use Prim.Native.Nat.{_+_, _-_, _≤_, _<_}
 use native.Mathlib.Omega.{arith}
 use mathlib.Core.List.{reverse}
 use lib.ListN.{length, getD, take}

@@ -1,6 +1,6 @@
 -- The invariant: the columns hold the names of the events before e. The measure is what is left of the columns.
 use mathlib.Core.Path.{_≡_, refl, sym, _∙_}
-use Prim.Native.Nat.{_-_, _<_}
+use Prim.Native.Nat.{_-_}
 use native.Mathlib.Omega.{arith}
 use lib.ListN.{length, length-map}
 use borrow.Author.Tests.{ltb-true, ltb-false}

@@ -1,5 +1,4 @@
 -- By whether a replicator was found.
-use mathlib.Core.Path.{_≡_}
 use borrow.Author.Needs.{needs}
 use Rattle.profile.proofs.outside.Statement.{statement}
 use Rattle.profile.proofs.outside.Tie as tie

@@ -1,7 +1,7 @@
 -- The mark, and then the word at the place of the name.
 use Rattle.output.proofs.Buffers.{before, same-put}
 use Rattle.variables.specs.code.Spelled.{spelled}
-use mathlib.Core.Path.{_≡_, refl, ap, _∙_}
+use mathlib.Core.Path.{_∙_}
 use borrow.Author.Needs.{needs}
 use Rattle.variables.proofs.name.Statement.{statement}
 use Rattle.variables.proofs.name.Tie as tie
