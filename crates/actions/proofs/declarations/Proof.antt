@@ -9,10 +9,17 @@ use Rattle.actions.proofs.declarations.Tie as tie
 
 returns : tie.Need-returns
 returns c =
-    before _ _ _ (c .before .before .before .before .before .before .before .before .before .before .before .before .before .before .before .before .before .before .before .before .before .before .before .before .before .bytes .ensures)
-    (before _ _ _ (same-put _ _ _ (c .before .before .before .before .before .before .before .before .before .before .before .before .before .before .before .before .before .before .before .before .bytes2 .ensures) (c .before .before .before .before .before .before .before .before .before .before .before .before .before .before .before .before .before .before .before .before .before .word .ensures .its-word))
-    (before _ _ _ (c .before .before .before .before .before .before .before .before .before .before .before .before .before .before .before .bytes3 .ensures) (before _ _ _ (same-put _ _ _ (c .before .before .before .before .before .before .before .before .before .before .before .lines .ensures) (from-first (spelled (c .before .before .before .before .before .before .before .before .before .before .before .before .before .before .before .before .before .before .before .before .before .before .before .before .before .before .before .before .before .before .args .text .now) (c .before .before .before .before .before .before .before .before .before .before .before .before .before .before .before .before .before .before .before .before .before .before .before .before .before .before .before .before .before .before .args .v)) 0 0 (c .before .before .before .before .before .before .before .before .before .before .before .before .before .before .before .before .before .before .before .before .before .before .before .before .before .before .before .before .before .before .args .n)))
-    (before _ _ _ (c .before .before .before .before .before .before .bytes4 .ensures) (same-put _ _ _ (c .before .before .lines2 .ensures) (from-first (spelled (c .before .before .before .before .before .before .before .before .before .before .before .before .before .before .before .before .before .before .before .before .before .before .before .before .before .before .before .before .before .before .args .text .now) (c .before .before .before .before .before .before .before .before .before .before .before .before .before .before .before .before .before .before .before .before .before .before .before .before .before .before .before .before .before .before .args .v)) 1 1 (c .before .before .before .before .before .before .before .before .before .before .before .before .before .before .before .before .before .before .before .before .before .before .before .before .before .before .before .before .before .before .args .n)))))))
+    let c6 = c .before .before .before .before .before .before in
+    let c11 = c6 .before .before .before .before .before in
+    let c15 = c11 .before .before .before .before in
+    let c20 = c15 .before .before .before .before .before in
+    let c21 = c20 .before in
+    let c25 = c21 .before .before .before .before in
+    let c30 = c25 .before .before .before .before .before in
+    before _ _ _ (c25 .bytes .ensures)
+    (before _ _ _ (same-put _ _ _ (c20 .bytes2 .ensures) (c21 .word .ensures .its-word))
+    (before _ _ _ (c15 .bytes3 .ensures) (before _ _ _ (same-put _ _ _ (c11 .lines .ensures) (from-first (spelled (c30 .args .text .now) (c30 .args .v)) 0 0 (c30 .args .n)))
+    (before _ _ _ (c6 .bytes4 .ensures) (same-put _ _ _ (c .before .before .lines2 .ensures) (from-first (spelled (c30 .args .text .now) (c30 .args .v)) 1 1 (c30 .args .n)))))))
 
 pub declarations-spec : {M : Type 1} → statement M
 declarations-spec =
@@ -24,9 +31,13 @@ declarations-spec =
     (λ c κs. search needs)
     (λ c. search needs)
     (λ c κs. search needs)
-    (λ c κs. (c .before .before .before .before .before .before .before .before .before .before .before .before .before .before .before .before .before .before .pre, omega arith, omega arith))
+    (λ c κs.
+    let c18 = c .before .before .before .before .before .before .before .before .before .before .before .before .before .before .before .before .before .before in
+    (c18 .pre, omega arith, omega arith))
     (λ c. search needs)
     (λ c κs. search needs)
-    (λ c κs. (c .before .before .before .before .before .before .before .before .before .before .before .before .before .before .before .before .before .before .before .before .before .before .before .before .before .before .before .pre, omega arith, omega arith))
+    (λ c κs.
+    let c27 = c .before .before .before .before .before .before .before .before .before .before .before .before .before .before .before .before .before .before .before .before .before .before .before .before .before .before .before in
+    (c27 .pre, omega arith, omega arith))
     (λ c. search needs)
     returns)

@@ -7,7 +7,10 @@ use Rattle.actions.proofs.head.Tie as tie
 
 returns-2 : tie.Need-returns-2
 returns-2 c =
-    rw (ne-eqb _ 0 (c .before .before .before .before .before .before .before .before .before .before .before .before .before .if1 .left)) (before _ _ _ (c .before .before .before .before .before .before .before .before .before .before .before .label .ensures) (before _ _ _ (c .before .before .before .before .before .before .before .number .ensures) (c .before .before .bytes .ensures)))
+    let c7 = c .before .before .before .before .before .before .before in
+    let c11 = c7 .before .before .before .before in
+    let c13 = c11 .before .before in
+    rw (ne-eqb _ 0 (c13 .if1 .left)) (before _ _ _ (c11 .label .ensures) (before _ _ _ (c7 .number .ensures) (c .before .before .bytes .ensures)))
 
 pub head-spec : {M : Type 1} → statement M
 head-spec =

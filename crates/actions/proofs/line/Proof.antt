@@ -12,4 +12,7 @@ line-spec =
     (λ c κs. search needs)
     (λ c κs. search needs)
     (λ c. search needs)
-    (λ c. before _ _ _ (c .before .before .before .before .before .before .before .before .before .before .head .ensures) (before _ _ _ (c .before .before .before .before .before .before .name .ensures) (c .before .before .tail .ensures))))
+    (λ c.
+    let c6 = c .before .before .before .before .before .before in
+    let c10 = c6 .before .before .before .before in
+    before _ _ _ (c10 .head .ensures) (before _ _ _ (c6 .name .ensures) (c .before .before .tail .ensures))))

@@ -27,14 +27,17 @@ loop-holds c =
 
 loop-again : tie.Need-loop-again Inv-loop μ-loop
 loop-again c =
-    let l = c .before .before .before .before .before .loop in
-    let a = c .before .before .before .before .before .before .before .before .args in
-    let t = c .before .before .before .before .loop-test .taken in
+    let c4 = c .before .before .before .before in
+    let c5 = c4 .before in
+    let c8 = c5 .before .before .before in
+    let l = c5 .loop in
+    let a = c8 .args in
+    let t = c4 .loop-test .taken in
     let w = c .before .before .line in (
       omega (arith, l .inv .0),
       omega (arith, t),
       w .kept .1 .1 .1 .1 .1 .0 ∙ l .inv .2,
-      lines-next (spelled (c .before .before .before .before .before .before .before .before .args .text .now) (c .before .before .before .before .before .before .before .before .args .v)) (a .kind) (a .k) (a .from) (a .to) (l .i) _ (l .inv .0) t (w .ensures) ∙ l .inv .3,
+      lines-next (spelled (c8 .args .text .now) (c8 .args .v)) (a .kind) (a .k) (a .from) (a .to) (l .i) _ (l .inv .0) t (w .ensures) ∙ l .inv .3,
     )
 
 pub lines-spec : {M : Type 1} → statement M
@@ -45,10 +48,18 @@ lines-spec =
     μ-loop
     loop-holds
     (λ c. c .before .loop .inv .0)
-    (λ c. omega (arith, c .before .loop .inv .1, c .before .before .before .before .pre))
+    (λ c.
+    let c4 = c .before .before .before .before in
+    omega (arith, c .before .loop .inv .1, c4 .pre))
     (λ c κs. search needs)
-    (λ c. omega (arith, c .before .before .before .before .loop-test .taken))
-    (λ c. omega (arith, c .before .before .before .before .loop-test .taken))
+    (λ c.
+    let c4 = c .before .before .before .before in
+    omega (arith, c4 .loop-test .taken))
+    (λ c.
+    let c4 = c .before .before .before .before in
+    omega (arith, c4 .loop-test .taken))
     loop-again
     (λ c. c .before .loop .inv .2)
-    (λ c. let l = c .before .loop in lines-end (spelled (c .before .before .before .before .args .text .now) (c .before .before .before .before .args .v)) (c .before .before .before .before .args .kind) (c .before .before .before .before .args .k) (c .before .before .before .before .args .from) (c .before .before .before .before .args .to) (l .i) _ (omega (arith, c .loop-test .left)) ∙ l .inv .3))
+    (λ c.
+    let c4 = c .before .before .before .before in
+    let l = c .before .loop in lines-end (spelled (c4 .args .text .now) (c4 .args .v)) (c4 .args .kind) (c4 .args .k) (c4 .args .from) (c4 .args .to) (l .i) _ (omega (arith, c .loop-test .left)) ∙ l .inv .3))

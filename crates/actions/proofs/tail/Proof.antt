@@ -11,16 +11,29 @@ tail-spec =
     (λ c. search needs)
     (λ c κs. search needs)
     (λ c. search needs)
-    (λ c. rw (eq-eqb _ 0 (c .before .before .before .before .before .if1 .taken)) (c .before .before .bytes .ensures))
+    (λ c.
+    let c5 = c .before .before .before .before .before in
+    rw (eq-eqb _ 0 (c5 .if1 .taken)) (c .before .before .bytes .ensures))
     (λ c. search needs)
     (λ c κs. search needs)
     (λ c. search needs)
-    (λ c. rw (ne-eqb _ 0 (c .before .before .before .before .before .before .if1 .left), eq-eqb _ 1 (c .before .before .before .before .before .if2 .taken)) (c .before .before .bytes2 .ensures))
+    (λ c.
+    let c5 = c .before .before .before .before .before in
+    let c6 = c5 .before in
+    rw (ne-eqb _ 0 (c6 .if1 .left), eq-eqb _ 1 (c5 .if2 .taken)) (c .before .before .bytes2 .ensures))
     (λ c. search needs)
     (λ c κs. search needs)
     (λ c. search needs)
-    (λ c. rw (ne-eqb _ 0 (c .before .before .before .before .before .before .before .if1 .left), ne-eqb _ 1 (c .before .before .before .before .before .before .if2 .left), eq-eqb _ 2 (c .before .before .before .before .before .if3 .taken)) (c .before .before .bytes3 .ensures))
+    (λ c.
+    let c5 = c .before .before .before .before .before in
+    let c6 = c5 .before in
+    let c7 = c6 .before in
+    rw (ne-eqb _ 0 (c7 .if1 .left), ne-eqb _ 1 (c6 .if2 .left), eq-eqb _ 2 (c5 .if3 .taken)) (c .before .before .bytes3 .ensures))
     (λ c. search needs)
     (λ c κs. search needs)
     (λ c. search needs)
-    (λ c. rw (ne-eqb _ 0 (c .before .before .before .before .before .before .before .if1 .left), ne-eqb _ 1 (c .before .before .before .before .before .before .if2 .left), ne-eqb _ 2 (c .before .before .before .before .before .if3 .left)) (c .before .before .bytes4 .ensures)))
+    (λ c.
+    let c5 = c .before .before .before .before .before in
+    let c6 = c5 .before in
+    let c7 = c6 .before in
+    rw (ne-eqb _ 0 (c7 .if1 .left), ne-eqb _ 1 (c6 .if2 .left), ne-eqb _ 2 (c5 .if3 .left)) (c .before .before .bytes4 .ensures)))

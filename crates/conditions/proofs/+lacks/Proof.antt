@@ -34,17 +34,24 @@ module _ (t : ℕ) where
 
   returns-2 : lacks-lts.Need-returns-2 (claims t) (lacks-at t) lacks.Post
   returns-2 c =
-      λ p e. leaf-lacks (c .before .before .before .before .args .codes .now) (c .before .before .before .before .args .settled) p e (c .if2 .taken)
+      let c4 = c .before .before .before .before in
+      λ p e. leaf-lacks (c4 .args .codes .now) (c4 .args .settled) p e (c .if2 .taken)
 
   returns-3 : lacks-lts.Need-returns-3 (claims t) (lacks-at t) lacks.Post
   returns-3 c =
-      λ p e. rounds-lacks (c .before .before .before .before .before .before .before .args .codes .now) (c .before .before .before .before .before .before .before .args .settled) p e (c .lacks .result) (c .before .before .if3 .taken) (c .lacks .ensures)
+      let c7 = c .before .before .before .before .before .before .before in
+      λ p e. rounds-lacks (c7 .args .codes .now) (c7 .args .settled) p e (c .lacks .result) (c .before .before .if3 .taken) (c .lacks .ensures)
 
   returns-4 : lacks-lts.Need-returns-4 (claims t) (lacks-at t) lacks.Post
   returns-4 c =
+      let c3 = c .before .before .before in
+      let c5 = c3 .before .before in
+      let c7 = c5 .before .before in
+      let c8 = c7 .before in
+      let c12 = c8 .before .before .before .before in
       λ p e.
       rw (c .joint-lacks .ensures)
-      (parts-lack (c .before .before .before .before .before .before .before .before .before .before .before .before .args .codes .now) (c .before .before .before .before .before .before .before .before .before .before .before .before .args .settled) (c .before .before .before .lacks2 .result) (c .before .lacks3 .result) (c .before .before .before .before .before .second .result) p e (omega (arith, c .before .before .before .before .before .before .before .before .if2 .left)) (c .before .before .before .before .before .before .before .if3 .left) (c .before .before .before .before .before .second .ensures .0) (c .before .before .before .lacks2 .ensures) (c .before .lacks3 .ensures))
+      (parts-lack (c12 .args .codes .now) (c12 .args .settled) (c3 .lacks2 .result) (c .before .lacks3 .result) (c5 .second .result) p e (omega (arith, c8 .if2 .left)) (c7 .if3 .left) (c5 .second .ensures .0) (c3 .lacks2 .ensures) (c .before .lacks3 .ensures))
 
 pub +lacks-spec : {M : Type 1} → statement M
 +lacks-spec = close μ-lacks λ t. lacks-lts.spec (claims t)
@@ -54,16 +61,41 @@ pub +lacks-spec : {M : Type 1} → statement M
     (λ c. search needs)
     (λ c. search needs)
     (returns-2 t)
-    (λ c. inner-count (c .before .before .before .before .before .before .args .codes .now))
-    (λ c κs. (inner-fewer (c .before .before .before .before .before .before .args .codes .now) (c .before .before .before .before .if1 .left) (c .before .before .before .before .before .before .pre .0), tt))
+    (λ c.
+    let c6 = c .before .before .before .before .before .before in
+    inner-count (c6 .args .codes .now))
+    (λ c κs.
+    let c4 = c .before .before .before .before in
+    let c6 = c4 .before .before in
+    (inner-fewer (c6 .args .codes .now) (c4 .if1 .left) (c6 .pre .0), tt))
     (returns-3 t)
-    (λ c. inner-count (c .before .before .before .before .before .before .args .codes .now))
+    (λ c.
+    let c6 = c .before .before .before .before .before .before in
+    inner-count (c6 .args .codes .now))
     (λ c κs. search needs)
-    (λ c. first-count (c .before .before .before .before .before .before .before .before .args .codes .now) (c .before .second .ensures .1))
-    (λ c κs. (first-fewer (c .before .before .before .before .before .before .before .before .args .codes .now) (c .before .before .before .before .before .before .if1 .left) (c .before .before .before .before .before .before .before .before .pre .0) (c .before .second .ensures .1), tt))
-    (λ c. second-inside (c .before .before .before .before .before .before .before .before .before .args .codes .now) (c .before .before .before .before .before .before .before .if1 .left) (c .before .before .before .before .before .before .before .before .before .pre .0) (c .before .before .second .ensures .1) .0)
-    (λ c. second-inside (c .before .before .before .before .before .before .before .before .before .args .codes .now) (c .before .before .before .before .before .before .before .if1 .left) (c .before .before .before .before .before .before .before .before .before .pre .0) (c .before .before .second .ensures .1) .0)
-    (λ c. second-inside (c .before .before .before .before .before .before .before .before .before .args .codes .now) (c .before .before .before .before .before .before .before .if1 .left) (c .before .before .before .before .before .before .before .before .before .pre .0) (c .before .before .second .ensures .1) .1)
-    (λ c κs. (second-fewer (c .before .before .before .before .before .before .before .before .before .before .args .codes .now) (c .before .before .before .before .before .before .before .before .if1 .left) (c .before .before .before .before .before .before .before .before .before .before .pre .0) (c .before .before .before .second .ensures .1), tt))
+    (λ c.
+    let c8 = c .before .before .before .before .before .before .before .before in
+    first-count (c8 .args .codes .now) (c .before .second .ensures .1))
+    (λ c κs.
+    let c6 = c .before .before .before .before .before .before in
+    let c8 = c6 .before .before in
+    (first-fewer (c8 .args .codes .now) (c6 .if1 .left) (c8 .pre .0) (c .before .second .ensures .1), tt))
+    (λ c.
+    let c7 = c .before .before .before .before .before .before .before in
+    let c9 = c7 .before .before in
+    second-inside (c9 .args .codes .now) (c7 .if1 .left) (c9 .pre .0) (c .before .before .second .ensures .1) .0)
+    (λ c.
+    let c7 = c .before .before .before .before .before .before .before in
+    let c9 = c7 .before .before in
+    second-inside (c9 .args .codes .now) (c7 .if1 .left) (c9 .pre .0) (c .before .before .second .ensures .1) .0)
+    (λ c.
+    let c7 = c .before .before .before .before .before .before .before in
+    let c9 = c7 .before .before in
+    second-inside (c9 .args .codes .now) (c7 .if1 .left) (c9 .pre .0) (c .before .before .second .ensures .1) .1)
+    (λ c κs.
+    let c3 = c .before .before .before in
+    let c8 = c3 .before .before .before .before .before in
+    let c10 = c8 .before .before in
+    (second-fewer (c10 .args .codes .now) (c8 .if1 .left) (c10 .pre .0) (c3 .second .ensures .1), tt))
     (λ c κs. search needs)
     (returns-4 t)

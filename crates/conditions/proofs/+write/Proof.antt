@@ -40,44 +40,64 @@ claims t = (lacks-reads.Asked, lacks-reads.Learnt, is-reads.Asked, is-reads.Lear
 module _ (t : ℕ) where
   returns : write-lts.Need-returns (claims t) (write-at t) write.Post
   returns c =
-      λ p e m few. absurd (some-code (c .before .before .before .before .args .codes .now) (c .before .before .before .before .args .settled) p e (c .if1 .taken))
+      let c4 = c .before .before .before .before in
+      λ p e m few. absurd (some-code (c4 .args .codes .now) (c4 .args .settled) p e (c .if1 .taken))
 
   returns-2 : write-lts.Need-returns-2 (claims t) (write-at t) write.Post
   returns-2 c =
-      λ p e m few. absent-written (spelled (c .before .before .before .before .before .before .args .text .now) (c .before .before .before .before .before .before .args .v)) (wanted (c .before .before .before .before .before .before .args .settled) p) _ (sym (c .before .lacks .ensures p e) ∙ c .if2 .taken)
+      let c6 = c .before .before .before .before .before .before in
+      λ p e m few. absent-written (spelled (c6 .args .text .now) (c6 .args .v)) (wanted (c6 .args .settled) p) _ (sym (c .before .lacks .ensures p e) ∙ c .if2 .taken)
 
   returns-3 : write-lts.Need-returns-3 (claims t) (write-at t) write.Post
   returns-3 c =
-      λ p e m few. same-put _ _ _ (c .before .before .is .ensures) (leaf-text (spelled (c .before .before .before .before .before .before .before .before .before .before .before .before .args .text .now) (c .before .before .before .before .before .before .before .before .before .before .before .before .args .v)) (c .before .before .before .before .before .before .before .before .before .before .before .before .args .settled) (c .before .before .before .before .before .before .before .before .before .before .before .before .args .codes .now) (c .before .before .before .before .before .before .before .before .before .before .before .before .args .from) p e m (sym (c .before .before .before .before .before .before .before .lacks .ensures p e) ∙ c .before .before .before .before .before .before .if2 .left) (c .before .before .before .before .if3 .taken))
+      let c4 = c .before .before .before .before in
+      let c6 = c4 .before .before in
+      let c7 = c6 .before in
+      let c12 = c7 .before .before .before .before .before in
+      λ p e m few. same-put _ _ _ (c .before .before .is .ensures) (leaf-text (spelled (c12 .args .text .now) (c12 .args .v)) (c12 .args .settled) (c12 .args .codes .now) (c12 .args .from) p e m (sym (c7 .lacks .ensures p e) ∙ c6 .if2 .left) (c4 .if3 .taken))
 
   returns-4 : write-lts.Need-returns-4 (claims t) (write-at t) write.Post
   returns-4 c =
+      let c5 = c .before .before .before .before .before in
+      let c14 = c5 .before .before .before .before .before .before .before .before .before in
       λ p e m few.
-      let a = c .before .before .before .before .before .before .before .before .before .before .before .before .before .before .args in
+      let a = c14 .args in
       let w = c .before .before .write in
-      rounds-written (spelled (a .text .now) (a .v)) (c .before .before .before .before .before .before .before .before .before .before .before .before .before .before .args .settled) (c .before .before .before .before .before .before .before .before .before .before .before .before .before .before .args .codes .now) (c .before .before .before .before .before .before .before .before .before .before .before .before .before .before .args .from) p e m (c .before .before .before .before .before .if4 .taken) _
+      rounds-written (spelled (a .text .now) (a .v)) (c14 .args .settled) (c14 .args .codes .now) (c14 .args .from) p e m (c5 .if4 .taken) _
       (λ q g n. w .ensures q g n (omega (arith, few, inner-count (a .codes .now))))
 
   returns-5 : write-lts.Need-returns-5 (claims t) (write-at t) write.Post
   returns-5 c =
-      λ p e m few. let l : 511 < c .before .before .before .before .before .before .before .before .before .before .args .from = c .if5 .taken in absurd (some-code (c .before .before .before .before .before .before .before .before .before .before .args .codes .now) (c .before .before .before .before .before .before .before .before .before .before .args .settled) p e (omega (arith, few, l)))
+      let c10 = c .before .before .before .before .before .before .before .before .before .before in
+      λ p e m few. let l : 511 < c10 .args .from = c .if5 .taken in absurd (some-code (c10 .args .codes .now) (c10 .args .settled) p e (omega (arith, few, l)))
 
   returns-6 : write-lts.Need-returns-6 (claims t) (write-at t) write.Post
   returns-6 c =
+      let c6 = c .before .before .before .before .before .before in
+      let c12 = c6 .before .before .before .before .before .before in
+      let c16 = c12 .before .before .before .before in
+      let c21 = c16 .before .before .before .before .before in
+      let c23 = c21 .before .before in
+      let c25 = c23 .before .before in
+      let c26 = c25 .before in
+      let c28 = c26 .before .before in
+      let c29 = c28 .before in
+      let c30 = c29 .before in
+      let c34 = c30 .before .before .before .before in
       λ p e m few.
-      let a = c .before .before .before .before .before .before .before .before .before .before .before .before .before .before .before .before .before .before .before .before .before .before .before .before .before .before .before .before .before .before .before .before .before .before .args in
+      let a = c34 .args in
       let cs = a .codes .now in
-      let s = c .before .before .before .before .before .before .before .before .before .before .before .before .before .before .before .before .before .before .before .before .before .before .before .shaped .result in
-      let inside = c .before .before .before .before .before .before .before .before .before .before .before .before .before .before .before .before .before .before .before .before .before .before .before .shaped .ensures .1 in
-      let some = c .before .before .before .before .before .before .before .before .before .before .before .before .before .before .before .before .before .before .before .before .before .before .before .before .before .before .before .before .before .before .if1 .left in
+      let s = c23 .shaped .result in
+      let inside = c23 .shaped .ensures .1 in
+      let some = c30 .if1 .left in
       let wide : a .from + s .after < 512 = omega (arith, few, inside .its-after, some) in
       let cut = length-take (s .second) cs in
       let rest = length-take (length cs - 1 - s .second) (drop (s .second) cs) in
-      joint-written (spelled (a .text .now) (a .v)) (a .settled) cs (a .from) s (c .before .before .before .before .before .before .before .before .before .before .before .before .before .before .before .before .before .before .before .before .before .before .before .shaped .ensures .0) _ (c .before .before .before .before .before .before .before .before .before .before .before .before .before .before .before .before .before .before .before .before .before .«open» .ensures wide)
-      (λ q g n. c .before .before .before .before .before .before .before .before .before .before .before .before .before .before .before .before .write2 .ensures q g n (omega (arith, few, cut)))
-      (c .before .before .before .before .before .before .before .before .before .before .before .before .between .ensures)
-      (λ q g n. c .before .before .before .before .before .before .write3 .ensures q g n (omega (arith, few, rest, inside .its-first, inside .its-second, inner-count cs)))
-      (c .before .before .close .ensures wide) p e m (sym (c .before .before .before .before .before .before .before .before .before .before .before .before .before .before .before .before .before .before .before .before .before .before .before .before .before .before .before .before .before .lacks .ensures p e) ∙ c .before .before .before .before .before .before .before .before .before .before .before .before .before .before .before .before .before .before .before .before .before .before .before .before .before .before .before .before .if2 .left) (c .before .before .before .before .before .before .before .before .before .before .before .before .before .before .before .before .before .before .before .before .before .before .before .before .before .before .if3 .left) (c .before .before .before .before .before .before .before .before .before .before .before .before .before .before .before .before .before .before .before .before .before .before .before .before .before .if4 .left)
+      joint-written (spelled (a .text .now) (a .v)) (a .settled) cs (a .from) s (c23 .shaped .ensures .0) _ (c21 .«open» .ensures wide)
+      (λ q g n. c16 .write2 .ensures q g n (omega (arith, few, cut)))
+      (c12 .between .ensures)
+      (λ q g n. c6 .write3 .ensures q g n (omega (arith, few, rest, inside .its-first, inside .its-second, inner-count cs)))
+      (c .before .before .close .ensures wide) p e m (sym (c29 .lacks .ensures p e) ∙ c28 .if2 .left) (c26 .if3 .left) (c25 .if4 .left)
 
 pub +write-spec : {M : Type 1} → statement M
 +write-spec = close μ-write λ t. write-lts.spec (claims t)
@@ -91,21 +111,53 @@ pub +write-spec : {M : Type 1} → statement M
     (λ c κs. search needs)
     (λ c. search needs)
     (returns-3 t)
-    (λ c. inner-count (c .before .before .before .before .before .before .before .before .before .before .args .codes .now))
-    (λ c κs. (inner-fewer (c .before .before .before .before .before .before .before .before .before .before .before .args .codes .now) (c .before .before .before .before .before .before .before .if1 .left) (c .before .before .before .before .before .before .before .before .before .before .before .pre .0), tt))
+    (λ c.
+    let c10 = c .before .before .before .before .before .before .before .before .before .before in
+    inner-count (c10 .args .codes .now))
+    (λ c κs.
+    let c7 = c .before .before .before .before .before .before .before in
+    let c11 = c7 .before .before .before .before in
+    (inner-fewer (c11 .args .codes .now) (c7 .if1 .left) (c11 .pre .0), tt))
     (λ c. search needs)
     (returns-4 t)
     (returns-5 t)
     (λ c κs. search needs)
     (λ c κs. search needs)
-    (λ c. first-count (c .before .before .before .before .before .before .before .before .before .before .before .before .before .before .before .before .args .codes .now) (c .before .before .before .before .before .shaped .ensures .1 .its-second))
-    (λ c κs. (first-fewer (c .before .before .before .before .before .before .before .before .before .before .before .before .before .before .before .before .before .args .codes .now) (c .before .before .before .before .before .before .before .before .before .before .before .before .before .if1 .left) (c .before .before .before .before .before .before .before .before .before .before .before .before .before .before .before .before .before .pre .0) (c .before .before .before .before .before .before .shaped .ensures .1 .its-second), tt))
+    (λ c.
+    let c5 = c .before .before .before .before .before in
+    let c16 = c5 .before .before .before .before .before .before .before .before .before .before .before in
+    first-count (c16 .args .codes .now) (c5 .shaped .ensures .1 .its-second))
+    (λ c κs.
+    let c6 = c .before .before .before .before .before .before in
+    let c13 = c6 .before .before .before .before .before .before .before in
+    let c17 = c13 .before .before .before .before in
+    (first-fewer (c17 .args .codes .now) (c13 .if1 .left) (c17 .pre .0) (c6 .shaped .ensures .1 .its-second), tt))
     (λ c κs. search needs)
-    (λ c. second-inside (c .before .before .before .before .before .before .before .before .before .before .before .before .before .before .before .before .before .before .before .before .before .before .before .before .args .codes .now) (c .before .before .before .before .before .before .before .before .before .before .before .before .before .before .before .before .before .before .before .before .if1 .left) (c .before .before .before .before .before .before .before .before .before .before .before .before .before .before .before .before .before .before .before .before .before .before .before .before .pre .0) (c .before .before .before .before .before .before .before .before .before .before .before .before .before .shaped .ensures .1 .its-second) .0)
-    (λ c. second-inside (c .before .before .before .before .before .before .before .before .before .before .before .before .before .before .before .before .before .before .before .before .before .before .before .before .args .codes .now) (c .before .before .before .before .before .before .before .before .before .before .before .before .before .before .before .before .before .before .before .before .if1 .left) (c .before .before .before .before .before .before .before .before .before .before .before .before .before .before .before .before .before .before .before .before .before .before .before .before .pre .0) (c .before .before .before .before .before .before .before .before .before .before .before .before .before .shaped .ensures .1 .its-second) .0)
-    (λ c. second-inside (c .before .before .before .before .before .before .before .before .before .before .before .before .before .before .before .before .before .before .before .before .before .before .before .before .args .codes .now) (c .before .before .before .before .before .before .before .before .before .before .before .before .before .before .before .before .before .before .before .before .if1 .left) (c .before .before .before .before .before .before .before .before .before .before .before .before .before .before .before .before .before .before .before .before .before .before .before .before .pre .0) (c .before .before .before .before .before .before .before .before .before .before .before .before .before .shaped .ensures .1 .its-second) .1)
-    (λ c. omega (arith, c .before .before .before .before .before .before .before .before .before .before .before .before .before .before .before .before .if5 .left, c .before .before .before .before .before .before .before .before .before .before .before .before .before .before .before .shaped .ensures .1 .its-first, c .before .before .before .before .before .before .before .before .before .before .before .before .before .before .before .shaped .ensures .1 .its-second, inner-count (c .before .before .before .before .before .before .before .before .before .before .before .before .before .before .before .before .before .before .before .before .before .before .before .before .before .before .args .codes .now), c .before .before .before .before .before .before .before .before .before .before .before .before .before .before .before .before .before .before .before .before .before .before .before .before .before .before .good))
-    (λ c κs. (second-fewer (c .before .before .before .before .before .before .before .before .before .before .before .before .before .before .before .before .before .before .before .before .before .before .before .before .before .before .before .args .codes .now) (c .before .before .before .before .before .before .before .before .before .before .before .before .before .before .before .before .before .before .before .before .before .before .before .if1 .left) (c .before .before .before .before .before .before .before .before .before .before .before .before .before .before .before .before .before .before .before .before .before .before .before .before .before .before .before .pre .0) (c .before .before .before .before .before .before .before .before .before .before .before .before .before .before .before .before .shaped .ensures .1 .its-second), tt))
+    (λ c.
+    let c13 = c .before .before .before .before .before .before .before .before .before .before .before .before .before in
+    let c20 = c13 .before .before .before .before .before .before .before in
+    let c24 = c20 .before .before .before .before in
+    second-inside (c24 .args .codes .now) (c20 .if1 .left) (c24 .pre .0) (c13 .shaped .ensures .1 .its-second) .0)
+    (λ c.
+    let c13 = c .before .before .before .before .before .before .before .before .before .before .before .before .before in
+    let c20 = c13 .before .before .before .before .before .before .before in
+    let c24 = c20 .before .before .before .before in
+    second-inside (c24 .args .codes .now) (c20 .if1 .left) (c24 .pre .0) (c13 .shaped .ensures .1 .its-second) .0)
+    (λ c.
+    let c13 = c .before .before .before .before .before .before .before .before .before .before .before .before .before in
+    let c20 = c13 .before .before .before .before .before .before .before in
+    let c24 = c20 .before .before .before .before in
+    second-inside (c24 .args .codes .now) (c20 .if1 .left) (c24 .pre .0) (c13 .shaped .ensures .1 .its-second) .1)
+    (λ c.
+    let c15 = c .before .before .before .before .before .before .before .before .before .before .before .before .before .before .before in
+    let c16 = c15 .before in
+    let c26 = c16 .before .before .before .before .before .before .before .before .before .before in
+    omega (arith, c16 .if5 .left, c15 .shaped .ensures .1 .its-first, c15 .shaped .ensures .1 .its-second, inner-count (c26 .args .codes .now), c26 .good))
+    (λ c κs.
+    let c16 = c .before .before .before .before .before .before .before .before .before .before .before .before .before .before .before .before in
+    let c23 = c16 .before .before .before .before .before .before .before in
+    let c27 = c23 .before .before .before .before in
+    (second-fewer (c27 .args .codes .now) (c23 .if1 .left) (c27 .pre .0) (c16 .shaped .ensures .1 .its-second), tt))
     (λ c κs. search needs)
     (λ c. search needs)
     (returns-6 t)

@@ -10,5 +10,7 @@ between-spec =
     (tie.spec
     (λ c κs. search needs)
     (λ c. search needs)
-    (λ c. rw (c .before .before .before .before .if1 .taken) (c .before .before .connective .ensures))
+    (λ c.
+    let c4 = c .before .before .before .before in
+    rw (c4 .if1 .taken) (c .before .before .connective .ensures))
     (λ c. rw (c .if1 .left) (none-put _)))

@@ -12,4 +12,6 @@ close-spec =
     (λ c κs. search needs)
     (λ c κs. search needs)
     (λ c. search needs)
-    (λ c h. before _ _ _ (c .before .before .before .before .before .before .sign .ensures) (c .before .before .finish .ensures h)))
+    (λ c h.
+    let c6 = c .before .before .before .before .before .before in
+    before _ _ _ (c6 .sign .ensures) (c .before .before .finish .ensures h)))

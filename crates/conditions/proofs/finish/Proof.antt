@@ -7,13 +7,17 @@ use Rattle.conditions.proofs.finish.Tie as tie
 
 returns : tie.Need-returns
 returns c =
+    let c7 = c .before .before .before .before .before .before .before in
+    let c11 = c7 .before .before .before .before in
+    let c14 = c11 .before .before .before in
     λ h.
-    rw (eq-eqb _ 1 (c .before .before .before .before .before .before .before .before .before .before .before .before .before .before .if1 .taken))
-    (before _ _ _ (c .before .before .before .before .before .before .before .before .before .before .before .bytes .ensures) (before _ _ _ (c .before .before .before .before .before .before .before .range .ensures h) (c .before .before .bytes2 .ensures)))
+    rw (eq-eqb _ 1 (c14 .if1 .taken))
+    (before _ _ _ (c11 .bytes .ensures) (before _ _ _ (c7 .range .ensures h) (c .before .before .bytes2 .ensures)))
 
 returns-2 : tie.Need-returns-2
 returns-2 c =
-    λ h. rw (ne-eqb _ 1 (c .before .before .before .before .before .before .if1 .left)) (c .before .before .sign .ensures)
+    let c6 = c .before .before .before .before .before .before in
+    λ h. rw (ne-eqb _ 1 (c6 .if1 .left)) (c .before .before .sign .ensures)
 
 pub finish-spec : {M : Type 1} → statement M
 finish-spec =

@@ -12,4 +12,6 @@ open-spec =
     (λ c. search needs)
     (λ c κs. search needs)
     (λ c. search needs)
-    (λ c h. before _ _ _ (c .before .before .before .before .before .before .before .begin .ensures h) (c .before .before .sign .ensures)))
+    (λ c h.
+    let c7 = c .before .before .before .before .before .before .before in
+    before _ _ _ (c7 .begin .ensures h) (c .before .before .sign .ensures)))

@@ -12,10 +12,14 @@ abbrev μ-loop : tie.MeasureT-loop
 μ-loop text e₀ e = 32 - e
 
 array-share-prefix-out : tie.Need-array-share-prefix-out Inv-loop μ-loop
-array-share-prefix-out c = event-room _ _ _ _ _ (c .before .before .before .before .event .ensures) _ (c .before .w .given .1) .0
+array-share-prefix-out c =
+    let c4 = c .before .before .before .before in
+    event-room _ _ _ _ _ (c4 .event .ensures) _ (c .before .w .given .1) .0
 
 slice-aggregate-write-all : tie.Need-slice-aggregate-write-all Inv-loop μ-loop
-slice-aggregate-write-all c = event-room _ _ _ _ _ (c .before .before .before .before .before .event .ensures) _ (c .before .before .w .given .1) .1
+slice-aggregate-write-all c =
+    let c5 = c .before .before .before .before .before in
+    event-room _ _ _ _ _ (c5 .event .ensures) _ (c .before .before .w .given .1) .1
 
 pub events-spec : {M : Type 1} → statement M
 events-spec =

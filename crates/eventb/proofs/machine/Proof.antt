@@ -5,10 +5,14 @@ use Rattle.eventb.proofs.machine.Statement.{statement}
 use Rattle.eventb.proofs.machine.Tie as tie
 
 array-share-prefix-out : tie.Need-array-share-prefix-out
-array-share-prefix-out c = opening-room _ _ _ _ (c .before .before .before .before .opening .ensures) _ (c .before .w .given .1) .0
+array-share-prefix-out c =
+    let c4 = c .before .before .before .before in
+    opening-room _ _ _ _ (c4 .opening .ensures) _ (c .before .w .given .1) .0
 
 slice-aggregate-write-all : tie.Need-slice-aggregate-write-all
-slice-aggregate-write-all c = opening-room _ _ _ _ (c .before .before .before .before .before .opening .ensures) _ (c .before .before .w .given .1) .1
+slice-aggregate-write-all c =
+    let c5 = c .before .before .before .before .before in
+    opening-room _ _ _ _ (c5 .opening .ensures) _ (c .before .before .w .given .1) .1
 
 pub machine-spec : {M : Type 1} → statement M
 machine-spec =

@@ -7,11 +7,14 @@ use Rattle.guarding.proofs.ask_second.Tie as tie
 
 returns : tie.Need-returns
 returns c =
-    λ h. asked-second (spelled (c .before .before .before .before .before .before .before .args .text .now) (c .before .before .before .before .before .before .before .args .v)) _ (c .before .before .before .before .before .before .before .args .code) (c .before .before .before .before .before .before .before .args .from) (c .before .before .before .before .before .before .before .args .after) (c .before .before .before .before .if1 .taken) (one-wrote (spelled (c .before .before .before .before .before .before .before .args .text .now) (c .before .before .before .before .before .before .before .args .v)) _ _ (c .before .before .idle-line .ensures h))
+    let c4 = c .before .before .before .before in
+    let c7 = c4 .before .before .before in
+    λ h. asked-second (spelled (c7 .args .text .now) (c7 .args .v)) _ (c7 .args .code) (c7 .args .from) (c7 .args .after) (c4 .if1 .taken) (one-wrote (spelled (c7 .args .text .now) (c7 .args .v)) _ _ (c .before .before .idle-line .ensures h))
 
 returns-2 : tie.Need-returns-2
 returns-2 c =
-    λ h. not-second (spelled (c .before .before .before .args .text .now) (c .before .before .before .args .v)) _ (c .before .before .before .args .code) (c .before .before .before .args .from) (c .before .before .before .args .after) (c .if1 .left) (none-wrote (spelled (c .before .before .before .args .text .now) (c .before .before .before .args .v)) _ _ _)
+    let c3 = c .before .before .before in
+    λ h. not-second (spelled (c3 .args .text .now) (c3 .args .v)) _ (c3 .args .code) (c3 .args .from) (c3 .args .after) (c .if1 .left) (none-wrote (spelled (c3 .args .text .now) (c3 .args .v)) _ _ _)
 
 pub ask-second-spec : {M : Type 1} → statement M
 ask-second-spec =

@@ -11,13 +11,19 @@ use Rattle.guarding.proofs.complete_line.Tie as tie
 
 returns : tie.Need-returns
 returns c =
-    λ p e f. no-condition (spelled (c .before .before .before .before .before .args .text .now) (c .before .before .before .before .before .args .v)) (c .before .before .before .before .before .args .k) (wanted false p) _ _ (sym (c .before .lacks .ensures p e) ∙ c .if1 .taken)
+    let c5 = c .before .before .before .before .before in
+    λ p e f. no-condition (spelled (c5 .args .text .now) (c5 .args .v)) (c5 .args .k) (wanted false p) _ _ (sym (c .before .lacks .ensures p e) ∙ c .if1 .taken)
 
 returns-2 : tie.Need-returns-2
 returns-2 c =
+    let c7 = c .before .before .before .before .before .before .before in
+    let c11 = c7 .before .before .before .before in
+    let c13 = c11 .before .before in
+    let c14 = c13 .before in
+    let c18 = c14 .before .before .before .before in
     λ p e f.
-    condition-wrote (spelled (c .before .before .before .before .before .before .before .before .before .before .before .before .before .before .before .before .before .before .args .text .now) (c .before .before .before .before .before .before .before .before .before .before .before .before .before .before .before .before .before .before .args .v)) (c .before .before .before .before .before .before .before .before .before .before .before .before .before .before .before .before .before .before .args .k) (wanted false p) (sym (c .before .before .before .before .before .before .before .before .before .before .before .before .before .before .lacks .ensures p e) ∙ c .before .before .before .before .before .before .before .before .before .before .before .before .before .if1 .left)
-    (before _ _ _ (c .before .before .before .before .before .before .before .before .before .before .before .label .ensures) (before _ _ _ (c .before .before .before .before .before .before .before .write .ensures p e (f .numbered) (f .few)) (c .before .before .bytes .ensures)))
+    condition-wrote (spelled (c18 .args .text .now) (c18 .args .v)) (c18 .args .k) (wanted false p) (sym (c14 .lacks .ensures p e) ∙ c13 .if1 .left)
+    (before _ _ _ (c11 .label .ensures) (before _ _ _ (c7 .write .ensures p e (f .numbered) (f .few)) (c .before .before .bytes .ensures)))
 
 pub complete-line-spec : {M : Type 1} → statement M
 complete-line-spec =

@@ -13,14 +13,17 @@ returns c =
 
 returns-2 : tie.Need-returns-2
 returns-2 c =
+    let c4 = c .before .before .before .before in
     let s = c .second .ensures in
-    (parts-cut _ _ _ (c .before .before .if1 .left) (s .0), omega (arith, s .1, length-take-le (c .before .before .before .before .args .last) (c .before .before .before .before .args .codes .now) (c .before .before .before .before .pre)))
+    (parts-cut _ _ _ (c .before .before .if1 .left) (s .0), omega (arith, s .1, length-take-le (c4 .args .last) (c4 .args .codes .now) (c4 .pre)))
 
 pub cut-spec : {M : Type 1} → statement M
 cut-spec =
     tie.close
     (tie.spec
     returns
-    (λ c. sym (length-take-le (c .before .before .before .args .last) (c .before .before .before .args .codes .now) (c .before .before .before .pre)))
+    (λ c.
+    let c3 = c .before .before .before in
+    sym (length-take-le (c3 .args .last) (c3 .args .codes .now) (c3 .pre)))
     (λ c κs. search needs)
     returns-2)

@@ -7,8 +7,10 @@ use Rattle.guarding.proofs.idle_line.Tie as tie
 
 returns : tie.Need-returns
 returns c =
+    let c7 = c .before .before .before .before .before .before .before in
+    let c11 = c7 .before .before .before .before in
     λ h.
-    same-put _ _ _ (before _ _ _ (c .before .before .before .before .before .before .before .before .before .before .before .label .ensures) (before _ _ _ (c .before .before .before .before .before .before .before .range .ensures h) (c .before .before .bytes .ensures))) (line-text _ _ _)
+    same-put _ _ _ (before _ _ _ (c11 .label .ensures) (before _ _ _ (c7 .range .ensures h) (c .before .before .bytes .ensures))) (line-text _ _ _)
 
 pub idle-line-spec : {M : Type 1} → statement M
 idle-line-spec =

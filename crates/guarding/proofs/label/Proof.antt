@@ -14,4 +14,7 @@ label-spec =
     (λ c. search needs)
     (λ c κs. search needs)
     (λ c. search needs)
-    (λ c. before _ _ _ (c .before .before .before .before .before .before .before .before .before .before .before .bytes .ensures) (before _ _ _ (c .before .before .before .before .before .before .before .number .ensures) (c .before .before .bytes2 .ensures))))
+    (λ c.
+    let c7 = c .before .before .before .before .before .before .before in
+    let c11 = c7 .before .before .before .before in
+    before _ _ _ (c11 .bytes .ensures) (before _ _ _ (c7 .number .ensures) (c .before .before .bytes2 .ensures))))

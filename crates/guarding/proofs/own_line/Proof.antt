@@ -8,7 +8,8 @@ use Rattle.guarding.proofs.own_line.Tie as tie
 
 returns : tie.Need-returns
 returns c =
-    λ h. same-put _ _ _ (c .before .before .idle-line .ensures (omega (arith, h))) (leaf-guard _ _ _ _ (c .before .before .before .before .if1 .taken))
+    let c4 = c .before .before .before .before in
+    λ h. same-put _ _ _ (c .before .before .idle-line .ensures (omega (arith, h))) (leaf-guard _ _ _ _ (c4 .if1 .taken))
 
 returns-2 : tie.Need-returns-2
 returns-2 c =

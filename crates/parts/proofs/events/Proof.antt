@@ -33,4 +33,6 @@ events-spec =
     let k = c .counted .ensures in
     let in-it = c .before .before .loop-test .taken in
     (ap₂ _+_ (l .inv .0) (k .0) ∙ sym (one-more cs (l .i) in-it), omega (arith, l .inv, k), omega (arith, in-it)))
-    (λ c. let l = c .before .loop in (l .inv .0 ∙ count-all (c .before .before .before .args .codes .now) (l .i) (omega (arith, c .loop-test .left)), omega (arith, l .inv))))
+    (λ c.
+    let c3 = c .before .before .before in
+    let l = c .before .loop in (l .inv .0 ∙ count-all (c3 .args .codes .now) (l .i) (omega (arith, c .loop-test .left)), omega (arith, l .inv))))

@@ -28,8 +28,13 @@ second-spec =
     let cs = c .before .before .before .before .args .codes .now in
     (sym (l .inv .0 ∙ at-begin cs (l .i) (l .n) (c .if1 .taken)), l .inv .1))
     (λ c. search needs)
-    (λ c. omega (arith, c .before .if1 .left, c .before .before .before .loop .inv))
-    (λ c κs. (c .before .before .loop-test .taken, omega (arith, c .before .before .before .loop .inv, c .before .if1 .left, c .before .before .before .before .before .good)))
+    (λ c.
+    let c3 = c .before .before .before in
+    omega (arith, c .before .if1 .left, c3 .loop .inv))
+    (λ c κs.
+    let c3 = c .before .before .before in
+    let c5 = c3 .before .before in
+    (c .before .before .loop-test .taken, omega (arith, c3 .loop .inv, c .before .if1 .left, c5 .good)))
     (λ c. omega (arith, c .before .before .if1 .left))
     (λ c.
     let l = c .before .before .before .before .loop in

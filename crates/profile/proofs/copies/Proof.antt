@@ -24,23 +24,32 @@ nodes-long s = sym (length-map (s .args .t1 .nodes) _) ∙ s .good .0 .1 .1 .0 .
 
 returns : tie.Need-returns Inv-loop μ-loop
 returns c =
-    let s = c .before .before .before .before .before .before in
-    let l = c .before .before .before .before .before .loop in
-    found-copies (s .args .t1 .nodes) (l .n) _ (omega (arith, nodes-long s, c .before .before .before .before .loop-test .taken)) (s .args .t1 .count)
-    (ltb-true (l .n) (s .args .t1 .count) (c .before .before .before .if1 .taken)) (sym (c .before .replicates .ensures) ∙ c .if2 .taken)
+    let c3 = c .before .before .before in
+    let c4 = c3 .before in
+    let c5 = c4 .before in
+    let c6 = c5 .before in
+    let s = c6 in
+    let l = c5 .loop in
+    found-copies (s .args .t1 .nodes) (l .n) _ (omega (arith, nodes-long s, c4 .loop-test .taken)) (s .args .t1 .count)
+    (ltb-true (l .n) (s .args .t1 .count) (c3 .if1 .taken)) (sym (c .before .replicates .ensures) ∙ c .if2 .taken)
 
 loop-again : tie.Need-loop-again Inv-loop μ-loop
 loop-again c =
-    let s = c .before .before .before .before .before .before in
-    let l = c .before .before .before .before .before .loop in (
-      one-more (s .args .t1 .nodes) (l .n) _ (omega (arith, nodes-long s, c .before .before .before .before .loop-test .taken)) (l .inv .0) (sym (c .before .replicates .ensures) ∙ c .if2 .left),
-      omega (arith, c .before .before .before .before .loop-test .taken),
-      omega (arith, ltb-true (l .n) (s .args .t1 .count) (c .before .before .before .if1 .taken)),
+    let c3 = c .before .before .before in
+    let c4 = c3 .before in
+    let c5 = c4 .before in
+    let c6 = c5 .before in
+    let s = c6 in
+    let l = c5 .loop in (
+      one-more (s .args .t1 .nodes) (l .n) _ (omega (arith, nodes-long s, c4 .loop-test .taken)) (l .inv .0) (sym (c .before .replicates .ensures) ∙ c .if2 .left),
+      omega (arith, c4 .loop-test .taken),
+      omega (arith, ltb-true (l .n) (s .args .t1 .count) (c3 .if1 .taken)),
     )
 
 returns-2 : tie.Need-returns-2 Inv-loop μ-loop
 returns-2 c =
-    let s = c .before .before .before in
+    let c3 = c .before .before .before in
+    let s = c3 in
     let l = c .before .before .loop in
     none-copies (s .args .t1 .nodes) (nodes-long s) (l .n) (s .args .t1 .count) (l .inv .0) (l .inv .2) (inl (ltb-false (l .n) (s .args .t1 .count) (c .if1 .left)))
 

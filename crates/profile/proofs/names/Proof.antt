@@ -22,10 +22,16 @@ nodes-long s = sym (length-map (s .args .d .nodes) _) ∙ s .good .0 .1 .1 .0 .1
 
 loop-again : tie.Need-loop-again Inv-loop μ-loop
 loop-again c =
-    let s = c .before .before .before .before .before .before .before .before .before .before .before .before .before .before .before .before .before .before in
-    let l = c .before .before .before .before .before .before .before .before .before .before .before .before .before .before .before .loop in
-    name-more (s .args .d) _ _ (l .e) (c .before .seek .result) (c .reset .result) (l .inv) (omega (arith, c .before .before .before .before .before .before .before .before .before .before .before .before .before .before .loop-test .taken)) (ltb-true (l .e) (s .args .d .events) (c .before .before .before .before .before .before .before .before .before .before .before .before .if1 .taken))
-    (columns-found (s .args .d) (l .e) (nodes-long s) (c .before .before .before .before .before .before .before .before .before .before .before .before .before .before .before .before .before .columns .ensures) (c .before .before .before .before .before .before .before .before .before .before .before .before .before .before .before .before .weigh .ensures) (c .before .seek .ensures)) (c .reset .ensures)
+    let c12 = c .before .before .before .before .before .before .before .before .before .before .before .before in
+    let c14 = c12 .before .before in
+    let c15 = c14 .before in
+    let c16 = c15 .before in
+    let c17 = c16 .before in
+    let c18 = c17 .before in
+    let s = c18 in
+    let l = c15 .loop in
+    name-more (s .args .d) _ _ (l .e) (c .before .seek .result) (c .reset .result) (l .inv) (omega (arith, c14 .loop-test .taken)) (ltb-true (l .e) (s .args .d .events) (c12 .if1 .taken))
+    (columns-found (s .args .d) (l .e) (nodes-long s) (c17 .columns .ensures) (c16 .weigh .ensures) (c .before .seek .ensures)) (c .reset .ensures)
 
 pub names-spec : {M : Type 1} → statement M
 names-spec =
@@ -45,5 +51,8 @@ names-spec =
     (λ c. search needs)
     (λ c. search needs)
     loop-again
-    (λ c n h l. c .before .before .before .loop .inv .its-names n (omega (arith, l, ltb-false (c .before .before .before .loop .e) (c .before .before .before .before .before .before .args .d .events) (c .if1 .left))))
+    (λ c n h l.
+    let c3 = c .before .before .before in
+    let c6 = c3 .before .before .before in
+    c3 .loop .inv .its-names n (omega (arith, l, ltb-false (c3 .loop .e) (c6 .args .d .events) (c .if1 .left))))
     (λ c n h l. c .before .loop .inv .its-names n (omega (arith, h, c .loop-test .left))))

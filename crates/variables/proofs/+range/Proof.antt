@@ -30,15 +30,20 @@ claims t = (is-reads.Asked, is-reads.Learnt, lead-reads.Asked, lead-reads.Learnt
 module _ (t : ℕ) where
   returns : range-lts.Need-returns (claims t) (range-at t) range.Post
   returns c =
-      λ h. same-put _ _ _ (c .before .before .is .ensures) (over-one _ _ _ _ (c .before .before .before .before .if1 .taken))
+      let c4 = c .before .before .before .before in
+      λ h. same-put _ _ _ (c .before .before .is .ensures) (over-one _ _ _ _ (c4 .if1 .taken))
 
   returns-2 : range-lts.Need-returns-2 (claims t) (range-at t) range.Post
   returns-2 c =
-      λ h. let l : 511 < c .before .before .before .before .args .from = c .if2 .taken in absurd (omega (arith, h, l))
+      let c4 = c .before .before .before .before in
+      λ h. let l : 511 < c4 .args .from = c .if2 .taken in absurd (omega (arith, h, l))
 
   returns-3 : range-lts.Need-returns-3 (claims t) (range-at t) range.Post
   returns-3 c =
-      λ h. same-put _ _ _ (before _ _ _ (c .before .before .before .before .before .before .before .before .before .before .before .lead .ensures) (before _ _ _ (c .before .before .before .before .before .before .before .range .ensures (omega (arith, h, c .before .before .before .before .before .before .before .before .before .before .before .before .before .before .if1 .left))) (c .before .before .bytes .ensures))) (over-more _ _ _ _ (c .before .before .before .before .before .before .before .before .before .before .before .before .before .before .if1 .left))
+      let c7 = c .before .before .before .before .before .before .before in
+      let c11 = c7 .before .before .before .before in
+      let c14 = c11 .before .before .before in
+      λ h. same-put _ _ _ (before _ _ _ (c11 .lead .ensures) (before _ _ _ (c7 .range .ensures (omega (arith, h, c14 .if1 .left))) (c .before .before .bytes .ensures))) (over-more _ _ _ _ (c14 .if1 .left))
 
 pub +range-spec : {M : Type 1} → statement M
 +range-spec = close μ-range λ t. range-lts.spec (claims t)
@@ -49,9 +54,14 @@ pub +range-spec : {M : Type 1} → statement M
     (returns t)
     (returns-2 t)
     (λ c κs. search needs)
-    (λ c. omega (arith, c .before .before .before .before .if2 .left))
+    (λ c.
+    let c4 = c .before .before .before .before in
+    omega (arith, c4 .if2 .left))
     (λ c. search needs)
-    (λ c κs. (omega (arith, c .before .before .before .before .before .before .before .before .before .pre .0, c .before .before .before .before .before .before .if1 .left), tt))
+    (λ c κs.
+    let c6 = c .before .before .before .before .before .before in
+    let c9 = c6 .before .before .before in
+    (omega (arith, c9 .pre .0, c6 .if1 .left), tt))
     (λ c. search needs)
     (λ c κs. search needs)
     (λ c. search needs)

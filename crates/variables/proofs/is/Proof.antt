@@ -8,7 +8,9 @@ use Rattle.variables.proofs.is.Tie as tie
 returns : tie.Need-returns
 unfolding formula
 returns c =
-    before _ _ _ (c .before .before .before .before .before .before .before .before .before .before .before .name .ensures) (before _ _ _ (c .before .before .before .before .before .before .bytes .ensures) (c .before .before .truth .ensures))
+    let c6 = c .before .before .before .before .before .before in
+    let c11 = c6 .before .before .before .before .before in
+    before _ _ _ (c11 .name .ensures) (before _ _ _ (c6 .bytes .ensures) (c .before .before .truth .ensures))
 
 pub is-spec : {M : Type 1} → statement M
 is-spec =

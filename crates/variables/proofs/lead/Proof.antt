@@ -6,7 +6,9 @@ use Rattle.variables.proofs.lead.Tie as tie
 
 returns : tie.Need-returns
 returns c =
-    before _ _ _ (c .before .before .before .before .before .before .before .before .before .before .bytes .ensures) (before _ _ _ (c .before .before .before .before .before .before .is .ensures) (c .before .before .connective .ensures))
+    let c6 = c .before .before .before .before .before .before in
+    let c10 = c6 .before .before .before .before in
+    before _ _ _ (c10 .bytes .ensures) (before _ _ _ (c6 .is .ensures) (c .before .before .connective .ensures))
 
 pub lead-spec : {M : Type 1} → statement M
 lead-spec =

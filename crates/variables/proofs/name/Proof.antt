@@ -9,7 +9,8 @@ use Rattle.variables.proofs.name.Tie as tie
 returns : tie.Need-returns
 unfolding spelled
 returns c =
-    let m = c .before .before .before .before .before .before .before .before .before .before .before in
+    let c11 = c .before .before .before .before .before .before .before .before .before .before .before in
+    let m = c11 in
     let w = c .before .before in
     before _ _ _ (rw (m .before .before .byte .ensures) at (m .mark .ensures))
     (same-put _ _ _ (w .bytes .ensures) (w .before .word .ensures .its-word ∙ rw (w .before .before .number .ensures)))

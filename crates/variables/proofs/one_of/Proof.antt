@@ -9,7 +9,11 @@ one-of-spec =
     (tie.spec
     (λ c κs. search needs)
     (λ c. search needs)
-    (λ c. rw (c .before .before .before .before .if1 .taken) (c .before .before .bytes .ensures))
+    (λ c.
+    let c4 = c .before .before .before .before in
+    rw (c4 .if1 .taken) (c .before .before .bytes .ensures))
     (λ c κs. search needs)
     (λ c. search needs)
-    (λ c. rw (c .before .before .before .before .if1 .left) (c .before .before .bytes2 .ensures)))
+    (λ c.
+    let c4 = c .before .before .before .before in
+    rw (c4 .if1 .left) (c .before .before .bytes2 .ensures)))

@@ -6,7 +6,9 @@ use Rattle.machines.proofs.eventb.head.Tie as tie
 
 returns : tie.Need-returns
 returns c =
-    before _ _ _ (c .before .before .before .before .before .before .before .before .before .before .before .bytes .ensures) (before _ _ _ (c .before .before .before .before .before .before .before .name .ensures) (c .before .before .bytes2 .ensures))
+    let c7 = c .before .before .before .before .before .before .before in
+    let c11 = c7 .before .before .before .before in
+    before _ _ _ (c11 .bytes .ensures) (before _ _ _ (c7 .name .ensures) (c .before .before .bytes2 .ensures))
 
 pub head-spec : {M : Type 1} → statement M
 head-spec =
