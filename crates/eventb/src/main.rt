@@ -3,7 +3,7 @@
 use libc::STDIN_FILENO;
 use libc::STDOUT_FILENO;
 use machines::eventb;
-use machines::eventb::Written;
+use modelling::Written;
 
 // No event of a machine has more bytes, and nor has what stands before the first.
 const ROOM: usize = 65536;

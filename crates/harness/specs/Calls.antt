@@ -12,9 +12,9 @@ use Rattle.events.specs.declared.Label.{Label}
 use Rattle.events.specs.Labels.{Valued}
 use Rattle.events.specs.Names.{Named}
 use Rattle.events.specs.Reports.{report as label-report}
-use Rattle.machines.specs.Answers.{Event-answer}
-use Rattle.machines.specs.Reports.{report as written-report}
-use Rattle.machines.specs.declared.eventb.Written.{Written}
+use Rattle.modelling.specs.Answers.{Event-answer}
+use Rattle.modelling.specs.Reports.{report as written-report}
+use Rattle.modelling.specs.declared.Written.{Written}
 use Rattle.packing.specs.Packed.{packed}
 
 -- Translation's answer, and the lent bytes as it leaves them.

@@ -21,12 +21,12 @@ use Rattle.profile.specs.code.Profiles.{outside-of}
 use Rattle.modelling.specs.Texts.{event-text, opening-text}
 use Rattle.modelling.proofs.Guarded.{guards-right}
 use Rattle.modelling.proofs.Machines.{event-fits, opening-fits}
-use Rattle.machines.specs.Reports.{report}
-use Rattle.machines.specs.Answers.{Answered, refused, outside, inside, Filled, no-event, event, Event-answer, Opening-answer}
+use Rattle.modelling.specs.Reports.{report}
+use Rattle.modelling.specs.Answers.{Answered, refused, outside, inside, Filled, no-event, event, Event-answer, Opening-answer}
 use Rattle.machines.specs.code.Drawn.{passed-on, Drawn, Admission, unread, outside as outside-profiled, inside as admitted}
 use Rattle.machines.specs.declared.eventb.Admitted.{Admitted}
-use Rattle.machines.specs.declared.eventb.Written.{Written}
-use Rattle.machines.specs.declared.eventb.Written.the-variants.{Bytes, Refused}
+use Rattle.modelling.specs.declared.Written.{Written}
+use Rattle.modelling.specs.declared.Written.the-variants.{Bytes, Refused}
 use Rattle.machines.proofs.Drawn.{outside-profile, inside-profile, its-shown}
 
 -- Bytes that were written from the front on, and fit.

@@ -3,4 +3,3 @@ pub mod Drawn
 pub mod Written
 pub mod Answers
 pub mod Promised
-pub mod Bounds

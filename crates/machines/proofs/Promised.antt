@@ -1,6 +1,6 @@
 -- What the contract of each public call says, as the checker reads it off the source, is what its definition says: the theorems above cite the calls by these
 -- laws alone, so a contract that says less is refused here.
-use Rattle.machines.specs.Answers.{Event-answer, Opening-answer}
+use Rattle.modelling.specs.Answers.{Event-answer, Opening-answer}
 use Rattle.machines.proofs.eventb.event.Reads as event-reads
 use Rattle.machines.proofs.eventb.opening.Reads as opening-reads
 

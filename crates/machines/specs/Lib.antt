@@ -1,4 +1,1 @@
-pub mod Reports
-pub mod Answers
-pub mod Bounds
 pub mod code

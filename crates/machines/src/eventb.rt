@@ -3,17 +3,12 @@ ghost use Prim.Native.Nat.{_<_};
 ghost use Rattle.output.specs.Buffer.{buffer, put-all};
 ghost use Rattle.variables.specs.code.Spelled.{spelled};
 ghost use Rattle.modelling.specs.Texts.{event-text, opening-text};
-ghost use Rattle.machines.specs.Answers.{Event-answer, Opening-answer};
+ghost use Rattle.modelling.specs.Answers.{Event-answer, Opening-answer};
 ghost use Rattle.machines.specs.code.Drawn.{passed-on, head as head-of, Drawn, Admission};
 use diagram::Diagram;
+use modelling::Written;
 use reading::Answer;
 use variables::Variables;
-
-// How many bytes were written, or the refusal with its number and place.
-pub enum Written {
-    Bytes(usize),
-    Refused(u8, usize),
-}
 
 // Reading's refusal, passed on.
 fn passed_on(answer: Answer) -> Written

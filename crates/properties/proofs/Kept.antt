@@ -28,8 +28,8 @@ use Rattle.events.specs.Labels.{Valued}
 use Rattle.events.specs.Listing.{Listed}
 use Rattle.events.specs.declared.Label.{Label}
 use Rattle.events.proofs.Promised as events
-use Rattle.machines.specs.Answers.{Event-answer, Opening-answer}
-use Rattle.machines.specs.declared.eventb.Written.{Written}
+use Rattle.modelling.specs.Answers.{Event-answer, Opening-answer}
+use Rattle.modelling.specs.declared.Written.{Written}
 use Rattle.machines.proofs.Promised as machines
 use Rattle.properties.specs.Calls.{Made, Reads, Prints, Translates, Names, Values, Lists, Writes-event, Writes-opening, Checks, Steps, Finishes, Offers, Updates, C-checks, C-steps, C-finishes, C-offers}
 

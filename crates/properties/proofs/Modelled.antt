@@ -15,8 +15,8 @@ use Rattle.modelling.specs.Profile.{in-profile}
 use Rattle.modelling.specs.Texts.{guards-of, actions-of, event-text}
 use Rattle.modelling.specs.Guards.{Guards}
 use Rattle.modelling.proofs.Machines.{machine-right, actions-set}
-use Rattle.machines.specs.Answers.{short, refused, outside, inside, Filled, Event-of, no-event, event, Event-answer}
-use Rattle.machines.specs.declared.eventb.Written.{Written}
+use Rattle.modelling.specs.Answers.{short, refused, outside, inside, Filled, Event-of, no-event, event, Event-answer}
+use Rattle.modelling.specs.declared.Written.{Written}
 use Rattle.properties.specs.Modelled.{Modelled, Events-modelled}
 use Rattle.properties.proofs.Kept.{steps-met, translates-met, writes-event-met}
 

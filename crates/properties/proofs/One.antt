@@ -10,7 +10,7 @@ use Rattle.reading.proofs.Bounds.{read-bounded}
 use Rattle.printer.proofs.Bounds.{print-bounded}
 use Rattle.translator.proofs.Bounds.{translate-bounded}
 use Rattle.events.proofs.Bounds.{name-bounded, values-bounded, list-bounded}
-use Rattle.machines.proofs.Bounds.{event-bounded, opening-bounded}
+use Rattle.modelling.proofs.Bounds.{event-bounded, opening-bounded}
 use Rattle.properties.specs.Calls.{Updates}
 use Rattle.properties.specs.One.{NothingAsked, Property-1}
 use Rattle.properties.proofs.Kept.{reads-met, prints-met, translates-met, names-met, values-met, lists-met, writes-event-met, writes-opening-met, checks-met, steps-met, finishes-met, offers-met, updates-met, c-checks-met, c-steps-met, c-finishes-met, c-offers-met}

@@ -12,7 +12,7 @@ use Rattle.reading.specs.declared.ReadResult.{ReadResult}
 use Rattle.printer.specs.declared.Printed.{Printed}
 use Rattle.translator.specs.declared.Translated.{Translated}
 use Rattle.events.specs.declared.Label.{Label}
-use Rattle.machines.specs.declared.eventb.Written.{Written}
+use Rattle.modelling.specs.declared.Written.{Written}
 use Rattle.reader.proofs.read.Reads as read-reads
 use Rattle.printer.proofs.print.Reads as print-reads
 use Rattle.translator.proofs.translate.Reads as translate-reads

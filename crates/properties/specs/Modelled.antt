@@ -23,8 +23,8 @@ use Rattle.formulas.specs.Formulas.{Formula, all-hold, All-speak}
 use Rattle.formulas.specs.Lines.{event-lines}
 use Rattle.modelling.specs.Profile.{in-profile}
 use Rattle.modelling.specs.Texts.{naming, actions-of}
-use Rattle.machines.specs.Reports.{report}
-use Rattle.machines.specs.declared.eventb.Written.{Written}
+use Rattle.modelling.specs.Reports.{report}
+use Rattle.modelling.specs.declared.Written.{Written}
 use Rattle.properties.specs.Calls.{Translates, Steps, Writes-event}
 
 -- The bytes of event e that were written over the front of a lent buffer.

@@ -19,9 +19,9 @@ use Rattle.events.specs.Names.{Named}
 use Rattle.events.specs.Listing.{Listed}
 use Rattle.events.specs.Bounds.{Name-bounded, Values-bounded, List-bounded}
 use Rattle.events.specs.declared.Label.{Label}
-use Rattle.machines.specs.Answers.{Event-answer, Opening-answer}
-use Rattle.machines.specs.Bounds as machines
-use Rattle.machines.specs.declared.eventb.Written.{Written}
+use Rattle.modelling.specs.Answers.{Event-answer, Opening-answer}
+use Rattle.modelling.specs.Bounds as machines
+use Rattle.modelling.specs.declared.Written.{Written}
 use Rattle.reader.proofs.read.Reads as read-reads
 use Rattle.printer.proofs.print.Reads as print-reads
 use Rattle.translator.proofs.translate.Reads as translate-reads

@@ -1,6 +1,6 @@
 -- `eventb::events` is safe and ends: what is written of an event fits its buffer. The loop's measure is how many events there may be. Assumes nothing.
 use Prim.Native.Nat.{_-_}
-use Rattle.machines.proofs.Bounds.{event-room}
+use Rattle.modelling.proofs.Bounds.{event-room}
 use borrow.Author.Needs.{needs}
 use Rattle.eventb.proofs.events.Statement.{statement}
 use Rattle.eventb.proofs.events.Tie as tie

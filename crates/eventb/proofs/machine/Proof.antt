@@ -1,5 +1,5 @@
 -- `eventb::machine` is safe and ends: what stands before the first event fits its buffer. Assumes nothing.
-use Rattle.machines.proofs.Bounds.{opening-room}
+use Rattle.modelling.proofs.Bounds.{opening-room}
 use borrow.Author.Needs.{needs}
 use Rattle.eventb.proofs.machine.Statement.{statement}
 use Rattle.eventb.proofs.machine.Tie as tie

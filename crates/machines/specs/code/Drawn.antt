@@ -14,8 +14,8 @@ use Rattle.reading.specs.declared.Answer.the-variants.{Done, Refused as Unread}
 use Rattle.formulas.specs.Lines.{Naming}
 use Rattle.modelling.specs.Profile.{in-profile}
 use Rattle.machines.specs.declared.eventb.Admitted.{Admitted}
-use Rattle.machines.specs.declared.eventb.Written.{Written}
-use Rattle.machines.specs.declared.eventb.Written.the-variants.{Bytes, Refused}
+use Rattle.modelling.specs.declared.Written.{Written}
+use Rattle.modelling.specs.declared.Written.the-variants.{Bytes, Refused}
 
 -- Reading's refusal, passed on; a text that was read has none.
 abbrev pub passed-on : Answer → Written

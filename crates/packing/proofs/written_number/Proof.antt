@@ -1,5 +1,5 @@
 -- `packing::written_number` meets its contract, answer by answer.
-use Rattle.machines.specs.Reports.{report as written-report}
+use Rattle.modelling.specs.Reports.{report as written-report}
 use Rattle.packing.proofs.Packs.{by-case, one, refused}
 use borrow.Author.Needs.{needs}
 use Rattle.packing.proofs.written_number.Statement.{statement}

@@ -12,13 +12,13 @@ use Rattle.base.proofs.Truth.{clash}
 use Rattle.diagram.specs.Tree.{Flow}
 use Rattle.reading.proofs.Bounds.{refused-at-near}
 use Rattle.reading.proofs.Exact.{accepted-once, refused-at-once, never-both}
 use Rattle.modelling.specs.Profile.{in-profile}
 use Rattle.modelling.specs.Texts.{event-text, opening-text}
-use Rattle.machines.specs.Reports.{report}
-use Rattle.machines.specs.Answers.{Answered, short, refused, outside, inside, Filled, Event-of, no-event, event, Event-answer, Opening-answer}
-use Rattle.machines.specs.Bounds.{Bounded, its-result, its-refusal}
-use Rattle.machines.specs.declared.eventb.Written.{Written}
-use Rattle.machines.specs.declared.eventb.Written.the-variants.{Bytes, Refused}
+use Rattle.modelling.specs.Reports.{report}
+use Rattle.modelling.specs.Answers.{Answered, short, refused, outside, inside, Filled, Event-of, no-event, event, Event-answer, Opening-answer}
+use Rattle.modelling.specs.Bounds.{Bounded, its-result, its-refusal}
+use Rattle.modelling.specs.declared.Written.{Written}
+use Rattle.modelling.specs.declared.Written.the-variants.{Bytes, Refused}
 
 -- ---- reports
 -- Two answers that report the same are the same.

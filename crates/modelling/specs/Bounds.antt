@@ -1,13 +1,13 @@
 -- Property 1, for the calls that write machines: an answer is so many bytes within the limits, or one refusal, "which leaves lent memory untouched". Which bytes, and which
--- refusal by which condition, `machines.specs.Answers.Event-answer` and `Opening-answer` say, each of one answer alone: `machines.proofs.Bounds.one-event`, `one-opening`.
+-- refusal by which condition, `modelling.specs.Answers.Event-answer` and `Opening-answer` say, each of one answer alone: `modelling.proofs.Bounds.one-event`, `one-opening`.
 use mathlib.Core.Path.{_≡_}
 use mathlib.Core.Logic.{_⊎_}
 use mathlib.Core.List.{List, [], _∷_}
 use Prim.Native.Nat.{ℕ, _≤_}
 use lib.ListN.{length, drop}
 use Rattle.base.specs.Reports.{result, refusal}
-use Rattle.machines.specs.Reports.{report}
-use Rattle.machines.specs.declared.eventb.Written.{Written}
+use Rattle.modelling.specs.Reports.{report}
+use Rattle.modelling.specs.declared.Written.{Written}
 
 -- At most 65,536 bytes at the front of what was lent, whose length stays, as do the bytes past them.
 pub record Result (lent : List ℕ) (r : Written) (left : List ℕ) : Type 0 where

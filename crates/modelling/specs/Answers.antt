@@ -10,11 +10,11 @@ use Rattle.diagram.specs.Tree.{Flow}
 use Rattle.diagram.specs.Count.{flow-events}
 use Rattle.reading.specs.Accepted.{Accepted}
 use Rattle.reading.specs.Refused.{RefusedAt}
 use Rattle.modelling.specs.Profile.{in-profile}
 use Rattle.modelling.specs.Texts.{guards-of, event-text, opening-text}
 use Rattle.modelling.specs.Guards.{Guards}
-use Rattle.machines.specs.Reports.{report}
-use Rattle.machines.specs.declared.eventb.Written.{Written}
+use Rattle.modelling.specs.Reports.{report}
+use Rattle.modelling.specs.declared.Written.{Written}
 
 -- The answer to a text, and the lent bytes after it, whatever it is that is written of a diagram: number 1 for under 65,536 bytes, before all others; reading's refusal; number 16
 -- for a diagram outside the profile; or what is answered of the diagram. "Lent buffers and records keep their bytes" where the text or its diagram is refused.
