@@ -1,4 +1,4 @@
--- The actions of an event. Card 2 of document 02: "The event's own variable is set first; those it clears follow in event order, as FALSE."
+-- The actions of an event. Card 2 of document 02: first its own variable is set, and then what it clears becomes FALSE, "in event order".
 use mathlib.Core.Bool.{Bool, true, false, cond}
 use mathlib.Core.List.{List, [], _∷_}
 use Prim.Native.Nat.{ℕ, zero, suc, _<_}

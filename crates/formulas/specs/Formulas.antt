@@ -1,4 +1,4 @@
--- Formulas over the variables of a machine. Card 2 of document 02: "A guard is built from `v_fill = TRUE`, `v_fill = FALSE`, `(A & B)` and `(A or B)`."
+-- Formulas over the variables of a machine. Card 2 of document 02 builds a guard from four forms: a variable that is TRUE, one that is FALSE, both of two formulas, either of them.
 use mathlib.Core.Bool.{Bool, true, false, not, _&&_, _||_}
 use mathlib.Core.List.{List, [], _∷_}
 use Prim.Native.Nat.{ℕ, _<_}

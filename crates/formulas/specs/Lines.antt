@@ -1,5 +1,5 @@
--- The text of an event, line by line. Card 2 of document 02: "The lines are `event` and the name, `where`, guards `@grd_1 ..` counted on, `then`, actions `@act_1 ..`
--- as `v_fill := TRUE`, and `end`, each ended by byte 10."
+-- The text of an event, line by line. Card 2 of document 02: `event` with the name, `where` and the guards, `then` and the actions, `end`; guards and actions each with a label
+-- and a number, "counted on" from 1; byte 10 after every line.
 use mathlib.Core.Bool.{Bool, cond}
 use mathlib.Core.List.{List, [], _∷_, _++_}
 use Prim.Native.Nat.{ℕ, suc}
@@ -13,14 +13,14 @@ use Rattle.formulas.specs.Actions.{Action}
 abbrev pub Naming : Type 0
 Naming = ℕ → List ℕ
 
--- "A leaf's variable and event are v_ and its name, a reset's r_ and its flow's name."
+-- What card 2 calls the variable of a leaf, `v_` and the leaf's name, and that of a reset, `r_` and the name of its flow; the event is called the same.
 abbrev pub variable : Event → List ℕ
 variable l = cond (l .reset) (bytes "r_") (bytes "v_") ++ l .name
 
 abbrev pub truth : Bool → List ℕ
 truth b = cond b (bytes "TRUE") (bytes "FALSE")
 
--- "`v_fill = TRUE`, `v_fill = FALSE`, `(A & B)` and `(A or B)`"
+-- The four forms of a formula, as card 2 writes them.
 unfoldable pub formula : Naming → Formula → List ℕ
 formula v (is n b) = v n ++ (bytes " = " ++ truth b)
 formula v (both f g) = bytes "(" ++ (formula v f ++ (bytes " & " ++ (formula v g ++ bytes ")")))

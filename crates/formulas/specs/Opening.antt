@@ -12,12 +12,12 @@ unfoldable pub variable-lines : Naming → ℕ → ℕ → List ℕ
 variable-lines v from zero = []
 variable-lines v from (suc n) = (v from ++ bytes "\n") ++ variable-lines v (suc from) n
 
--- "invariants that type them", from number k on.
+-- An invariant for each variable, that it is Boolean, from number k on.
 unfoldable pub invariant-lines : Naming → ℕ → ℕ → ℕ → List ℕ
 invariant-lines v k from zero = []
 invariant-lines v k from (suc n) = labelled (bytes "@inv_") k (v from ++ bytes " : BOOL") ++ invariant-lines v (suc k) (suc from) n
 
--- "INITIALISATION with all FALSE"
+-- At the beginning every variable is FALSE: the actions of the event INITIALISATION.
 unfoldable pub cleared-all : ℕ → ℕ → List Action
 cleared-all from zero = []
 cleared-all from (suc n) = becomes from false ∷ cleared-all (suc from) n

@@ -1,4 +1,4 @@
--- What the calls answer and leave in the lent buffer. Card 2: "Answers: 16, diagram outside this profile, after 11; a shorter buffer is 1."
+-- What the calls answer and leave in the lent buffer. Card 2 has number 1 for a shorter buffer, and number 16 for a diagram "outside this profile", after 11.
 use mathlib.Core.Path.{_≡_}
 use mathlib.Core.Bool.{true, false}
 use mathlib.Core.List.{List, [], _∷_}
@@ -17,14 +17,14 @@ use Rattle.modelling.specs.Reports.{report}
 use Rattle.modelling.specs.declared.Written.{Written}
 
 -- The answer to a text, and the lent bytes after it, whatever it is that is written of a diagram: number 1 for under 65,536 bytes, before all others; reading's refusal; number 16
--- for a diagram outside the profile; or what is answered of the diagram. "Lent buffers and records keep their bytes" where the text or its diagram is refused.
+-- for a diagram outside the profile; or what is answered of the diagram. What is refused changes no lent byte.
 pub data Answered (text lent : List ℕ) (r : Written) (left : List ℕ) (Of : Flow → Type 0) : Type 0 where
   short : length lent < 65536 → report r ≡ refusal 1 0 → left ≡ lent → Answered text lent r left Of
   refused : (number place : ℕ) → 65536 ≤ length lent → RefusedAt text number place → report r ≡ refusal number place → left ≡ lent → Answered text lent r left Of
   outside : (d : Flow) → 65536 ≤ length lent → Accepted text d → in-profile d ≡ false → report r ≡ refusal 16 0 → left ≡ lent → Answered text lent r left Of
   inside : (d : Flow) → 65536 ≤ length lent → Accepted text d → in-profile d ≡ true → Of d → Answered text lent r left Of
 
--- These bytes stand over the front of the lent ones: "A lent buffer of 65,536 bytes is always enough." "On success, bytes past those written stay too."
+-- These bytes stand over the front of the lent ones, which always have room for them; the lent bytes past them stay.
 pub record Filled (bytes lent : List ℕ) (r : Written) (left : List ℕ) : Type 0 where
   pub its-count : report r ≡ result (length bytes ∷ [])
   pub its-bytes : left ≡ fill lent bytes

@@ -1,4 +1,4 @@
--- What the guards of an event have to say. Card 2: "Evaluated on the bits of any record that a run reaches, the guards must hold exactly where a step would take the event."
+-- What the guards of an event have to say. Card 2: on the bits of a record "that a run reaches" they hold exactly if a step takes the event.
 use mathlib.Core.Path.{_≡_}
 use mathlib.Core.Logic.{_↔_}
 use mathlib.Core.Bool.{true}

@@ -32,7 +32,7 @@ pub record Machine-of (d : Flow) : Type 0 where
   pub its-runs : (w : List ℕ) → Takes (flow-events d) (guards-of d) (actions-of d) blank w ↔ Begins (expand d) w
   -- no event sets a variable twice, so its actions may happen at once, as Event-B has them
   pub its-actions : (e n : ℕ) → times n (map (λ (a : Action). a .variable) (actions-of d e)) ≤ 1
-  -- "A lent buffer of 65,536 bytes is always enough."
+  -- 65,536 bytes are "always enough"
   pub events-fit : (e : ℕ) → e < flow-events d → length (event-text d e) ≤ 65536
   pub opening-fits : length (opening-text d) ≤ 65536
   pub its-texts : One-reading d

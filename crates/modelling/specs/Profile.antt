@@ -1,4 +1,4 @@
--- The diagrams that are written as machines. Card 2 of document 02: "From a diagram without replicators and with at most 32 events"; number 16 for any other.
+-- The profile of card 2 of document 02, the diagrams that are written as machines: no replicator, and at most 32 events. Any other gets number 16.
 use mathlib.Core.Bool.{Bool, false, not, _&&_}
 use mathlib.Core.List.{[]}
 use lib.Dec.{leb}

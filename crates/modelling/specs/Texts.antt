@@ -16,7 +16,7 @@ use Rattle.formulas.specs.Opening.{opening-lines}
 abbrev pub naming : Flow → Naming
 naming d n = variable (event-of (expand d) n)
 
--- The formulas that are chosen for the guards of event e. Card 2: "how the conditions are put is free". They depend on the diagram and the event alone.
+-- The formulas that are chosen for the guards of event e. Card 2 leaves them "free". They depend on the diagram and the event alone.
 unfoldable pub guards-of : Flow → ℕ → List Formula
 guards-of d e = conditions (expand d) e
 

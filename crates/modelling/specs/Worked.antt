@@ -67,7 +67,7 @@ opening =
 abbrev pub Opening-worked : Type 0
 Opening-worked = opening-text U ≡ opening
 
--- "without replicators and with at most 32 events": T and U; a root of 32 leaves and of 33; replicators inside each other, and one that makes one copy.
+-- In the profile or not: T and U; a root of 32 leaves and of 33; replicators inside each other, and one that makes one copy.
 abbrev pub profiles : List (Flow × Bool)
 profiles =
     (T, true) ∷ (U, true) ∷ (wide (plain (leaf [])) 0 (plain (leaf [])) 31, true) ∷ (wide (plain (leaf [])) 0 (plain (leaf [])) 32, false) ∷ (nested, false)

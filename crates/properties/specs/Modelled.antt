@@ -1,5 +1,4 @@
--- Card 2 of document 02, over calls that were made: the text of an event, and that its guards say where a step takes it. "Evaluated on the bits of any record that a run
--- reaches, the guards must hold exactly where a step would take the event."
+-- Card 2 of document 02, over calls that were made: the text of an event, and that on the bits of every record "that a run reaches" its guards say where a step takes it.
 use mathlib.Core.Path.{_≡_}
 use mathlib.Core.Logic.{_↔_}
 use mathlib.Core.Bool.{true}
@@ -29,7 +28,7 @@ use Rattle.properties.specs.Calls.{Translates, Steps, Writes-event}
 
 -- The bytes of event e that were written over the front of a lent buffer.
 pub record Modelled (text : List ℕ) (d : Flow) (e : ℕ) (lent : List ℕ) (w : Written) (left : List ℕ) : Type 0 where
-  -- "how the conditions are put is free": there are formulas, at least one,
+  -- how the guards are put is left open: there are formulas, at least one,
   pub guards : List Formula
   pub some : guards ≡ [] → ⊥
   -- whose rendering, in the card's lines, is what was written,
@@ -44,8 +43,7 @@ pub record Modelled (text : List ℕ) (d : Flow) (e : ℕ) (lent : List ℕ) (w 
   pub hold : (buffer : List ℕ) (t : Translated) (table : List ℕ) → Translates text buffer t table → (count : ℕ) → t ≡ Bytes count → (book : List ℕ) → Begins (expand d) book
       → (s : Stepped) → Steps (take count table) (record-after d book) e s → (all-hold guards (bit-at (record-after d book .bits)) ≡ true) ↔ (s .answer ≡ Done)
 
--- "From a diagram without replicators and with at most 32 events, write for one event at a time its Event-B event": any accepted text in the profile, any event of its diagram,
--- any buffer of 65,536 bytes or more, and whatever `eventb::event` answered and left.
+-- Any accepted text in the profile, any event of its diagram, any buffer of 65,536 bytes or more, and whatever `eventb::event` answered and left.
 abbrev pub Events-modelled : Type 0
 Events-modelled =
     (text : List ℕ) (d : Flow) → Accepted text d → in-profile d ≡ true → (e : ℕ) → e < flow-events d → (lent : List ℕ) → 65536 ≤ length lent
