@@ -13,16 +13,16 @@ use Rattle.formulas.specs.Conditions.{some-true, all-false, complete-when, sett
 use Rattle.formulas.specs.Lines.{formula, guard-lines, action-lines, event-lines}
 use Rattle.formulas.specs.Opening.{variable-lines, invariant-lines, cleared-all, opening-lines}
 use Rattle.modelling.specs.Profile.{in-profile}
-use Rattle.modelling.specs.Texts.{guards-of, actions-of, event-text, opening-text}
-use Rattle.modelling.specs.Worked.{texts, Texts-worked, Opening-worked, profiles, Profiled}
+use Rattle.modelling.specs.Texts.{guards-of, actions-of, event-text, opening-text, event-texts, machine-text}
+use Rattle.modelling.specs.Worked.{texts, Texts-worked, Machine-worked, profiles, Profiled}
 
 pub texts-worked : Texts-worked texts
 unfolding flow-events flow-process owns event-of events clears first digits cleared actions some-true all-false complete-when settled-when conditions formula guard-lines action-lines event-lines guards-of actions-of event-text
 texts-worked = refl
 
-pub opening-worked : Opening-worked
-unfolding flow-events flow-process owns event-of digits action-lines variable-lines invariant-lines cleared-all opening-lines opening-text
-opening-worked = refl
+pub machine-worked : Machine-worked
+unfolding flow-events flow-process owns event-of events clears first digits cleared actions some-true all-false complete-when settled-when conditions formula guard-lines action-lines event-lines guards-of actions-of event-text variable-lines invariant-lines cleared-all opening-lines opening-text event-texts machine-text
+machine-worked = refl
 
 pub profiled : Profiled profiles
 unfolding flow-events flow-tree-nodes some-replicates in-profile
