@@ -1,5 +1,5 @@
 -- The answers of the calls, case by case.
-use mathlib.Core.Path.{_≡_, refl, sym, ap, subst, _∙_}
+use mathlib.Core.Path.{_≡_, refl, sym, ap, _∙_}
 use mathlib.Core.Bool.{true, false}
 use mathlib.Core.List.{List}
 use Prim.Native.Nat.{ℕ, _≤_, _<_}
@@ -9,14 +9,13 @@ use Rattle.diagram.specs.Tree.{Flow}
 use Rattle.diagram.specs.Count.{flow-events}
 use Rattle.diagram.specs.declared.Diagram.{Diagram}
 use Rattle.reading.specs.Answers.{read-of}
-use Rattle.reading.specs.Accepted.{Accepted}
 use Rattle.reading.specs.Shows.{Shows}
 use Rattle.reading.specs.declared.Answer.the-variants.{Done, Refused as Unread}
 use Rattle.reading.specs.declared.ReadResult.{ReadResult}
-use Rattle.reading.proofs.Exact.{accepted-exactly, refused-exactly}
-use Rattle.reading.proofs.Shown.{accepted-shown}
+use Rattle.reading.proofs.Exact.{refused-exactly}
 use Rattle.output.specs.Buffer.{buffer, put-all}
 use Rattle.output.proofs.Buffers.{whole}
+use Rattle.translator.proofs.Cases.{its-tree, its-shown as tree-shown}
 use Rattle.profile.specs.code.Profiles.{outside-of}
 use Rattle.modelling.specs.Texts.{event-text, opening-text}
 use Rattle.modelling.proofs.Guarded.{guards-right}
@@ -43,23 +42,20 @@ module _ (text : List ℕ) (o : ReadResult) (read : o ≡ read-of text) (a : Adm
       unread number place (refused-exactly text number place .0 (sym (ap (λ (x : ReadResult). x .answer) read) ∙ q)) (e ∙ ap passed-on q)
 
   module _ (is-done : o .answer ≡ Done) where
-    its-tree : (d : Flow) × Accepted text d
-    its-tree = accepted-exactly text .0 (sym (ap (λ (x : ReadResult). x .answer) read) ∙ is-done)
-
-    tree-shown : Shows text (its-tree .0) (o .diagram)
-    tree-shown = subst (λ (x : ReadResult). Shows text (its-tree .0) (x .diagram)) (sym read) (accepted-shown text (its-tree .0) (its-tree .1))
-
     -- A diagram outside the profile, and one in it.
     pub outside-admission : true ≡ outside-of (o .diagram) → a .answer ≡ Refused 16 0 → Admission text a
-    outside-admission h e = outside-profiled (its-tree .0) (its-tree .1) (outside-profile text (its-tree .0) (o .diagram) tree-shown (sym h)) e
+    outside-admission h e =
+        let (d, b) = its-tree text o read is-done in
+        outside-profiled d b (outside-profile text d (o .diagram) (tree-shown text o read is-done) (sym h)) e
 
     pub inside-admission : false ≡ outside-of (o .diagram) → a .diagram ≡ o .diagram → a .answer ≡ Bytes 0 → Admission text a
     inside-admission h q e =
+        let (d, b) = its-tree text o read is-done in
         admitted
         (record {
-          tree = its-tree .0;
-          accepted = its-tree .1;
-          profile = inside-profile text (its-tree .0) (o .diagram) tree-shown (sym h);
+          tree = d;
+          accepted = b;
+          profile = inside-profile text d (o .diagram) (tree-shown text o read is-done) (sym h);
           its-diagram = q ∙ ap (λ (x : ReadResult). x .diagram) read;
         })
         e

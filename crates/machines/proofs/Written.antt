@@ -21,7 +21,7 @@ use Rattle.postfix.specs.Postfix.{postfix}
 use Rattle.postfix.proofs.Short.{postfix-short}
 use Rattle.output.specs.Buffer.{buffer, put-all}
 use Rattle.output.proofs.Buffers.{before, same-put}
-use Rattle.translator.proofs.Tables.{codes, numbers-are}
+use Rattle.translator.proofs.Tables.{its-numbers, its-size, codes, numbers-are}
 use Rattle.formulas.specs.Actions.{becomes, actions}
 use Rattle.formulas.specs.Conditions.{conditions}
 use Rattle.formulas.specs.Lines.{guard-lines, action-lines, event-lines}
@@ -33,7 +33,6 @@ use Rattle.guarding.specs.code.Asked.{Fits, Guarded}
 use Rattle.guarding.specs.declared.Guards.{Guards}
 use Rattle.profile.specs.code.Profiles.{Names}
 use Rattle.modelling.specs.Texts.{naming, guards-of, actions-of, event-text, opening-text}
-use Rattle.modelling.proofs.Guarded.{its-numbers, its-size}
 use Rattle.modelling.proofs.Profile.{few-events}
 use Rattle.machines.specs.code.Drawn.{head, Drawn}
 use Rattle.machines.proofs.Cleared.{from-most, its-actions}

@@ -98,7 +98,7 @@ module _ (lent : List ℕ) (r : Written) (left : List ℕ) where
         past = rw (f .its-bytes) (fill-past lent text);
       }
 
-  pub answered-bounded : (text : List ℕ) (Of : Flow → Type 0) → ((d : Flow) → 65536 ≤ length lent → Of d → Bounded lent r left)
+  answered-bounded : (text : List ℕ) (Of : Flow → Type 0) → ((d : Flow) → 65536 ≤ length lent → Of d → Bounded lent r left)
       → Answered text lent r left Of → Bounded lent r left
   answered-bounded text Of of (short h e u) =
       its-refusal record { number = 1; place = 0; reported = e; one-of = inl (omega arith, omega arith); near = omega arith; untouched = u }

@@ -13,6 +13,7 @@ use Rattle.tokens.specs.Words.{lettered, every, short, named}
 use Rattle.grammar.specs.Named.{all-named, flow-named}
 use Rattle.reading.specs.Accepted.{Accepted}
 use Rattle.process.specs.Expand.{expand, flow-name}
+use Rattle.translator.proofs.Tables.{its-numbers, its-size}
 use Rattle.formulas.specs.Actions.{All-set}
 use Rattle.formulas.proofs.Spoken.{actions-below}
 use Rattle.formulas.proofs.Machine.{takes-iff-begins, once}
@@ -23,7 +24,7 @@ use Rattle.modelling.specs.Texts.{naming, guards-of, actions-of, event-t
 use Rattle.modelling.specs.Machines.{Machine-of}
 use Rattle.modelling.proofs.Profile.{few-events}
 use Rattle.modelling.proofs.Names.{short-names, proper-names}
-use Rattle.modelling.proofs.Guarded.{its-numbers, its-size, guards-right}
+use Rattle.modelling.proofs.Guarded.{guards-right}
 
 -- The root's name is short.
 root-named : (d : Flow) → flow-named d ≡ true → length (flow-name d) ≤ 24

@@ -23,10 +23,10 @@ use Rattle.translator.proofs.Tables.{codes, count-is, count-fits, numbe
 
 module _ (text : List ℕ) (o : ReadResult) (read : o ≡ read-of text) where
   module _ (is-done : o .answer ≡ Done) where
-    its-tree : (d : Flow) × Accepted text d
+    pub its-tree : (d : Flow) × Accepted text d
     its-tree = accepted-exactly text .0 (sym (ap (λ (x : ReadResult). x .answer) read) ∙ is-done)
 
-    its-shown : Shows text (its-tree .0) (o .diagram)
+    pub its-shown : Shows text (its-tree .0) (o .diagram)
     its-shown = subst (λ (x : ReadResult). Shows text (its-tree .0) (x .diagram)) (sym read) (accepted-shown text (its-tree .0) (its-tree .1))
 
     -- The diagram is one that was read.

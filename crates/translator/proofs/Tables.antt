@@ -34,10 +34,10 @@ abbrev pub codes : Diagram → Place
 codes g = expanded g (replicate 1024 0)
 
 module _ (text : List ℕ) (d : Flow) (a : Accepted text d) where
-  its-numbers : Numbered (expand d) 0
+  pub its-numbers : Numbered (expand d) 0
   its-numbers = expand-laid d (a .keeps .sizes) .numbered
 
-  its-size : size (expand d) ≡ flow-events d
+  pub its-size : size (expand d) ≡ flow-events d
   its-size = let e = expand-laid d (a .keeps .sizes) .end in omega (arith, e)
 
   its-short : length (postfix (expand d)) ≤ 1024
