@@ -1,17 +1,13 @@
 -- The test that a number lies between two others, and what it says of a byte's class.
-use mathlib.Core.Path.{_≡_, refl}
-use mathlib.Core.Bool.{Bool, true, false, not, _||_, cond}
-use mathlib.Core.List.{List}
+use mathlib.Core.Path.{_≡_}
+use mathlib.Core.Bool.{Bool, true, false, _||_, cond}
 use Prim.Native.Char.{code as byte}
-use Prim.Native.Nat.{ℕ, zero, suc, _≤_, _<_}
+use Prim.Native.Nat.{ℕ, _≤_, _<_}
 use native.Mathlib.Omega.{arith}
 use lib.Dec.{eqb, leb}
 use borrow.Author.Tests.{le-leb, leb-true}
 use Rattle.base.proofs.Truth.{and-l, and-r, and-i, is-false}
-use Rattle.tokens.specs.Classes.{between, spacing, class-of, within, foreign}
-use Rattle.tokens.specs.Words.{front}
-use Rattle.tokens.specs.Scanned.{first-foreign}
-use Rattle.tokens.proofs.Front.{front-same}
+use Rattle.tokens.specs.Classes.{between, spacing, class-of}
 
 pub between-in : (a b x : ℕ) → a ≤ x → x ≤ b → between a b x ≡ true
 between-in a b x h l = and-i (le-leb a x h) (le-leb x b l)
@@ -41,11 +37,3 @@ class-small b =
     (either-small (between (byte "0") (byte "9") b) 6 _ (omega arith)
     (either-small (eqb b (byte "_")) 7 _ (omega arith)
     (either-small (spacing b) 8 0 (omega arith) (omega arith))))))))
-
--- Not foreign is one of the other classes.
-known-at : (c : ℕ) → c ≤ 8 → between 1 8 c ≡ not (between 0 0 c)
-known-at zero h = refl
-known-at (suc c) h = rw (between-in 1 8 (suc c) (omega arith) h, between-high 0 0 (suc c) (omega arith))
-
-pub foreign-known : (text : List ℕ) → front (within 1 8) text ≡ first-foreign text
-foreign-known text = front-same (within 1 8) (λ b. not (foreign b)) (λ b. known-at (class-of b) (class-small b)) text

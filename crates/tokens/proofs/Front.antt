@@ -1,4 +1,4 @@
--- Laws of `front`, by places of a text, which the proofs of `past`, `foreign` and the token laws cite.
+-- Laws of `front`, by places of a text, which the proofs of `past` and the token laws cite.
 use mathlib.Core.Path.{_≡_, refl, sym, _∙_}
 use mathlib.Core.Bool.{Bool, true, false, cond}
 use mathlib.Core.List.{List, [], _∷_}
@@ -31,12 +31,6 @@ pub front-le : (t : ℕ → Bool) (bs : List ℕ) → front t bs ≤ length bs
 unfolding front
 front-le t [] = omega arith
 front-le t (b ∷ bs) = cond-le (t b) (front t bs) (length bs) (front-le t bs)
-
--- Two tests that agree have the same front.
-pub front-same : (t u : ℕ → Bool) → ((b : ℕ) → t b ≡ u b) → (bs : List ℕ) → front t bs ≡ front u bs
-unfolding front
-front-same t u h [] = refl
-front-same t u h (b ∷ bs) = rw (h b, front-same t u h bs)
 
 -- Past the front the next byte does not pass.
 after : (t : ℕ → Bool) (b : ℕ) (bs : List ℕ) (v : Bool) → t b ≡ v → front t (drop (front t bs) bs) ≡ 0

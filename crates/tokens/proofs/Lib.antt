@@ -3,5 +3,8 @@ pub mod Front
 pub mod Between
 pub mod Steps
 pub mod Spans
+pub mod Foreign
 pub mod WordAt
+pub mod WordCodes
 pub mod Worked
+pub mod Tokens

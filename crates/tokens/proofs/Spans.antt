@@ -90,7 +90,7 @@ pub places-below : (text : List ℕ) (k : ℕ) → k < length (tokens text) → 
 places-below text k h = rw (place-at text k) (stands text k h .below)
 
 -- A token whose first byte is a word's is the word that starts at its place.
-first-of : (l : List ℕ) → getD (take (width l) l) 0 0 ≡ getD l 0 0
+pub first-of : (l : List ℕ) → getD (take (width l) l) 0 0 ≡ getD l 0 0
 unfolding width
 first-of [] = refl
 first-of (b ∷ bs) = getD-take (width (b ∷ bs)) (b ∷ bs) 0 0 (width-some (b ∷ bs) (omega arith))
@@ -100,7 +100,7 @@ unfolding width front
 width-worded [] h = refl
 width-worded (b ∷ bs) h = rw h
 
-whole-word : (text : List ℕ) (s : Span) → Stands text s → worded (getD (s .bytes) 0 0) ≡ true → word-at text (s .place) ≡ s .bytes
+pub whole-word : (text : List ℕ) (s : Span) → Stands text s → worded (getD (s .bytes) 0 0) ≡ true → word-at text (s .place) ≡ s .bytes
 whole-word text s t h =
     let d = drop (s .place) text in
     let w = ap (λ (l : List ℕ). worded (getD l 0 0)) (t .is) ∙ ap worded (first-of d) in

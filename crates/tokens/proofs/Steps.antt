@@ -1,5 +1,5 @@
--- The tokens of a text one after the other. `from text at` are those that stand at `at` or after it: they do not depend on the number
--- that bounds `spans`, blanks before them make no difference, and where a token stands it is the first of them.
+-- The tokens of a text one after the other. `rest text at`, those that stand at `at` or after it, do not depend on the number that bounds
+-- `spans`, blanks before them make no difference, and where a token stands it is the first of them.
 use mathlib.Core.Path.{_≡_, refl, sym, ap, _∙_}
 use mathlib.Core.Bool.{Bool, true, false, cond}
 use mathlib.Core.List.{List, [], _∷_}
@@ -11,6 +11,7 @@ use lib.Seq.{drop-drop}
 use Rattle.tokens.specs.Classes.{worded, blank}
 use Rattle.tokens.specs.Words.{front, blanks}
 use Rattle.tokens.specs.Spans.{Span, width, cut, spans, spans-of}
+use Rattle.tokens.specs.Rest.{rest}
 use Rattle.tokens.proofs.Front.{front-le, front-again}
 
 wide-if : (v : Bool) (n : ℕ) → 0 < cond v (cond v (suc n) 0) 1
@@ -54,32 +55,28 @@ spans-bound (suc f) (suc g) at l h k =
     let e = rest-le l in
     spans-bound f g p m (omega arith) (omega arith))
 
--- The tokens at a place or after it.
-unfoldable pub from : List ℕ → ℕ → List Span
-from text at = spans (length text - at) at (drop at text)
+pub rest-start : (text : List ℕ) → spans-of text ≡ rest text 0
+unfolding rest spans-of
+rest-start text = rw (sub-zero (length text))
 
-pub from-start : (text : List ℕ) → spans-of text ≡ from text 0
-unfolding from spans-of
-from-start text = rw (sub-zero (length text))
+pub rest-end : (text : List ℕ) (at : ℕ) → length text ≤ at → rest text at ≡ []
+unfolding rest spans
+rest-end text at h = rw (sub-eq-zero-of-le h)
 
-pub from-end : (text : List ℕ) (at : ℕ) → length text ≤ at → from text at ≡ []
-unfolding from spans
-from-end text at h = rw (sub-eq-zero-of-le h)
+rest-bound : (f : ℕ) (text : List ℕ) (at : ℕ) → length text - at ≤ f → spans f at (drop at text) ≡ rest text at
+unfolding rest
+rest-bound f text at h = spans-bound f (length text - at) at (drop at text) (rw (length-drop at text) h) (rw (length-drop at text) (omega arith))
 
-from-bound : (f : ℕ) (text : List ℕ) (at : ℕ) → length text - at ≤ f → spans f at (drop at text) ≡ from text at
-unfolding from
-from-bound f text at h = spans-bound f (length text - at) at (drop at text) (rw (length-drop at text) h) (rw (length-drop at text) (omega arith))
-
-from-cut : (text : List ℕ) (at : ℕ)
-    → from text at ≡ cut (λ p m. spans (length text) p m) (at + blanks (drop at text)) (drop (at + blanks (drop at text)) text)
+rest-cut : (text : List ℕ) (at : ℕ)
+    → rest text at ≡ cut (λ p m. spans (length text) p m) (at + blanks (drop at text)) (drop (at + blanks (drop at text)) text)
 unfolding spans
-from-cut text at = rw (← drop-drop (blanks (drop at text)) at text) (sym (from-bound (suc (length text)) text at (omega arith)))
+rest-cut text at = rw (← drop-drop (blanks (drop at text)) at text) (sym (rest-bound (suc (length text)) text at (omega arith)))
 
 -- Blanks make no difference.
-pub from-skip : (text : List ℕ) (at i : ℕ) → i ≡ at + blanks (drop at text) → (blanks (drop i text) ≡ 0) × (from text at ≡ from text i)
-from-skip text at i e =
+pub rest-skip : (text : List ℕ) (at i : ℕ) → i ≡ at + blanks (drop at text) → (blanks (drop i text) ≡ 0) × (rest text at ≡ rest text i)
+rest-skip text at i e =
     let z : blanks (drop i text) ≡ 0 = rw e (front-again blank text at) in
-    (z, from-cut text at ∙ rw (← e, from-cut text i, z, add-zero i))
+    (z, rest-cut text at ∙ rw (← e, rest-cut text i, z, add-zero i))
 
 cut-some : (r : ℕ → List ℕ → List Span) (at : ℕ) (l : List ℕ) → 0 < length l
     → cut r at l ≡ record { place = at; bytes = take (width l) l } ∷ r (at + width l) (drop (width l) l)
@@ -87,11 +84,11 @@ cut-some r at [] h = let z : ⊥ = omega arith in absurd z
 cut-some r at (b ∷ bs) h = refl
 
 -- Where no blank stands, and anything is left, a token stands and then those after it. `e` is its end.
-pub from-token : (text : List ℕ) (at e : ℕ) → at < length text → blanks (drop at text) ≡ 0 → e ≡ at + width (drop at text)
-    → from text at ≡ record { place = at; bytes = take (e - at) (drop at text) } ∷ from text e
-from-token text at e h z E =
+pub rest-token : (text : List ℕ) (at e : ℕ) → at < length text → blanks (drop at text) ≡ 0 → e ≡ at + width (drop at text)
+    → rest text at ≡ record { place = at; bytes = take (e - at) (drop at text) } ∷ rest text e
+rest-token text at e h z E =
     let l : 0 < length (drop at text) = rw (length-drop at text) (omega arith) in
     let n : e - at ≡ width (drop at text) = omega arith in
-    from-cut text at
+    rest-cut text at
     ∙ rw (z, add-zero at, cut-some (λ p m. spans (length text) p m) at (drop at text) l, n, drop-drop (width (drop at text)) at text, ← E)
-    (ap {B = List Span} (λ ss. record { place = at; bytes = take (width (drop at text)) (drop at text) } ∷ ss) (from-bound (length text) text e (omega arith)))
+    (ap {B = List Span} (λ ss. record { place = at; bytes = take (width (drop at text)) (drop at text) } ∷ ss) (rest-bound (length text) text e (omega arith)))

@@ -1,5 +1,5 @@
 -- Words that start at a place of a text.
-use mathlib.Core.Path.{_≡_, sym, _∙_, ap}
+use mathlib.Core.Path.{_≡_, refl, sym, _∙_, ap}
 use mathlib.Core.Bool.{true, false, false≢true}
 use mathlib.Core.List.{List, [], _∷_}
 use Prim.Native.Nat.{ℕ, suc, _+_, _-_, _≤_, _<_}
@@ -9,14 +9,15 @@ use denote.Ref.{RefT, now}
 use lib.Dec.{ltb}
 use lib.ListN.{length, getD, take, drop, length-drop, drop-of-length-le, List·getD-eq-default}
 use lib.Seq.{drop-cons, length-take-le}
-use borrow.Author.Tests.{ltb-true, ltb-false}
+use borrow.Author.Tests.{ltb-true, ltb-false, eq-eqb}
 use Rattle.diagram.specs.Tree.{Name}
+use Rattle.diagram.specs.Names.{same}
 use Rattle.base.proofs.Truth.{by-cases}
-use Rattle.tokens.specs.Classes.{between, class-of, worded}
+use Rattle.base.proofs.Compared.{other-byte}
+use Rattle.tokens.specs.Classes.{class-of, worded}
 use Rattle.tokens.specs.Words.{front, word-at}
 use Rattle.tokens.specs.Parts.{Word}
 use Rattle.tokens.proofs.Front.{front-le}
-use Rattle.tokens.proofs.Between.{between-in}
 
 -- A word that starts with a byte goes on after it.
 abbrev run-of : List ℕ → Name
@@ -100,13 +101,13 @@ starts : (text : List ℕ) (at : ℕ) → Starts text at
 starts text at =
     by-cases (worded (getD text at 0)) (λ e. some (a-word text at e) e (word-on text at e)) (λ e. none (no-word text at e))
 
--- The first byte of a word, or none, by the class c of what stands there.
-module _ (text : List ℕ) (at : ℕ) {b c : ℕ} (B : b ≡ getD text at 0) (C : c ≡ class-of b) where
-  pub letter-none : between 5 7 c ≡ false → 0 ≡ getD (word-at text at) 0 0
-  letter-none f = rw (no-word text at (rw (← B, ← C) f))
+-- The first byte of a word, or none, by what stands there.
+module _ (text : List ℕ) (at : ℕ) {b : ℕ} (B : b ≡ getD text at 0) where
+  pub letter-none : worded b ≡ false → 0 ≡ getD (word-at text at) 0 0
+  letter-none f = rw (no-word text at (rw (← B) f))
 
-  pub letter-some : 5 ≤ c → c ≤ 7 → b ≡ getD (word-at text at) 0 0
-  letter-some l u = B ∙ rw (word-on text at (rw (← B, ← C) (between-in 5 7 c l u)))
+  pub letter-some : worded b ≡ true → b ≡ getD (word-at text at) 0 0
+  letter-some f = B ∙ rw (word-on text at (rw (← B) f))
 
 -- A word whose first byte is 0 is none.
 pub zero-none : (text : List ℕ) (at : ℕ) → getD (word-at text at) 0 0 ≡ 0 → word-at text at ≡ []
@@ -123,3 +124,24 @@ some-on text at x e h = go (starts text at)
     go : Starts text at → (at < length text) × (word-at text at ≡ x ∷ word-at text (at + 1))
     go (none q) = absurd (h (e ∙ ap (λ (v : Name). getD v 0 0) q))
     go (some l w q) = (l, q ∙ ap (λ (b : ℕ). b ∷ word-at text (at + 1)) (sym (e ∙ ap (λ (v : Name). getD v 0 0) q)))
+
+-- Two words go on, and what is left of them decides whether they are the same.
+pub record Onward (text : List ℕ) (a b : ℕ) : Type 0 where
+  pub left : a < length text
+  pub right : b < length text
+  pub rest : same (word-at text a) (word-at text b) ≡ same (word-at text (a + 1)) (word-at text (b + 1))
+
+-- Two words compared by their first bytes: none has one, or both have the same, and the rest decides.
+module _ (text : List ℕ) (a b x y : ℕ) (X : x ≡ getD (word-at text a) 0 0) (Y : y ≡ getD (word-at text b) 0 0) where
+  pub words-differ : (x ≡ y → ⊥) → false ≡ same (word-at text a) (word-at text b)
+  words-differ f = other-byte (word-at text a) (word-at text b) 0 (λ q. f (X ∙ q ∙ sym Y))
+
+  module _ (e : x ≡ y) where
+    pub words-end : x ≡ 0 → true ≡ same (word-at text a) (word-at text b)
+    words-end z = rw (zero-none text a (sym X ∙ z), zero-none text b (sym Y ∙ sym e ∙ z))
+
+    pub words-on : (x ≡ 0 → ⊥) → Onward text a b
+    words-on f =
+        let p = some-on text a x X f in
+        let q = some-on text b x (e ∙ Y) f in
+        record { left = p .0; right = q .0; rest = rw (p .1, q .1, eq-eqb x x refl) }

@@ -3,7 +3,7 @@ use mathlib.Core.Path.{refl}
 use Rattle.tokens.specs.Classes.{class-of}
 use Rattle.tokens.specs.Words.{front}
 use Rattle.tokens.specs.Spans.{width, spans, spans-of}
-use Rattle.tokens.specs.Scanned.{first-long, scan-of}
+use Rattle.tokens.specs.Scanned.{foreign-in, first-long, scan-of}
 use Rattle.tokens.specs.Worked.{byte-classes, texts, Classed, Scanned}
 
 pub classed : Classed byte-classes
@@ -11,5 +11,5 @@ unfolding class-of
 classed = refl
 
 pub scanned : Scanned texts
-unfolding class-of front width spans spans-of first-long scan-of
+unfolding class-of front width spans spans-of foreign-in first-long scan-of
 scanned = refl

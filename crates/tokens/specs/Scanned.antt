@@ -1,19 +1,22 @@
 -- Document 01, "Numbers for what is turned away", numbers 2, 3 and 4: what is refused before the grammar is looked at.
-use mathlib.Core.Bool.{not, cond}
+use mathlib.Core.Bool.{cond}
 use mathlib.Core.List.{List, [], _∷_}
 use Prim.Native.Nat.{ℕ}
 use lib.Dec.{ltb}
-use lib.ListN.{length}
+use lib.ListN.{length, getD}
 use Rattle.tokens.specs.Classes.{foreign}
-use Rattle.tokens.specs.Words.{front, short}
+use Rattle.tokens.specs.Words.{short}
 use Rattle.tokens.specs.Spans.{Span, spans-of}
-use Rattle.base.specs.Fill.{fill}
 use Rattle.tokens.specs.declared.Scan.{Scan}
 use Rattle.tokens.specs.declared.Scan.the-variants.{Tokens, Refused}
 
--- Number 3: the place of the first foreign byte, or the text's length.
+-- Number 3: the place of the first token whose first byte is foreign, or the number given. A foreign byte is a token of its own.
+unfoldable pub foreign-in : List Span → ℕ → ℕ
+foreign-in [] none = none
+foreign-in (s ∷ ss) none = cond (foreign (getD (s .bytes) 0 0)) (s .place) (foreign-in ss none)
+
 abbrev pub first-foreign : List ℕ → ℕ
-first-foreign text = front (λ b. not (foreign b)) text
+first-foreign text = foreign-in (spans-of text) (length text)
 
 -- Number 4: the place of the first token of over 24 bytes, or the number given.
 unfoldable pub first-long : List Span → ℕ → ℕ
@@ -28,8 +31,3 @@ scan-of text =
     (cond (ltb (first-foreign text) (length text)) (Refused 3 (first-foreign text))
     (cond (ltb (first-long (spans-of text) (length text)) (length text)) (Refused 4 (first-long (spans-of text) (length text)))
     (Tokens (length (spans-of text)))))
-
--- A lent list after a scan: values are written over its front, or it is untouched where the text is refused.
-abbrev pub written : Scan → List ℕ → List ℕ → List ℕ
-written (Tokens n) values lent = fill lent values
-written (Refused c at) values lent = lent

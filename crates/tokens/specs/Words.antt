@@ -31,9 +31,13 @@ abbrev pub place-in : List Name → ℕ → ℕ → Name → ℕ
 place-in [] k none w = none
 place-in (n ∷ ns) k none w = cond (same w n) k (place-in ns (suc k) none w)
 
+-- The number of a word among those that are the keywords, the first of which has the number 7; 0 for any other word.
+abbrev pub keyword-in : List Name → Name → ℕ
+keyword-in words w = place-in words 7 0 w
+
 -- The number of a keyword: 7 flow, 8 leaf, 9 and, 10 or, 11 xor, 12 all, 13 some, 14 one, 15 loop; 0 for any other word.
 unfoldable pub keyword : Name → ℕ
-keyword w = place-in keywords 7 0 w
+keyword w = keyword-in keywords w
 
 -- "at most 24 bytes"
 abbrev pub short : Name → Bool

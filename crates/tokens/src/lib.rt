@@ -3,3 +3,10 @@ pub enum Scan {
     Tokens(usize),
     Refused(u8, usize),
 }
+
+// A token: its number, the place of its first byte, and the place past its last.
+pub struct Token {
+    pub code: u8,
+    pub start: usize,
+    pub end: usize,
+}
