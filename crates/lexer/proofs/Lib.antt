@@ -1,3 +1,4 @@
-mod Ways
-pub mod Filled
-mod Answer
+pub mod Ways
+mod Rows
+mod Along
+pub mod Positions

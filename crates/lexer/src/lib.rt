@@ -1,20 +1,20 @@
 ghost use mathlib.Core.Path.{_≡_};
-ghost use mathlib.Core.Bool.{true};
-ghost use Prim.Native.Nat.{_+_, _≤_, _<_};
-ghost use lib.ListN.{getD, length, drop};
+ghost use mathlib.Core.Bool.{cond};
+ghost use Prim.Native.Nat.{_+_, _-_, _≤_, _<_};
+ghost use lib.ListN.{getD, length, take, drop};
 ghost use Rattle.diagram.specs.Names.{same as alike};
-ghost use Rattle.tokens.specs.Classes.{class-of, within, worded};
-ghost use Rattle.tokens.specs.Words.{front, blanks, word-at, place-in, keyword as keyword-of, numeral as numeral-of, code as code-of};
+ghost use Rattle.tokens.specs.Classes.{between, class-of, within, worded as worded-byte};
+ghost use Rattle.tokens.specs.Words.{front, blanks, word-at, keyword-in, numeral as numeral-of, word-code};
 ghost use Rattle.tokens.specs.Parts.{Word};
-ghost use Rattle.lexer.specs.code.Cuts.{cuts, rising};
-ghost use Rattle.lexer.specs.code.Table.{Classified};
-ghost use Rattle.tokens.specs.Spans.{spans-of, width, codes as codes-of, places as places-of};
-ghost use Rattle.tokens.specs.Scanned.{first-foreign, first-long, scan-of, written};
-ghost use Rattle.base.specs.Fill.{fill};
-use tokens::Scan;
+ghost use Rattle.tokens.specs.Spans.{width, spans-of};
+ghost use Rattle.tokens.specs.Rest.{Next};
+ghost use Rattle.tokens.specs.Scanned.{first-foreign, first-long};
+ghost use Rattle.lexer.specs.Lexicon.{Lexicon, word-in, words-in};
+use tokens::Token;
 
-// The class of each byte: 0 foreign, 1 to 4 the signs ( ) , : in this order, 5 letter, 6 digit, 7 underscore, 8 blank.
-const CLASS: [u8; 256] = [
+// The class of each byte: 0 foreign, 1 to 4 the signs ( ) , : in this order, 5 letter, 6 digit, 7 underscore, 8 blank. Then, from 256 on, a row of 16
+// numbers for each keyword: how many letters it has, and its letters.
+const LEXICON: [u8; 400] = [
     0,
     0,
     0,
@@ -271,30 +271,174 @@ const CLASS: [u8; 256] = [
     0,
     0,
     0,
+    4,
+    102,
+    108,
+    111,
+    119,
+    0,
+    0,
+    0,
+    0,
+    0,
+    0,
+    0,
+    0,
+    0,
+    0,
+    0,
+    4,
+    108,
+    101,
+    97,
+    102,
+    0,
+    0,
+    0,
+    0,
+    0,
+    0,
+    0,
+    0,
+    0,
+    0,
+    0,
+    3,
+    97,
+    110,
+    100,
+    0,
+    0,
+    0,
+    0,
+    0,
+    0,
+    0,
+    0,
+    0,
+    0,
+    0,
+    0,
+    2,
+    111,
+    114,
+    0,
+    0,
+    0,
+    0,
+    0,
+    0,
+    0,
+    0,
+    0,
+    0,
+    0,
+    0,
+    0,
+    3,
+    120,
+    111,
+    114,
+    0,
+    0,
+    0,
+    0,
+    0,
+    0,
+    0,
+    0,
+    0,
+    0,
+    0,
+    0,
+    3,
+    97,
+    108,
+    108,
+    0,
+    0,
+    0,
+    0,
+    0,
+    0,
+    0,
+    0,
+    0,
+    0,
+    0,
+    0,
+    4,
+    115,
+    111,
+    109,
+    101,
+    0,
+    0,
+    0,
+    0,
+    0,
+    0,
+    0,
+    0,
+    0,
+    0,
+    0,
+    3,
+    111,
+    110,
+    101,
+    0,
+    0,
+    0,
+    0,
+    0,
+    0,
+    0,
+    0,
+    0,
+    0,
+    0,
+    0,
+    4,
+    108,
+    111,
+    111,
+    112,
+    0,
+    0,
+    0,
+    0,
+    0,
+    0,
+    0,
+    0,
+    0,
+    0,
+    0,
 ];
 
-// The table, made once for a whole run of bytes.
-fn classes() -> [u8; 256]
-    ensures { λ r. ⌜ Classified r ⌝ }
+// The table, made once by who reads a text.
+pub fn lexicon() -> [u8; 400]
+    ensures { λ r. ⌜ Lexicon r ⌝ }
 {
-    CLASS
+    LEXICON
 }
 
-fn class(b: u8) -> u8
+pub fn class(b: u8, lexicon: &[u8; 400]) -> u8
+    requires { ⌜ Lexicon (now lexicon) ⌝ }
     ensures { λ r. ⌜ r ≡ class-of b ⌝ }
 {
-    let table = classes();
-    table[base::wide(b)]
+    lexicon[base::wide(b)]
 }
 
 // Past the bytes from `at` on whose class is one of those from `low` to `high`.
-fn past(text: &[u8], at: usize, low: u8, high: u8) -> usize
+fn past(text: &[u8], at: usize, low: u8, high: u8, lexicon: &[u8; 400]) -> usize
+    requires { ⌜ Lexicon (now lexicon) ⌝ }
     ensures { λ r. ⌜ r ≡ at + front (within low high) (drop at (now (text .entry))) ⌝ }
 {
-    let table = classes();
     let mut i = at;
     while i < text.len() {
-        let c = table[base::wide(text[i])];
+        let c = class(text[i], lexicon);
         if c < low {
             return i;
         }
@@ -307,100 +451,218 @@ fn past(text: &[u8], at: usize, low: u8, high: u8) -> usize
 }
 
 // Past the blanks from `at` on: what stands between tokens.
-pub fn skip(text: &[u8], at: usize) -> usize
+pub fn gap(text: &[u8], at: usize, lexicon: &[u8; 400]) -> usize
+    requires { ⌜ Lexicon (now lexicon) ⌝ }
     ensures { λ r. ⌜ r ≡ at + blanks (drop at (now (text .entry))) ⌝ }
 {
-    past(text, at, 8, 8)
+    past(text, at, 8, 8, lexicon)
 }
 
-// The end of the word that starts at `at`.
-fn word_end(text: &[u8], at: usize) -> usize
-    ensures { λ r. ⌜ r ≡ at + front worded (drop at (now (text .entry))) ⌝ }
+// Whether the n bytes from `a` on are the word of a row.
+fn row_is(text: &[u8], a: usize, n: usize, lexicon: &[u8; 400], row: usize) -> bool
+    requires { ⌜ (a + n ≤ length (now text)) × (n < 15) × (row + 16 ≤ 400) × (length (now lexicon) ≡ 400) ⌝ }
+    ensures { λ r. ⌜ r ≡ alike (take n (drop a (now (text .entry)))) (word-in (now (lexicon .entry)) row) ⌝ }
 {
-    past(text, at, 5, 7)
-}
-
-// The number of a word among others, counted from `first`, and `none` where it is none of them. Each of the others ends before a place of `ends`, and
-// the next starts after that place.
-fn place(word: &[u8], words: &[u8], ends: &[u8], first: u8, none: u8) -> u8
-    requires { ⌜ (rising 0 (now ends) (length (now words)) ≡ true) × (first + length (now ends) < 256) ⌝ }
-    ensures { λ r. ⌜ r ≡ place-in (cuts (now (words .entry)) 0 (now (ends .entry))) first none (now (word .entry)) ⌝ }
-{
-    let mut c = first;
-    let mut s = 0;
-    let mut k = 0;
-    while k < ends.len() {
-        let e = base::wide(ends[k]);
-        if base::equal(word, &words[s..e]) {
-            return c;
-        }
-        c += 1;
-        s = e + 1;
-        k += 1;
+    if base::wide(lexicon[row]) != n {
+        return false;
     }
-    none
+    let letters = row + 1;
+    let mut i = 0;
+    while i < n {
+        if text[a + i] != lexicon[letters + i] {
+            return false;
+        }
+        i += 1;
+    }
+    true
 }
 
 // The number of a keyword, and 0 for any other word.
-fn keyword(word: &[u8]) -> u8
-    ensures { λ r. ⌜ r ≡ keyword-of (now (word .entry)) ⌝ }
+fn keyword(text: &[u8], a: usize, e: usize, lexicon: &[u8; 400]) -> u8
+    requires { ⌜ (a ≤ e) × (e ≤ length (now text)) × Lexicon (now lexicon) ⌝ }
+    ensures { λ r. ⌜ r ≡ keyword-in (words-in (now (lexicon .entry))) (take (e - a) (drop a (now (text .entry)))) ⌝ }
 {
-    place(
-        word,
-        b"flow leaf and or xor all some one loop",
-        b"\x04\x09\x0d\x10\x14\x18\x1d\x21\x26",
-        7,
-        0,
-    )
+    let n = e - a;
+    if 14 < n {
+        return 0;
+    }
+    let mut row = 256;
+    let mut c = 7;
+    while row < 400 {
+        if row_is(text, a, n, lexicon, row) {
+            return c;
+        }
+        row += 16;
+        c += 1;
+    }
+    0
+}
+
+// The number of a digit from `0` to `last`, which is `first` for `0`; 5 for any other byte.
+fn digit(b: u8, last: u8, first: u8) -> u8
+    requires { ⌜ (last < 58) × (first < 200) ⌝ }
+    ensures { λ r. ⌜ r ≡ cond (between 48 last b) (b - 48 + first) 5 ⌝ }
+{
+    if b < b'0' {
+        return 5;
+    }
+    if last < b {
+        return 5;
+    }
+    b - b'0' + first
 }
 
 // The number of a numeral from 0 to 16 without leading zero, and 5 for any other word.
-fn numeral(word: &[u8]) -> u8
-    ensures { λ r. ⌜ r ≡ numeral-of (now (word .entry)) ⌝ }
+fn numeral(text: &[u8], a: usize, e: usize) -> u8
+    requires { ⌜ (a < e) × (e ≤ length (now text)) ⌝ }
+    ensures { λ r. ⌜ r ≡ numeral-of (take (e - a) (drop a (now (text .entry)))) ⌝ }
 {
-    place(
-        word,
-        b"0 1 2 3 4 5 6 7 8 9 10 11 12 13 14 15 16",
-        b"\x01\x03\x05\x07\x09\x0b\x0d\x0f\x11\x13\x16\x19\x1c\x1f\x22\x25\x28",
-        16,
-        5,
-    )
+    let n = e - a;
+    if n == 1 {
+        return digit(text[a], b'9', 16);
+    }
+    if 2 < n {
+        return 5;
+    }
+    if text[a] != b'1' {
+        return 5;
+    }
+    digit(text[a + 1], b'6', 26)
 }
 
-// The number of a token: a sign's class, a keyword's, 6 for a name, a numeral's, 5 for any other word.
-fn code(token: &[u8]) -> u8
-    ensures { λ r. ⌜ r ≡ code-of (now (token .entry)) ⌝ }
+// The number of the word from `a` to `e`, whose first byte has the class c: a keyword's, 6 for a name, a numeral's, 5 for any other word.
+fn number(text: &[u8], a: usize, e: usize, c: u8, lexicon: &[u8; 400]) -> u8
+    requires { ⌜ (a < e) × (e ≤ length (now text)) × (c ≡ class-of (getD (now text) a 0)) × Lexicon (now lexicon) ⌝ }
+    ensures { λ r. ⌜ r ≡ word-code (take (e - a) (drop a (now (text .entry)))) ⌝ }
 {
-    let c = class(base::byte(token, 0));
-    if c < 5 {
-        return c;
+    if c != 5 {
+        return numeral(text, a, e);
     }
-    if 7 < c {
-        return c;
-    }
-    let k = keyword(token);
+    let k = keyword(text, a, e, lexicon);
     if 0 < k {
         return k;
     }
-    if c != 5 {
-        return numeral(token);
-    }
-    if 24 < token.len() {
+    if 24 < e - a {
         return 5;
     }
     6
 }
 
+// The token at a place or after it. Number 0 is none: the text's end, or a foreign byte.
+pub fn next(text: &[u8], at: usize, lexicon: &[u8; 400]) -> Token
+    requires { ⌜ Lexicon (now lexicon) ⌝ }
+    ensures { λ r. ⌜ Next (now (text .entry)) at r ⌝ }
+{
+    let start = gap(text, at, lexicon);
+    if text.len() <= start {
+        return Token {
+            code: 0,
+            start: text.len(),
+            end: start,
+        };
+    }
+    let c = class(text[start], lexicon);
+    if c < 5 {
+        return Token {
+            code: c,
+            start: start,
+            end: start + 1,
+        };
+    }
+    let end = past(text, start + 1, 5, 7, lexicon);
+    let code = number(text, start, end, c, lexicon);
+    Token {
+        code: code,
+        start: start,
+        end: end,
+    }
+}
+
 // The end of the token that starts at `at`: of a word, or past the one byte.
-fn token_end(text: &[u8], at: usize) -> usize
-    requires { ⌜ at < length (now text) ⌝ }
+pub fn token_end(text: &[u8], at: usize, lexicon: &[u8; 400]) -> usize
+    requires { ⌜ (at < length (now text)) × Lexicon (now lexicon) ⌝ }
     ensures { λ r. ⌜ r ≡ at + width (drop at (now (text .entry))) ⌝ }
 {
-    let e = word_end(text, at);
+    let e = past(text, at, 5, 7, lexicon);
     if at < e {
         return e;
     }
     at + 1
+}
+
+// The place of the first foreign byte, or the text's length.
+pub fn foreign(text: &[u8], lexicon: &[u8; 400]) -> usize
+    requires { ⌜ Lexicon (now lexicon) ⌝ }
+    ensures { λ r. ⌜ r ≡ first-foreign (now (text .entry)) ⌝ }
+{
+    let mut at = gap(text, 0, lexicon);
+    while at < text.len() {
+        let c = class(text[at], lexicon);
+        if c == 0 {
+            return at;
+        }
+        let e = token_end(text, at, lexicon);
+        at = gap(text, e, lexicon);
+    }
+    text.len()
+}
+
+// The place of the first token of over 24 bytes, or the text's length.
+pub fn first_long(text: &[u8], lexicon: &[u8; 400]) -> usize
+    requires { ⌜ Lexicon (now lexicon) ⌝ }
+    ensures { λ r. ⌜ r ≡ first-long (spans-of (now (text .entry))) (length (now (text .entry))) ⌝ }
+{
+    let mut at = gap(text, 0, lexicon);
+    while at < text.len() {
+        let e = token_end(text, at, lexicon);
+        if 24 < e - at {
+            return at;
+        }
+        at = gap(text, e, lexicon);
+    }
+    text.len()
+}
+
+// Whether a byte is a letter, a digit or an underscore. A few comparisons, for who has no table.
+fn worded(b: u8) -> bool
+    ensures { λ r. ⌜ r ≡ worded-byte b ⌝ }
+{
+    if b'z' < b {
+        return false;
+    }
+    if b'a' <= b {
+        return true;
+    }
+    if b == b'_' {
+        return true;
+    }
+    if b'Z' < b {
+        return false;
+    }
+    if b'A' <= b {
+        return true;
+    }
+    if b'9' < b {
+        return false;
+    }
+    if b < b'0' {
+        return false;
+    }
+    true
+}
+
+// The end of the word that starts at `at`.
+fn word_end(text: &[u8], at: usize) -> usize
+    ensures { λ r. ⌜ r ≡ at + front worded-byte (drop at (now (text .entry))) ⌝ }
+{
+    let mut i = at;
+    while i < text.len() {
+        if !worded(text[i]) {
+            return i;
+        }
+        i += 1;
+    }
+    i
 }
 
 // The first byte of the word that starts at `at`; 0, which no word has, where none starts.
@@ -408,14 +670,10 @@ pub fn letter(text: &[u8], at: usize) -> u8
     ensures { λ r. ⌜ r ≡ getD (word-at (now (text .entry)) at) 0 0 ⌝ }
 {
     let b = base::byte(text, at);
-    let c = class(b);
-    if c < 5 {
-        return 0;
+    if worded(b) {
+        return b;
     }
-    if 7 < c {
-        return 0;
-    }
-    b
+    0
 }
 
 // The word that starts at `at`, as that very part of the text; an empty part where the text ends before it.
@@ -429,71 +687,21 @@ pub fn word(text: &[u8], at: usize) -> &[u8]
     &text[at..end]
 }
 
-// Whether the words that start at two places are the same.
+// Whether the words that start at two places are the same, byte by byte up to the first that differs.
 pub fn same(text: &[u8], a: usize, b: usize) -> bool
     ensures { λ r. ⌜ r ≡ alike (word-at (now (text .entry)) a) (word-at (now (text .entry)) b) ⌝ }
 {
-    base::equal(word(text, a), word(text, b))
-}
-
-// The place of the first foreign byte, or the text's length.
-fn foreign(text: &[u8]) -> usize
-    ensures { λ r. ⌜ r ≡ first-foreign (now (text .entry)) ⌝ }
-{
-    past(text, 0, 1, 8)
-}
-
-// The place of the first token of over 24 bytes, or the text's length.
-fn first_long(text: &[u8]) -> usize
-    ensures { λ r. ⌜ r ≡ first-long (spans-of (now (text .entry))) (length (now (text .entry))) ⌝ }
-{
-    let mut at = skip(text, 0);
-    while at < text.len() {
-        let e = token_end(text, at);
-        if 24 < e - at {
-            return at;
+    let mut p = a;
+    let mut q = b;
+    loop {
+        let x = letter(text, p);
+        if x != letter(text, q) {
+            return false;
         }
-        at = skip(text, e);
+        if x == 0 {
+            return true;
+        }
+        p += 1;
+        q += 1;
     }
-    text.len()
-}
-
-// Writes the number and the place of each token, as far as the lists go, and counts the tokens.
-fn tokens(text: &[u8], codes: &mut [u8], starts: &mut [u16]) -> usize
-    requires { ⌜ length (now text) ≤ 16384 ⌝ }
-    ensures { λ r. ⌜ r ≡ length (spans-of (now (text .entry))) ⌝ }
-    ensures { λ r. ⌜ now (codes .exit) ≡ fill (now (codes .entry)) (codes-of (now (text .entry))) ⌝ }
-    ensures { λ r. ⌜ now (starts .exit) ≡ fill (now (starts .entry)) (places-of (now (text .entry))) ⌝ }
-{
-    let mut n = 0;
-    let mut at = skip(text, 0);
-    while at < text.len() {
-        let e = token_end(text, at);
-        let c = code(&text[at..e]);
-        base::put_byte(codes, n, c);
-        base::put_short(starts, n, at as u16);
-        n += 1;
-        at = skip(text, e);
-    }
-    n
-}
-
-// The tokens of a text: their numbers and places are written, as far as the lists go. A refused text leaves the lists as they were.
-pub fn scan_text(text: &[u8], codes: &mut [u8], starts: &mut [u16]) -> Scan
-    ensures { λ r. ⌜ r ≡ scan-of (now (text .entry)) ⌝ }
-    ensures { λ r. ⌜ now (codes .exit) ≡ written (scan-of (now (text .entry))) (codes-of (now (text .entry))) (now (codes .entry)) ⌝ }
-    ensures { λ r. ⌜ now (starts .exit) ≡ written (scan-of (now (text .entry))) (places-of (now (text .entry))) (now (starts .entry)) ⌝ }
-{
-    if 16384 < text.len() {
-        return Scan::Refused(2, 16384);
-    }
-    let f = foreign(text);
-    if f < text.len() {
-        return Scan::Refused(3, f);
-    }
-    let l = first_long(text);
-    if l < text.len() {
-        return Scan::Refused(4, l);
-    }
-    Scan::Tokens(tokens(text, codes, starts))
 }

@@ -1,5 +1,5 @@
 -- `lexer::letter` meets its contract, one law for each way out.
-use Rattle.tokens.proofs.Between.{between-low, between-high}
+use mathlib.Core.Path.{sym, _∙_}
 use Rattle.tokens.proofs.WordAt.{letter-none, letter-some}
 use borrow.Author.Needs.{needs}
 use Rattle.lexer.proofs.letter.Statement.{statement}
@@ -7,21 +7,15 @@ use Rattle.lexer.proofs.letter.Tie as tie
 
 returns : tie.Need-returns
 returns c =
-    let f = c .before in
-    let a = f .before .before .before .args in
-    letter-none (a .text .now) (a .at) (f .before .byte .ensures) (f .class .ensures) (between-low _ _ _ (c .if1 .taken))
+    let f = c .before .before in
+    let a = f .before .before .args in
+    letter-some (a .text .now) (a .at) (f .byte .ensures) (sym (c .before .worded .ensures) ∙ c .if1 .taken)
 
 returns-2 : tie.Need-returns-2
 returns-2 c =
     let f = c .before .before in
-    let a = f .before .before .before .args in
-    letter-none (a .text .now) (a .at) (f .before .byte .ensures) (f .class .ensures) (between-high _ _ _ (c .if2 .taken))
-
-returns-3 : tie.Need-returns-3
-returns-3 c =
-    let f = c .before .before in
-    let a = f .before .before .before .args in
-    letter-some (a .text .now) (a .at) (f .before .byte .ensures) (f .class .ensures) (c .before .if1 .left) (c .if2 .left)
+    let a = f .before .before .args in
+    letter-none (a .text .now) (a .at) (f .byte .ensures) (sym (c .before .worded .ensures) ∙ c .if1 .left)
 
 pub letter-spec : {M : Type 1} → statement M
-letter-spec = tie.close (tie.spec (λ c κs. search needs) (λ c κs. search needs) returns returns-2 returns-3)
+letter-spec = tie.close (tie.spec (λ c κs. search needs) (λ c κs. search needs) returns returns-2)

@@ -6,42 +6,37 @@ use Rattle.tokens.specs.Classes.{within}
 use Rattle.tokens.specs.Words.{front}
 use Rattle.tokens.proofs.Front.{front-end, front-stop, front-more}
 use Rattle.tokens.proofs.Between.{between-in, between-low, between-high}
-use Rattle.lexer.proofs.Ways.{class-read}
 use borrow.Author.Needs.{needs}
 use Rattle.lexer.proofs.past.Statement.{statement}
 use Rattle.lexer.proofs.past.Tie as tie
 
 abbrev Inv-loop : tie.InvT-loop
-Inv-loop text at low high table i₀ i = at + front (within low high) (drop at text) ≡ i + front (within low high) (drop i text)
+Inv-loop text at low high lexicon i₀ i = at + front (within low high) (drop at text) ≡ i + front (within low high) (drop i text)
 
 abbrev μ-loop : tie.MeasureT-loop
-μ-loop text at low high table i₀ i = length text - i
+μ-loop text at low high lexicon i₀ i = length text - i
 
 loop-holds : tie.Need-loop-holds Inv-loop μ-loop
 loop-holds c = refl
 
 returns : tie.Need-returns Inv-loop μ-loop
 returns c =
-    let w = c .before in
-    let l = w .before .before .before in
-    let e = class-read (l .before .classes .ensures) (w .wide .ensures) in
-    sym (l .loop .inv ∙ front-stop _ _ (l .loop .i) (w .before .before .loop-test .taken) (between-low _ _ _ (rw e at (c .if1 .taken))))
+    let t = c .before .before .before in
+    let l = t .before .loop in
+    sym (l .inv ∙ front-stop _ _ (l .i) (t .loop-test .taken) (between-low _ _ _ (rw (c .before .class .ensures) at (c .if1 .taken))))
 
 returns-2 : tie.Need-returns-2 Inv-loop μ-loop
 returns-2 c =
-    let w = c .before .before in
-    let l = w .before .before .before in
-    let e = class-read (l .before .classes .ensures) (w .wide .ensures) in
-    sym (l .loop .inv ∙ front-stop _ _ (l .loop .i) (w .before .before .loop-test .taken) (between-high _ _ _ (rw e at (c .if2 .taken))))
+    let t = c .before .before .before .before in
+    let l = t .before .loop in
+    sym (l .inv ∙ front-stop _ _ (l .i) (t .loop-test .taken) (between-high _ _ _ (rw (c .before .before .class .ensures) at (c .if2 .taken))))
 
 loop-again : tie.Need-loop-again Inv-loop μ-loop
 loop-again c =
-    let w = c .before .before in
-    let l = w .before .before .before in
-    let e = class-read (l .before .classes .ensures) (w .wide .ensures) in
-    l .loop .inv
-    ∙ front-more _ _ (l .loop .i) (w .before .before .loop-test .taken)
-    (between-in _ _ _ (rw e at (c .before .if1 .left)) (rw e at (c .if2 .left)))
+    let t = c .before .before .before .before in
+    let l = t .before .loop in
+    let e = c .before .before .class .ensures in
+    l .inv ∙ front-more _ _ (l .i) (t .loop-test .taken) (between-in _ _ _ (rw e at (c .before .if1 .left)) (rw e at (c .if2 .left)))
 
 returns-3 : tie.Need-returns-3 Inv-loop μ-loop
 returns-3 c = sym (c .before .loop .inv ∙ front-end _ _ (c .before .loop .i) (c .loop-test .left))
@@ -49,5 +44,5 @@ returns-3 c = sym (c .before .loop .inv ∙ front-end _ _ (c .before .loop .i) (
 pub past-spec : {M : Type 1} → statement M
 past-spec =
     tie.close
-    (tie.spec Inv-loop μ-loop (λ c κs. search needs) loop-holds (λ c. search needs) (λ c κs. search needs) (λ c. search needs) returns returns-2
-    (λ c. search needs) (λ c. search needs) loop-again returns-3)
+    (tie.spec Inv-loop μ-loop loop-holds (λ c. search needs) (λ c κs. search needs) returns returns-2 (λ c. search needs) (λ c. search needs)
+    loop-again returns-3)
