@@ -1,0 +1,244 @@
+ghost use mathlib.Core.Path.{_≡_};
+ghost use mathlib.Core.List.{[], _∷_};
+ghost use Prim.Native.Nat.{ℕ, _+_, _*_, _-_, _<_};
+ghost use Rattle.grammar.specs.Machine.{sign as sign-of, number, params};
+ghost use Rattle.walked.specs.Walk.{store, begun};
+ghost use Rattle.walked.specs.code.Readers.{Closing, Reads, Fills, Marks};
+ghost use Rattle.heads.specs.code.Lent.{Lent};
+use tokens::Token;
+use walked::Step;
+
+// One of the signs ( ) , : by its class. No word is looked at.
+pub fn sign(text: &[u8], at: usize, n: usize, want: u8, lexicon: &[u8; 400]) -> Step
+    requires { ⌜ Lent (now text) (now lexicon) × (0 < want) × (want < 5) ⌝ }
+    ensures { λ r. ⌜ Reads (now (text .entry)) (sign-of want ∷ []) n at r ⌝ }
+{
+    let start = lexer::gap(text, at, lexicon);
+    if text.len() <= start {
+        return Step::Stop(5, text.len());
+    }
+    let c = lexer::class(text[start], lexicon);
+    if c != want {
+        return Step::Stop(5, start);
+    }
+    Step::Go(start + 1, n)
+}
+
+// Whether a `)` comes next, by its class alone: the position past it, or 0.
+pub fn closing(text: &[u8], at: usize, lexicon: &[u8; 400]) -> usize
+    requires { ⌜ Lent (now text) (now lexicon) ⌝ }
+    ensures { λ r. ⌜ Closing (now (text .entry)) at r ⌝ }
+{
+    let start = lexer::gap(text, at, lexicon);
+    if text.len() <= start {
+        return 0;
+    }
+    let c = lexer::class(text[start], lexicon);
+    if c != 2 {
+        return 0;
+    }
+    start + 1
+}
+
+// A store into the row n. Past the last row it does nothing.
+fn put(rows: &mut [u16; 2056], n: usize, column: usize, v: u16)
+    requires { ⌜ column < 8 ⌝ }
+    ensures { λ r. ⌜ now (rows .exit) ≡ store (now (rows .entry)) (n * 8 + column) v ⌝ }
+{
+    if 256 < n {
+        return;
+    }
+    rows[n * 8 + column] = v;
+}
+
+// The solid mark of the node before which i nodes stand. Past the last row nothing is done.
+fn mark(rows: &mut [u16; 2056], i: usize, v: u16)
+    ensures { λ r. ⌜ now (rows .exit) ≡ store (now (rows .entry)) (i * 8 + 9) v ⌝ }
+{
+    if 255 < i {
+        return;
+    }
+    rows[i * 8 + 9] = v;
+}
+
+// The depth of a node for which so many depths are left.
+fn depth_of(left: usize) -> u16
+    ensures { λ r. ⌜ r ≡ 13 - left ⌝ }
+{
+    if 13 <= left {
+        return 0;
+    }
+    (13 - left) as u16
+}
+
+// Begins the row of the node that is counted n with those before it: the place of its keyword c, the keyword's number, and its depth, by the depths
+// left for it.
+pub fn begin_row(rows: &mut [u16; 2056], n: usize, c: u8, place: u16, left: usize)
+    ensures { λ r. ⌜ ((m : ℕ) → n ≡ m + 1 → now (rows .exit) ≡ begun (now (rows .entry)) m c place left) ⌝ }
+{
+    put(rows, n, 0, place);
+    put(rows, n, 3, c as u16);
+    put(rows, n, 5, depth_of(left));
+}
+
+// The name of the node n, or its par.
+fn read_name(text: &[u8], at: usize, n: usize, rows: &mut [u16; 2056], lexicon: &[u8; 400]) -> Step
+    requires { ⌜ Lent (now text) (now lexicon) ⌝ }
+    ensures { λ r. ⌜ Fills (now (text .entry)) (sign-of 6 ∷ []) n at (now (rows .entry)) r (now (rows .exit)) ⌝ }
+{
+    let t: Token = lexer::next(text, at, lexicon);
+    if t.code != 6 {
+        return Step::Stop(5, t.start);
+    }
+    put(rows, n, 2, t.start as u16);
+    Step::Go(t.end, n)
+}
+
+// `(` and a name.
+fn read_named(text: &[u8], at: usize, n: usize, rows: &mut [u16; 2056], lexicon: &[u8; 400]) -> Step
+    requires { ⌜ Lent (now text) (now lexicon) ⌝ }
+    ensures { λ r. ⌜ Fills (now (text .entry)) (sign-of 1 ∷ sign-of 6 ∷ []) n at (now (rows .entry)) r (now (rows .exit)) ⌝ }
+{
+    let s = sign(text, at, n, 1, lexicon);
+    let Step::Go(p, m) = s else {
+        return s;
+    };
+    read_name(text, p, m, rows, lexicon)
+}
+
+// The pars and the sw of a flow, each after a comma, and the `)`: what is no name after a comma has to be the sw.
+fn read_params(
+    text: &[u8],
+    at: usize,
+    n: usize,
+    rows: &mut [u16; 2056],
+    lexicon: &[u8; 400],
+) -> Step
+    requires { ⌜ Lent (now text) (now lexicon) ⌝ }
+    ensures { λ r. ⌜ Fills (now (text .entry)) (params ∷ []) n at (now (rows .entry)) r (now (rows .exit)) ⌝ }
+{
+    let mut p = at;
+    loop {
+        let comma: Token = lexer::next(text, p, lexicon);
+        if comma.code != 3 {
+            return Step::Stop(5, comma.start);
+        }
+        let t: Token = lexer::next(text, comma.end, lexicon);
+        if t.code != 6 {
+            if t.code < 16 {
+                return Step::Stop(5, t.start);
+            }
+            if 17 < t.code {
+                return Step::Stop(5, t.start);
+            }
+            put(rows, n, 6, (t.code - 16) as u16);
+            return sign(text, t.end, n, 2, lexicon);
+        }
+        p = t.end;
+    }
+}
+
+// What stands before the children of a flow, after its keyword.
+pub fn read_flow_head(
+    text: &[u8],
+    at: usize,
+    n: usize,
+    rows: &mut [u16; 2056],
+    lexicon: &[u8; 400],
+) -> Step
+    requires { ⌜ Lent (now text) (now lexicon) ⌝ }
+    ensures { λ r. ⌜ Fills (now (text .entry)) (sign-of 1 ∷ sign-of 6 ∷ params ∷ sign-of 1 ∷ []) n at (now (rows .entry)) r (now (rows .exit)) ⌝ }
+{
+    let s = read_named(text, at, n, rows, lexicon);
+    let Step::Go(p, m) = s else {
+        return s;
+    };
+    let s = read_params(text, p, m, rows, lexicon);
+    let Step::Go(p, m) = s else {
+        return s;
+    };
+    sign(text, p, m, 1, lexicon)
+}
+
+// The size of the node n, from 1 to 16, and the `)`.
+fn read_size(text: &[u8], at: usize, n: usize, rows: &mut [u16; 2056], lexicon: &[u8; 400]) -> Step
+    requires { ⌜ Lent (now text) (now lexicon) ⌝ }
+    ensures { λ r. ⌜ Fills (now (text .entry)) (number 1 16 ∷ sign-of 2 ∷ []) n at (now (rows .entry)) r (now (rows .exit)) ⌝ }
+{
+    let t: Token = lexer::next(text, at, lexicon);
+    if t.code < 17 {
+        return Step::Stop(5, t.start);
+    }
+    if 32 < t.code {
+        return Step::Stop(5, t.start);
+    }
+    put(rows, n, 4, (t.code - 16) as u16);
+    sign(text, t.end, n, 2, lexicon)
+}
+
+// What stands before the body of a replicator, after its keyword.
+pub fn read_copies(
+    text: &[u8],
+    at: usize,
+    n: usize,
+    rows: &mut [u16; 2056],
+    lexicon: &[u8; 400],
+) -> Step
+    requires { ⌜ Lent (now text) (now lexicon) ⌝ }
+    ensures { λ r. ⌜ Fills (now (text .entry)) (sign-of 1 ∷ sign-of 6 ∷ sign-of 4 ∷ number 1 16 ∷ sign-of 2 ∷ []) n at (now (rows .entry)) r (now (rows .exit)) ⌝ }
+{
+    let s = read_named(text, at, n, rows, lexicon);
+    let Step::Go(p, m) = s else {
+        return s;
+    };
+    let s = sign(text, p, m, 4, lexicon);
+    let Step::Go(p, m) = s else {
+        return s;
+    };
+    read_size(text, p, m, rows, lexicon)
+}
+
+// A leaf after its keyword.
+pub fn read_leaf(
+    text: &[u8],
+    at: usize,
+    n: usize,
+    rows: &mut [u16; 2056],
+    lexicon: &[u8; 400],
+) -> Step
+    requires { ⌜ Lent (now text) (now lexicon) ⌝ }
+    ensures { λ r. ⌜ Fills (now (text .entry)) (sign-of 1 ∷ sign-of 6 ∷ sign-of 2 ∷ []) n at (now (rows .entry)) r (now (rows .exit)) ⌝ }
+{
+    let s = read_named(text, at, n, rows, lexicon);
+    let Step::Go(p, m) = s else {
+        return s;
+    };
+    sign(text, p, m, 2, lexicon)
+}
+
+// The ref of the child before which i nodes stand, `(0)` or `(1)`: its solid mark.
+pub fn read_ref(
+    text: &[u8],
+    at: usize,
+    n: usize,
+    i: usize,
+    rows: &mut [u16; 2056],
+    lexicon: &[u8; 400],
+) -> Step
+    requires { ⌜ Lent (now text) (now lexicon) ⌝ }
+    ensures { λ r. ⌜ Marks (now (text .entry)) i n at (now (rows .entry)) r (now (rows .exit)) ⌝ }
+{
+    let s = sign(text, at, n, 1, lexicon);
+    let Step::Go(p, m) = s else {
+        return s;
+    };
+    let t: Token = lexer::next(text, p, lexicon);
+    if t.code < 16 {
+        return Step::Stop(5, t.start);
+    }
+    if 17 < t.code {
+        return Step::Stop(5, t.start);
+    }
+    mark(rows, i, (t.code - 16) as u16);
+    sign(text, t.end, m, 2, lexicon)
+}

@@ -1,0 +1,11 @@
+pub mod Laws
+pub mod Located
+pub mod Deep
+pub mod Sized
+pub mod Filled
+pub mod Track
+pub mod Nodes
+pub mod Tree
+pub mod Past
+pub mod Spelled
+pub mod Told
