@@ -20,9 +20,9 @@ pub struct Node {
     pub kind: Kind,
     pub solid: bool,
     pub strong: bool,
-    pub depth: usize,
-    pub at: usize,
-    pub name: usize,
+    pub depth: u16,
+    pub at: u16,
+    pub name: u16,
 }
 
 // The nodes of a text in its order, and how many node copies and events they have. Only the first `count` nodes count.

@@ -1,4 +1,4 @@
--- A text without its blanks is its tokens, one after the other.
+-- The tokens of a text, one after the other, are the text without its blanks.
 use mathlib.Core.Path.{_≡_, refl, sym, _∙_, ap}
 use mathlib.Core.Logic.{⊎-elim}
 use mathlib.Core.Bool.{Bool, true, _&&_, false≢true}
@@ -12,63 +12,67 @@ use Rattle.tokens.specs.Classes.{class-of, worded, blank}
 use Rattle.tokens.specs.Words.{front, blanks, short, every}
 use Rattle.tokens.specs.Spans.{Span, width, cut, spans, spans-of, tokens}
 use Rattle.grammar.proofs.Token.{token}
-use Rattle.grammar.specs.Printed.{printed}
+use Rattle.grammar.specs.Printed.{printed, unblanked}
 use Rattle.tokens.proofs.Between.{in-range}
 use Rattle.tokens.proofs.Steps.{width-some}
 use Rattle.grammar.proofs.Lexed.{stops, pieces, cut-is-token, front-stop, worded-no-blank}
 use Rattle.grammar.proofs.Rendered.{usual, usual-class, proper, all-proper}
 
-pub printed-front : (bs : List ℕ) → printed (drop (blanks bs) bs) ≡ printed bs
-unfolding printed front
-printed-front [] = refl
-printed-front (b ∷ bs) = ⊎-elim (λ e. rw e (printed-front bs)) (λ e. rw e (rw e)) (cases (blank b))
+unblanked-front : (bs : List ℕ) → unblanked (drop (blanks bs) bs) ≡ unblanked bs
+unfolding unblanked front
+unblanked-front [] = refl
+unblanked-front (b ∷ bs) = ⊎-elim (λ e. rw e (unblanked-front bs)) (λ e. rw e (rw e)) (cases (blank b))
 
-printed-words : (w r : List ℕ) → every worded w ≡ true → printed (w ++ r) ≡ w ++ printed r
-unfolding printed
-printed-words [] r h = refl
-printed-words (b ∷ w) r h =
-    rw (worded-no-blank b (and-l (worded b) (every worded w) h), printed-words w r (and-r (worded b) (every worded w) h))
+unblanked-words : (w r : List ℕ) → every worded w ≡ true → unblanked (w ++ r) ≡ w ++ unblanked r
+unfolding unblanked
+unblanked-words [] r h = refl
+unblanked-words (b ∷ w) r h =
+    rw (worded-no-blank b (and-l (worded b) (every worded w) h), unblanked-words w r (and-r (worded b) (every worded w) h))
 
-printed-token : (t r : List ℕ) → token t ≡ true → printed (t ++ r) ≡ t ++ printed r
-unfolding printed
-printed-token [] r p = absurd (false≢true p)
-printed-token (b ∷ []) r p = rw (not-e (blank b) p)
-printed-token (b ∷ c ∷ w) r p = printed-words (b ∷ c ∷ w) r p
+unblanked-token : (t r : List ℕ) → token t ≡ true → unblanked (t ++ r) ≡ t ++ unblanked r
+unfolding unblanked
+unblanked-token [] r p = absurd (false≢true p)
+unblanked-token (b ∷ []) r p = rw (not-e (blank b) p)
+unblanked-token (b ∷ c ∷ w) r p = unblanked-words (b ∷ c ∷ w) r p
 
 -- A token leaves less than there was.
 cut-shortens : (b : ℕ) (bs : List ℕ) → length (drop (width (b ∷ bs)) (b ∷ bs)) ≤ length bs
 cut-shortens b bs = omega (arith, width-some (b ∷ bs) (omega arith), length-drop (width (b ∷ bs)) (b ∷ bs))
 
-cut-printed : (rest : ℕ → List ℕ → List Span) (f : ℕ)
-    → ((at : ℕ) (bs : List ℕ) → length bs ≤ f → flatten (map (λ (s : Span). s .bytes) (rest at bs)) ≡ printed bs)
+cut-unblanked : (rest : ℕ → List ℕ → List Span) (f : ℕ)
+    → ((at : ℕ) (bs : List ℕ) → length bs ≤ f → flatten (map (λ (s : Span). s .bytes) (rest at bs)) ≡ unblanked bs)
     → (at : ℕ) (bs : List ℕ) → length bs ≤ suc f → stops blank bs ≡ true
-    → flatten (map (λ (s : Span). s .bytes) (cut rest at bs)) ≡ printed bs
-unfolding flatten printed
-cut-printed rest f h at [] l p = refl
-cut-printed rest f h at (b ∷ bs) l p =
+    → flatten (map (λ (s : Span). s .bytes) (cut rest at bs)) ≡ unblanked bs
+unfolding flatten unblanked
+cut-unblanked rest f h at [] l p = refl
+cut-unblanked rest f h at (b ∷ bs) l p =
     let w = width (b ∷ bs) in
     let t = take w (b ∷ bs) in
     let r = drop w (b ∷ bs) in
     let small : length r ≤ f = let k = cut-shortens b bs in omega arith in
     ap (λ (x : List ℕ). t ++ x) (h (at + w) r small)
-    ∙ (sym (printed-token t r (cut-is-token b bs (not-e (blank b) p))) ∙ ap printed (take-append-drop w (b ∷ bs)))
+    ∙ (sym (unblanked-token t r (cut-is-token b bs (not-e (blank b) p))) ∙ ap unblanked (take-append-drop w (b ∷ bs)))
 
-nothing-printed : (bs : List ℕ) → length bs ≤ zero → flatten {A = ℕ} [] ≡ printed bs
-unfolding flatten printed
-nothing-printed [] l = refl
-nothing-printed (b ∷ bs) l = let z : ⊥ = omega arith in absurd z
+nothing-unblanked : (bs : List ℕ) → length bs ≤ zero → flatten {A = ℕ} [] ≡ unblanked bs
+unfolding flatten unblanked
+nothing-unblanked [] l = refl
+nothing-unblanked (b ∷ bs) l = let z : ⊥ = omega arith in absurd z
 
-pieces-printed : (f at : ℕ) (bs : List ℕ) → length bs ≤ f → flatten (pieces f at bs) ≡ printed bs
+pieces-unblanked : (f at : ℕ) (bs : List ℕ) → length bs ≤ f → flatten (pieces f at bs) ≡ unblanked bs
 unfolding spans
-pieces-printed zero at bs l = nothing-printed bs l
-pieces-printed (suc f) at bs l =
-    cut-printed (λ at bs. spans f at bs) f (λ at bs k. pieces-printed f at bs k) (at + blanks bs) (drop (blanks bs) bs)
+pieces-unblanked zero at bs l = nothing-unblanked bs l
+pieces-unblanked (suc f) at bs l =
+    cut-unblanked (λ at bs. spans f at bs) f (λ at bs k. pieces-unblanked f at bs k) (at + blanks bs) (drop (blanks bs) bs)
     (rw (length-drop (blanks bs) bs) (omega arith)) (front-stop blank bs)
-    ∙ printed-front bs
+    ∙ unblanked-front bs
+
+pub without-blanks : (text : List ℕ) → printed text ≡ unblanked text
+unfolding printed tokens spans-of
+without-blanks text = pieces-unblanked (length text) 0 text (omega arith)
 
 pub printed-tokens : (text : List ℕ) → flatten (tokens text) ≡ printed text
-unfolding tokens spans-of
-printed-tokens text = pieces-printed (length text) 0 text (omega arith)
+unfolding printed
+printed-tokens text = refl
 
 -- A text whose tokens have no foreign byte has none.
 every-append : (t : ℕ → Bool) (v w : List ℕ) → every t v ≡ true → every t w ≡ true → every t (v ++ w) ≡ true
@@ -85,15 +89,15 @@ flatten-usual (t ∷ ts) h =
 blank-usual : (b : ℕ) → blank b ≡ true → usual b ≡ true
 blank-usual b h = usual-class b (omega (arith, in-range 8 8 (class-of b) h .0))
 
-unprinted-usual : (bs : List ℕ) → every usual (printed bs) ≡ true → every usual bs ≡ true
-unfolding printed
-unprinted-usual [] h = refl
-unprinted-usual (b ∷ bs) h =
+unblanked-usual : (bs : List ℕ) → every usual (unblanked bs) ≡ true → every usual bs ≡ true
+unfolding unblanked
+unblanked-usual [] h = refl
+unblanked-usual (b ∷ bs) h =
     ⊎-elim
-    (λ e. and-i (blank-usual b e) (unprinted-usual bs (rw e at h)))
-    (λ e. let k : (usual b && every usual (printed bs)) ≡ true = rw e at h in
-    and-i (and-l (usual b) (every usual (printed bs)) k) (unprinted-usual bs (and-r (usual b) (every usual (printed bs)) k)))
+    (λ e. and-i (blank-usual b e) (unblanked-usual bs (rw e at h)))
+    (λ e. let k : (usual b && every usual (unblanked bs)) ≡ true = rw e at h in
+    and-i (and-l (usual b) (every usual (unblanked bs)) k) (unblanked-usual bs (and-r (usual b) (every usual (unblanked bs)) k)))
     (cases (blank b))
 
 pub proper-usual : (text : List ℕ) → all-proper (tokens text) ≡ true → every usual text ≡ true
-proper-usual text h = unprinted-usual text (rw (printed-tokens text) at (flatten-usual (tokens text) h))
+proper-usual text h = unblanked-usual text (rw (printed-tokens text ∙ without-blanks text) at (flatten-usual (tokens text) h))

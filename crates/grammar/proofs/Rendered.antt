@@ -1,15 +1,15 @@
 -- The tokens of a diagram can be written one after the other and read again: each is a token, and no two words stand side by side.
 use mathlib.Core.Path.{_≡_, refl}
-use mathlib.Core.Bool.{Bool, true, false, not, and-false, _&&_}
+use mathlib.Core.Bool.{Bool, true, false, not, _&&_}
 use mathlib.Core.List.{List, [], _∷_, flatten}
 use Prim.Native.Nat.{ℕ, _≤_}
 use native.Mathlib.Omega.{arith}
 use lib.Dec.{eqb, leb}
-use borrow.Author.Tests.{leb-true, lt-leb}
+use borrow.Author.Tests.{leb-true}
 use Rattle.diagram.specs.Tree.{Name, Way, all, some, one, Flow, flow, Children, none, next, Child, plain, loop, group, replicator, Member, leaf, inner, Members, end, also}
 use Rattle.diagram.specs.Sizes.{flow-sized, children-sized, child-sized, member-sized, members-sized}
-use Rattle.base.proofs.Truth.{and-l, and-r, and-i, or-l, or-r, not-i}
-use Rattle.tokens.specs.Classes.{class-of, foreign, worded}
+use Rattle.base.proofs.Truth.{and-l, and-r, and-i, or-l, or-r}
+use Rattle.tokens.specs.Classes.{class-of, worded}
 use Rattle.tokens.specs.Words.{keywords, keyword, short, every, lettered, named}
 use Rattle.tokens.specs.Spans.{tokens}
 use Rattle.grammar.specs.Tokens.{opening, closing, comma, colon, key, group-key, replicator-key, bit, digits, pars-tokens, ref-tokens, flow-tokens, children-tokens, child-tokens, member-tokens, members-tokens}
@@ -19,12 +19,10 @@ use Rattle.grammar.proofs.Token.{token, all-tokens}
 use Rattle.grammar.proofs.Codes.{coded-key, coded-digits, coded-name}
 use Rattle.tokens.proofs.Below.{at-below}
 use Rattle.tokens.proofs.Between.{in-range}
+pub use Rattle.tokens.proofs.Foreign.{usual, usual-class}
 use Rattle.grammar.proofs.Lexed.{wordy, clear, apart, lexed}
 
 -- A token that no text is refused for: it has at most 24 bytes, and none of them is foreign.
-abbrev pub usual : ℕ → Bool
-usual b = not (foreign b)
-
 abbrev pub proper : Name → Bool
 proper t = short t && every usual t
 
@@ -64,10 +62,6 @@ fine-bit : (b : Bool) → Fine (bit b)
 unfolding class-of
 fine-bit true = record { taken = refl; sound = refl }
 fine-bit false = record { taken = refl; sound = refl }
-
--- A byte that has any class but the first is not foreign.
-pub usual-class : (b : ℕ) → 1 ≤ class-of b → usual b ≡ true
-usual-class b h = rw (lt-leb (class-of b) 0 (omega arith)) (not-i (and-false (leb 0 (class-of b))))
 
 worded-usual : (b : ℕ) → worded b ≡ true → usual b ≡ true
 worded-usual b h = usual-class b (omega (arith, in-range 5 7 (class-of b) h .0))

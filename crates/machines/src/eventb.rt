@@ -102,7 +102,7 @@ fn open(text: &[u8], d: Diagram, out: &mut [u8]) -> usize
 {
     let v = profile::names(d);
     let root = d.nodes[0];
-    actions::open(text, v, root.name, d.events, out, 0)
+    actions::open(text, v, root.name as usize, d.events, out, 0)
 }
 
 // The machine of a text up to its first event: its name, its variables with their types, and all of them FALSE; or the refusal, as for an event.

@@ -10,18 +10,21 @@ use Rattle.base.proofs.Truth.{cases}
 use Rattle.tokens.specs.Classes.{blank}
 use Rattle.tokens.specs.Spans.{tokens}
 use Rattle.grammar.specs.Tokens.{flow-tokens}
-use Rattle.grammar.specs.Printed.{printed}
+use Rattle.grammar.specs.Printed.{printed, unblanked}
 use Rattle.grammar.specs.Derives.{Derives}
 use Rattle.grammar.proofs.Rendered.{rendered}
-use Rattle.grammar.proofs.Printing.{printed-tokens}
+use Rattle.grammar.proofs.Printing.{printed-tokens, without-blanks}
 use Rattle.grammar.proofs.Grammar.{derived-once}
 use Rattle.reading.specs.Accepted.{Accepted}
 
-pub printed-shorter : (bs : List ℕ) → length (printed bs) ≤ length bs
-unfolding printed
-printed-shorter [] = omega arith
-printed-shorter (b ∷ bs) =
-    let h = printed-shorter bs in ⊎-elim (λ e. rw e (omega arith)) (λ e. rw e (omega arith)) (cases (blank b))
+unblanked-shorter : (bs : List ℕ) → length (unblanked bs) ≤ length bs
+unfolding unblanked
+unblanked-shorter [] = omega arith
+unblanked-shorter (b ∷ bs) =
+    let h = unblanked-shorter bs in ⊎-elim (λ e. rw e (omega arith)) (λ e. rw e (omega arith)) (cases (blank b))
+
+pub printed-shorter : (text : List ℕ) → length (printed text) ≤ length text
+printed-shorter text = rw (without-blanks text) (unblanked-shorter text)
 
 -- A derived text prints as its diagram's tokens, one after the other.
 derived-printed : (text : List ℕ) (d : Flow) → Derives (tokens text) d → printed text ≡ flatten (flow-tokens d [])

@@ -1,90 +1,108 @@
--- How far a text is printed.
+-- How far a text is printed. Assumes nothing.
 use mathlib.Core.Path.{_≡_, refl, sym, _∙_, ap}
-use mathlib.Core.Bool.{true, false}
-use mathlib.Core.List.{List, [], _∷_}
-use Prim.Native.Nat.{ℕ, suc, _+_, _≤_, _<_}
-use native.Mathlib.Nat.{zero-add, add-zero}
+use mathlib.Core.List.{List, [], _∷_, _++_, map, flatten, append-assoc, append-nil}
+use Prim.Native.Nat.{ℕ, suc, _+_, _-_, _≤_, _<_}
 use native.Mathlib.Numerals.{add-one}
 use native.Mathlib.Omega.{arith}
-use lib.ListN.{length, getD, take, drop, set, length-drop, drop-of-length-le}
-use lib.Seq.{drop-cons, drop-drop, getD-drop, take-all}
-use Rattle.base.proofs.Truth.{not-e}
-use Rattle.tokens.specs.Classes.{blank}
-use Rattle.tokens.specs.Words.{blanks}
+use lib.ListN.{length, getD, take, drop, set, length-append}
+use lib.Seq.{drop-cons}
 use Rattle.base.specs.Fill.{fill}
-use Rattle.base.proofs.Filled.{fill-none, fill-more}
+use Rattle.base.proofs.Filled.{fill-none, fill-next}
+use Rattle.tokens.specs.Words.{blanks}
+use Rattle.tokens.specs.Spans.{Span, width, tokens}
+use Rattle.tokens.specs.Rest.{rest}
+use Rattle.tokens.proofs.Steps.{rest-start, rest-end, rest-skip, rest-token}
+use Rattle.tokens.proofs.WordCodes.{part-length}
+use Rattle.lexer.proofs.Ways.{end-after}
 use Rattle.grammar.specs.Printed.{printed}
-use Rattle.grammar.proofs.Lexed.{stops, front-stop}
-use Rattle.grammar.proofs.Printing.{printed-front}
+use Rattle.printer.specs.code.Over.{over}
 
--- The first n bytes are written, the rest is what the text has from `at` on, and no blank stands there.
+-- One byte of a part, and then the others.
+module _ (text : List ℕ) (i e : ℕ) where
+  pub over-more : (out now : List ℕ) (m : ℕ) → i < e → e ≤ length text → now ≡ set out m (getD text i 0)
+      → over now (m + 1) (take (e - (i + 1)) (drop (i + 1) text)) ≡ over out m (take (e - i) (drop i text))
+  unfolding over
+  over-more out now m h l q =
+      let s : e - i ≡ suc (e - suc i) = omega arith in
+      rw (s, drop-cons text i 0 (omega arith), add-one i, q)
+
+  pub over-none : (out : List ℕ) (m : ℕ) → e ≤ i → over out m (take (e - i) (drop i text)) ≡ out
+  unfolding over
+  over-none out m h = let s : e - i ≡ 0 = omega arith in rw s
+
+-- A part written up to i: what is left of it, over the bytes as they are, is all of it over the bytes as they came.
+pub record Partly (text : List ℕ) (a e : ℕ) (lent : List ℕ) (n : ℕ) (out : List ℕ) (m i : ℕ) : Type 0 where
+  pub size : length out ≡ length lent
+  pub begun : a ≤ i
+  pub inside : i ≤ e
+  pub count : m + a ≡ n + i
+  pub bytes : over out m (take (e - i) (drop i text)) ≡ over lent n (take (e - a) (drop a text))
+
+-- Bytes written after others that cover the front.
+pub over-fill : (lent ps bs : List ℕ) → over (fill lent ps) (length ps) bs ≡ fill lent (ps ++ bs)
+unfolding over
+over-fill lent ps [] = rw (append-nil ps)
+over-fill lent ps (b ∷ bs) =
+    let n : length ps + 1 ≡ length (ps ++ (b ∷ [])) = sym (length-append ps (b ∷ [])) in
+    rw (fill-next lent ps b, n) (over-fill lent (ps ++ (b ∷ [])) bs ∙ ap (fill lent) (append-assoc ps (b ∷ []) bs))
+
+-- The bytes of tokens, one after the other.
+abbrev joined : List Span → List ℕ
+joined ss = flatten (map (λ (s : Span). s .bytes) ss)
+
+-- The tokens before `at` are written, n bytes, and no blank stands there.
 pub record Copied (text lent out : List ℕ) (n at : ℕ) : Type 0 where
+  pub clear : blanks (drop at text) ≡ 0
   pub few : n ≤ at
-  pub within : n ≤ length (printed text)
-  pub clear : stops blank (drop at text) ≡ true
-  pub rest : drop n (printed text) ≡ printed (drop at text)
-  pub done : out ≡ fill lent (take n (printed text))
+  pub bytes : List ℕ
+  pub count : n ≡ length bytes
+  pub whole : printed text ≡ bytes ++ joined (rest text at)
+  pub done : out ≡ fill lent bytes
 
 pub copied-start : (text lent : List ℕ) (at : ℕ) → at ≡ 0 + blanks (drop 0 text) → Copied text lent lent 0 at
+unfolding printed tokens
 copied-start text lent at e =
-    let z : at ≡ blanks text = e ∙ zero-add (blanks text) in
+    let s = rest-skip text 0 at e in
     record {
+      clear = s .0;
       few = omega arith;
-      within = omega arith;
-      clear = rw z (front-stop blank text);
-      rest = sym (ap (λ (k : ℕ). printed (drop k text)) z ∙ printed-front text);
+      bytes = [];
+      count = refl;
+      whole = ap joined (rest-start text ∙ s .1);
       done = sym (fill-none lent);
     }
 
-shown : (b : ℕ) (bs : List ℕ) → blank b ≡ false → printed (b ∷ bs) ≡ b ∷ printed bs
-unfolding printed
-shown b bs e = rw e
-
-printed-nothing : printed [] ≡ []
-unfolding printed
-printed-nothing = refl
-
-longer : (n b : ℕ) (l m : List ℕ) → drop n l ≡ b ∷ m → n < length l
-longer n b l m e = let h = length-drop n l in let k = ap length e in omega arith
-
 module _ (text lent out : List ℕ) (n at : ℕ) (w : Copied text lent out n at) where
-  module _ (l : at < length text) where
-    next-byte : drop n (printed text) ≡ getD text at 0 ∷ printed (drop (suc at) text)
-    next-byte =
-        w .rest
-        ∙ (ap printed (drop-cons text at 0 l)
-        ∙ shown (getD text at 0) (drop (suc at) text) (not-e (blank (getD text at 0)) (ap (stops blank) (sym (drop-cons text at 0 l)) ∙ w .clear)))
+  module _ (e : ℕ) (l : at < length text) (E : e ≡ at + width (drop at text)) where
+    pub part-inside : (at ≤ e) × (e ≤ length text) × (n ≤ at)
+    part-inside = let a = end-after text at e l E in (omega arith, a .1, w .few)
 
-    inside : n < length (printed text)
-    inside = longer n (getD text at 0) (printed text) (printed (drop (suc at) text)) next-byte
-
-    this-byte : getD (printed text) n 0 ≡ getD text at 0
-    this-byte =
-        ap (λ (k : ℕ). getD (printed text) k 0) (sym (add-zero n)) ∙ (sym (getD-drop n (printed text) 0 0) ∙ ap (λ (l : List ℕ). getD l 0 0) next-byte)
-
-    pub copied-more : (now : List ℕ) (i : ℕ) → now ≡ set out n (getD text at 0) → i ≡ (at + 1) + blanks (drop (at + 1) text) → Copied text lent now (n + 1) i
-    copied-more now i e q =
-        let ahead : drop i text ≡ drop (blanks (drop (at + 1) text)) (drop (at + 1) text) = ap (λ (k : ℕ). drop k text) q ∙ sym (drop-drop (blanks (drop (at + 1) text)) (at + 1) text) in
+    pub copied-more : (now : List ℕ) (m i : ℕ) → m ≡ n + (e - at) → now ≡ over out n (take (e - at) (drop at text)) → i ≡ e + blanks (drop e text)
+        → Copied text lent now m i
+    unfolding flatten
+    copied-more now m i M q I =
+        let a = end-after text at e l E in
+        let s = rest-skip text e i I in
+        let t = take (e - at) (drop at text) in
+        let z : length t ≡ e - at = part-length text at e (a .1) in
         record {
+          clear = s .0;
           few = omega (arith, w .few);
-          within = omega (arith, inside);
-          clear = ap (stops blank) ahead ∙ front-stop blank (drop (at + 1) text);
-          rest =
-              sym (drop-drop 1 n (printed text))
-              ∙ (ap (drop 1) next-byte ∙ sym (ap printed ahead ∙ (printed-front (drop (at + 1) text) ∙ ap (λ (k : ℕ). printed (drop k text)) (add-one at))));
-          done =
-              e
-              ∙ (ap (λ (o : List ℕ). set o n (getD text at 0)) (w .done)
-              ∙ (ap (λ (b : ℕ). set (fill lent (take n (printed text))) n b) (sym this-byte)
-              ∙ (fill-more lent (printed text) n inside ∙ ap (λ (k : ℕ). fill lent (take k (printed text))) (sym (add-one n)))));
+          bytes = w .bytes ++ t;
+          count = omega (arith, length-append (w .bytes) t, w .count);
+          whole =
+              w .whole ∙ ap (λ (ss : List Span). w .bytes ++ joined ss) (rest-token text at e l (w .clear) E)
+              ∙ sym (append-assoc (w .bytes) t (joined (rest text e)))
+              ∙ ap (λ (ss : List Span). (w .bytes ++ t) ++ joined ss) (s .1);
+          done = q ∙ rw (w .done, w .count) (over-fill lent (w .bytes) t);
         }
 
+  nothing-left : length text ≤ at → printed text ≡ w .bytes
+  unfolding flatten
+  nothing-left l = w .whole ∙ rw (rest-end text at l) (append-nil (w .bytes))
+
   pub copied-all : length text ≤ at → n ≡ length (printed text)
-  copied-all l =
-      let z : drop n (printed text) ≡ [] = w .rest ∙ (ap printed (drop-of-length-le text l) ∙ printed-nothing) in
-      let h = length-drop n (printed text) in
-      let k = ap length z in
-      omega (arith, w .within)
+  copied-all l = w .count ∙ sym (ap length (nothing-left l))
 
   pub copied-out : length text ≤ at → out ≡ fill lent (printed text)
-  copied-out l = w .done ∙ ap (fill lent) (take-all n (printed text) (omega (arith, copied-all l)))
+  copied-out l = w .done ∙ sym (ap (fill lent) (nothing-left l))

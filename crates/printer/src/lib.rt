@@ -1,8 +1,11 @@
 ghost use mathlib.Core.Path.{_≡_};
-ghost use lib.ListN.{length};
+ghost use Prim.Native.Nat.{_+_, _-_, _≤_};
+ghost use lib.ListN.{length, take, drop};
 ghost use Rattle.base.specs.Fill.{fill};
+ghost use Rattle.lexer.specs.Lexicon.{Lexicon};
 ghost use Rattle.grammar.specs.Printed.{printed};
 ghost use Rattle.printer.specs.Prints.{print-answer, print-of, left-by};
+ghost use Rattle.printer.specs.code.Over.{over};
 ghost use Rattle.printer.specs.code.PassedOn.{passed-on};
 use reading::Answer;
 
@@ -12,17 +15,34 @@ pub enum Printed {
     Refused(u8, usize),
 }
 
-// The text without its blanks over the front of `out`, as far as it goes; answers how many bytes there are.
-fn copy(text: &[u8], out: &mut [u8]) -> usize
+// The bytes of the text from `a` to `e` over those of `out` from n on, as far as it goes; answers the place past them.
+fn copy_part(text: &[u8], a: usize, e: usize, out: &mut [u8], n: usize) -> usize
+    requires { ⌜ (a ≤ e) × (e ≤ length (now text)) × (n ≤ a) ⌝ }
+    ensures { λ r. ⌜ r ≡ n + (e - a) ⌝ }
+    ensures { λ r. ⌜ now (out .exit) ≡ over (now (out .entry)) n (take (e - a) (drop a (now (text .entry)))) ⌝ }
+{
+    let mut m = n;
+    let mut i = a;
+    while i < e {
+        base::put_byte(out, m, text[i]);
+        m += 1;
+        i += 1;
+    }
+    m
+}
+
+// The tokens, one after the other, over the front of `out`, as far as it goes; answers how many bytes they have.
+fn copy(text: &[u8], out: &mut [u8], lexicon: &[u8; 400]) -> usize
+    requires { ⌜ Lexicon (now lexicon) ⌝ }
     ensures { λ r. ⌜ r ≡ length (printed (now (text .entry))) ⌝ }
     ensures { λ r. ⌜ now (out .exit) ≡ fill (now (out .entry)) (printed (now (text .entry))) ⌝ }
 {
-    let mut n: usize = 0;
-    let mut at = lexer::skip(text, 0);
+    let mut n = 0;
+    let mut at = lexer::gap(text, 0, lexicon);
     while at < text.len() {
-        base::put_byte(out, n, text[at]);
-        n += 1;
-        at = lexer::skip(text, at + 1);
+        let e = lexer::token_end(text, at, lexicon);
+        n = copy_part(text, at, e, out, n);
+        at = lexer::gap(text, e, lexicon);
     }
     n
 }
@@ -38,14 +58,15 @@ fn passed_on(answer: Answer) -> Printed
 }
 
 // The answer to a text by what reading it answered.
-fn print_read(text: &[u8], out: &mut [u8], answer: Answer) -> Printed
+fn print_read(text: &[u8], out: &mut [u8], answer: Answer, lexicon: &[u8; 400]) -> Printed
+    requires { ⌜ Lexicon (now lexicon) ⌝ }
     ensures { λ r. ⌜ r ≡ print-answer (now (text .entry)) answer ⌝ }
     ensures { λ r. ⌜ now (out .exit) ≡ left-by (now (text .entry)) (now (out .entry)) (print-answer (now (text .entry)) answer) ⌝ }
 {
     let Answer::Done = answer else {
         return passed_on(answer);
     };
-    Printed::Bytes(copy(text, out))
+    Printed::Bytes(copy(text, out, lexicon))
 }
 
 // The text without its blanks, or the refusal: 1 for a buffer of under 16,384 bytes, and then reading's. A refused text leaves the buffer as
@@ -59,5 +80,6 @@ pub fn print(text: &[u8], out: &mut [u8]) -> Printed
     }
     let o = reader::read(text);
     let answer = o.answer;
-    print_read(text, out, answer)
+    let lexicon = lexer::lexicon();
+    print_read(text, out, answer, &lexicon)
 }

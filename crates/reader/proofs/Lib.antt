@@ -1,4 +1,3 @@
-mod Laws
 mod Stored
-pub mod Stages
+mod Stages
 pub mod Promised

@@ -1,112 +1,121 @@
--- How one stage of reading leads to the next.
-use mathlib.Core.Path.{_≡_, refl, sym, _∙_, ap, ap₂}
-use mathlib.Core.List.{List}
-use Prim.Native.Nat.{ℕ, _≤_}
+-- How the walk and the scans lead to the answer.
+use mathlib.Core.Path.{_≡_, refl, sym, _∙_, ap}
+use mathlib.Core.Bool.{Bool, true, false, cond}
+use mathlib.Core.List.{List, []}
+use Prim.Native.Nat.{ℕ, _≤_, _<_}
 use native.Mathlib.Omega.{arith}
-use lib.ListN.{length, take}
+use lib.Dec.{ltb}
+use lib.ListN.{length, getD, replicate}
+use borrow.Author.Tests.{lt-ltb, le-ltb}
+use Rattle.diagram.specs.Tree.{Flow}
+use Rattle.diagram.specs.Count.{flow-nodes}
 use Rattle.tokens.specs.Spans.{spans-of, codes, places}
-use Rattle.base.specs.Fill.{fill}
-use Rattle.tokens.specs.Scanned.{scan-of, written}
-use Rattle.tokens.specs.declared.Scan.{Scan}
+use Rattle.tokens.specs.Scanned.{first-foreign, first-long, scan-of}
 use Rattle.tokens.specs.declared.Scan.the-variants.{Tokens, Refused as Unscanned}
-use Rattle.base.proofs.Begins.{Begins, fill-begins}
-use Rattle.tokens.proofs.Spans.{codes-length, places-length, tokens-bounded}
-use Rattle.grammar.specs.Machine.{Outcome, whole, stop, outcome}
-use Rattle.grammar.proofs.Limited.{whole-none-big}
-use Rattle.grammar.proofs.Few.{whole-few}
-use Rattle.parser.specs.declared.Step.{Step}
-use Rattle.parser.specs.declared.Step.the-variants.{Go, Stop}
-use Rattle.parser.specs.Parsed.{parsed as step-of}
+use Rattle.grammar.specs.Machine as Machine
+use Rattle.grammar.specs.Machine.{Outcome, outcome}
 use Rattle.rules.specs.TokenNodes.{TokenNode, token-nodes, name-in}
-use Rattle.nodes.specs.code.Columns.{keys, depths, by-columns}
 use Rattle.rules.specs.Judged.{verdict}
+use Rattle.rules.proofs.Trees.{flow-token-nodes}
+use Rattle.reading.specs.Answers.{no-diagram, refused, judged, parsed, scanned, read-of}
+use Rattle.reading.specs.Refused.{Derived}
+use Rattle.reading.specs.declared.Answer.the-variants.{Done, Refused}
+use Rattle.reading.proofs.Verdicts.{tree-judged}
+use Rattle.reading.proofs.Derived.{whole-derived, derived-answer}
+use Rattle.walked.specs.Walk.{State, state, whole, stop, ending, unwritten, placed-by}
+use Rattle.walked.specs.code.Readers.{told as told-as}
+use Rattle.walked.specs.declared.Walk.{Walk}
+use Rattle.walked.specs.declared.Walk.the-variants.{Whole, Refused as Turned}
+use Rattle.diagram.specs.declared.Diagram.{Diagram}
 use Rattle.rules.specs.declared.Verdict.{Verdict}
 use Rattle.rules.specs.declared.Verdict.the-variants.{Kept, Refused as Unkept}
-use Rattle.diagram.specs.declared.Diagram.{Diagram}
 use Rattle.reading.specs.Nodes.{stored}
-use Rattle.reading.specs.declared.Answer.the-variants.{Done}
-use Rattle.nodes.proofs.ByColumns.{columns-token-nodes, keys-count, depths-count}
-use Rattle.reader.specs.code.Stages.{scan-answer, parse-answer, verdict-answer}
-use Rattle.reading.specs.Answers.{no-diagram, judged, parsed, scanned, read-of}
-use Rattle.reading.specs.declared.ReadResult.{ReadResult}
-use Rattle.reading.proofs.Scans.{scan-clean, clean-scan}
+use Rattle.walked.proofs.Located.{ends-as}
+use Rattle.walked.proofs.Told.{read, told}
+use Rattle.walked.proofs.Deep.{nested}
+use Rattle.walked.proofs.Sized.{sized}
+use Rattle.reader.specs.code.Stages.{turned-away, Walked}
 
--- From the tokens to the columns of nodes.
-pub record Columns (cs ks ds : List ℕ) (n m : ℕ) : Type 0 where
-  pub read : outcome cs ≡ whole m
-  pub few : n ≤ 256
-  pub first : Begins n ks (keys 0 cs)
-  pub second : Begins n ds (depths 0 cs)
+-- A text over the limit.
+pub long-text : (text : List ℕ) → 16384 < length text → no-diagram (Refused 2 16384) ≡ read-of text
+unfolding read-of scan-of
+long-text text h = rw (lt-ltb 16384 (length text) h)
 
-read-whole : (cs : List ℕ) (o : Outcome) (len : ℕ) (r : Step) (x y : ℕ) → outcome cs ≡ o → r ≡ step-of len o → r ≡ Go x y → outcome cs ≡ whole y
-read-whole cs (whole n) len r x y q e g = let z : n ≡ y = cc in q ∙ ap whole z
-read-whole cs (stop c k) len r x y q e g = let z : _≡_ {A = ℕ} 0 1 = cc in let w : ⊥ = omega arith in absurd w
+-- Where the machine along the text stops, the machine over its tokens does, at the token of that place.
+abbrev zeros : List ℕ
+zeros = replicate 2056 0
 
-pub columns : (cs ks ds lent owed : List ℕ) (n len : ℕ) (r : Step) (x y : ℕ) → r ≡ step-of len (outcome cs) → r ≡ Go x y → length lent ≡ 256 → length owed ≡ 256
-    → n ≡ length (keys 0 cs) → ks ≡ fill lent (keys 0 cs) → ds ≡ fill owed (depths 0 cs) → Columns cs ks ds n y
-columns cs ks ds lent owed n len r x y e g l o q a b =
-    let w = read-whole cs (outcome cs) len r x y refl e g in
-    let h : n ≤ 256 = omega (arith, keys-count 0 cs, whole-none-big cs y w .0, whole-few cs y w) in
+stop-outcome : (text : List ℕ) (c k : ℕ) → ending text zeros ≡ stop c k → Machine.stop c k ≡ placed-by (λ j. getD (places text) j (length text)) (outcome (codes text))
+stop-outcome text c k e = sym (ap unwritten e) ∙ ends-as text zeros
+
+placed-parse : (text : List ℕ) (hs : List TokenNode) (c k : ℕ) (o : Outcome) → Machine.stop c k ≡ placed-by (λ j. getD (places text) j (length text)) o
+    → refused c k ≡ parsed text (places text) hs o
+placed-parse text hs c k (Machine.whole n) e = let z : _≡_ {A = ℕ} 0 1 = cc in let w : ⊥ = omega arith in absurd w
+placed-parse text hs c k (Machine.stop d j) e = let x : c ≡ d = cc in let y : k ≡ getD (places text) j (length text) = cc in rw (x, y)
+
+by-scan : (text : List ℕ) (c k : ℕ) (a b : Bool) → (hs : List TokenNode) (o : Outcome) → Machine.stop c k ≡ placed-by (λ j. getD (places text) j (length text)) o
+    → (f l n : ℕ) → no-diagram (cond a (Refused 3 f) (cond b (Refused 4 l) (Refused c k)))
+    ≡ cond a (refused 3 f) (cond b (refused 4 l) (parsed text (places text) hs o))
+by-scan text c k true b hs o e f l n = refl
+by-scan text c k false true hs o e f l n = refl
+by-scan text c k false false hs o e f l n = placed-parse text hs c k o e
+
+scanned-by : (text cs ps : List ℕ) (a b : Bool) (f l n : ℕ)
+    → scanned text cs ps (cond a (Unscanned 3 f) (cond b (Unscanned 4 l) (Tokens n)))
+    ≡ cond a (refused 3 f) (cond b (refused 4 l) (parsed text ps (token-nodes (name-in text ps) 0 0 cs) (outcome cs)))
+scanned-by text cs ps true b f l n = refl
+scanned-by text cs ps false true f l n = refl
+scanned-by text cs ps false false f l n = refl
+
+pub stopped : (text : List ℕ) (c k : ℕ) → length text ≤ 16384 → ending text zeros ≡ stop c k → no-diagram (turned-away text c k) ≡ read-of text
+unfolding read-of scan-of turned-away
+stopped text c k h e =
+    by-scan text c k (ltb (first-foreign text) (length text)) (ltb (first-long (spans-of text) (length text)) (length text))
+    (token-nodes (name-in text (places text)) 0 0 (codes text)) (outcome (codes text)) (stop-outcome text c k e) (first-foreign text)
+    (first-long (spans-of text) (length text)) (length (spans-of text))
+    ∙ (sym (scanned-by text (codes text) (places text) (ltb (first-foreign text) (length text))
+    (ltb (first-long (spans-of text) (length text)) (length text)) (first-foreign text) (first-long (spans-of text) (length text)) (length (spans-of text)))
+    ∙ sym (ap (λ (b : Bool). scanned text (codes text) (places text) (cond b (Unscanned 2 16384) (cond (ltb (first-foreign text) (length text)) (Unscanned 3 (first-foreign text)) (cond (ltb (first-long (spans-of text) (length text)) (length text)) (Unscanned 4 (first-long (spans-of text) (length text))) (Tokens (length (spans-of text))))))) (le-ltb 16384 (length text) h)))
+
+whole-outcome : (text : List ℕ) (n : ℕ) (o : Outcome) → Machine.whole n ≡ placed-by (λ j. getD (places text) j (length text)) o → o ≡ Machine.whole n
+whole-outcome text n (Machine.whole m) e = sym e
+whole-outcome text n (Machine.stop c j) e = let z : _≡_ {A = ℕ} 0 1 = cc in let w : ⊥ = omega arith in absurd w
+
+many-few : (text : List ℕ) (d : Flow) (n : ℕ) (st : State) → Derived text d → ending text zeros ≡ whole n st → n ≤ 256
+many-few text d n st g e =
+    let r = read text d (g .derives) (g .nodes) (g .depth) in
+    let q : whole n st ≡ whole (flow-nodes d) (r .0) = sym e ∙ r .1 in
+    let z : n ≡ flow-nodes d = cc in
+    omega (arith, g .nodes)
+
+pub walked : (text : List ℕ) (n : ℕ) (st : State) → length text ≤ 16384 → ending text zeros ≡ whole n st → Walked text n (st .rows)
+walked text n st h e =
+    let o = whole-outcome text n (outcome (codes text)) (sym (ap unwritten e) ∙ ends-as text zeros) in
+    let r = whole-derived text n h o in
+    let d = r .0 in
+    let t = told text d (r .1 .derives) (r .1 .nodes) (r .1 .depth) n st e in
     record {
-      read = w;
-      few = h;
-      first = fill-begins n lent ks (keys 0 cs) q (omega arith) a;
-      second = fill-begins n owed ds (depths 0 cs) (omega (arith, keys-count 0 cs, depths-count 0 cs)) (omega arith) b;
+      nodes = flow-token-nodes d false 1 0 [];
+      count = sym (t .count);
+      few = many-few text d n st (r .1) e;
+      told = t .nodes;
+      deep = nested d (r .1 .depth);
+      small = sized d (r .1 .derives .proper .sizes);
+      answer = derived-answer text d (r .1) ∙ ap (judged (places text) (flow-token-nodes d false 1 0 [])) (sym (tree-judged (places text) d));
     }
 
-pub stopped-no-diagram : (text ps : List ℕ) (hs : List TokenNode) (len : ℕ) (o : Outcome) (r : Step) (c k : ℕ) → r ≡ step-of len o → r ≡ Stop c k
-    → no-diagram (parse-answer text ps r) ≡ parsed text ps hs o
-stopped-no-diagram text ps hs len (whole n) r c k e g = let z : _≡_ {A = ℕ} 0 1 = cc in let w : ⊥ = omega arith in absurd w
-stopped-no-diagram text ps hs len (stop d j) r c k e g = rw e
+-- By the answer of the walk.
+module _ (text rows : List ℕ) (r : Walk) (h : length text ≤ 16384) (e : ending text zeros ≡ told-as r rows) where
+  pub walk-refused : {c k : ℕ} → r ≡ Turned c k → no-diagram (turned-away text c k) ≡ read-of text
+  walk-refused {c} {k} q = stopped text c k h (e ∙ ap (λ (x : Walk). told-as x rows) q)
 
-pub whole-judged : (text ps cs ks ds : List ℕ) (n m : ℕ) (o : ReadResult) → Columns cs ks ds n m
-    → o ≡ judged ps (by-columns (name-in text ps) cs (take n ks) (take n ds)) (verdict ps (by-columns (name-in text ps) cs (take n ks) (take n ds)))
-    → o ≡ parsed text ps (token-nodes (name-in text ps) 0 0 cs) (outcome cs)
-whole-judged text ps cs ks ds n m o w e =
-    let h = ap₂ (by-columns (name-in text ps) cs) (w .first .is) (w .second .is) ∙ columns-token-nodes (name-in text ps) cs in
-    e ∙ (ap (λ (l : List TokenNode). judged ps l (verdict ps l)) h ∙ sym (ap (parsed text ps (token-nodes (name-in text ps) 0 0 cs)) (w .read)))
+  pub walk-whole : {n : ℕ} → r ≡ Whole n → Walked text n rows
+  walk-whole {n} q = walked text n (state rows []) h (e ∙ ap (λ (x : Walk). told-as x rows) q)
 
--- From the columns to the diagram.
-pub verdict-no-diagram : (ps : List ℕ) (hs : List TokenNode) (w v : Verdict) (c k : ℕ) → v ≡ w → v ≡ Unkept c k → no-diagram (verdict-answer v) ≡ judged ps hs w
-verdict-no-diagram ps hs (Kept x y) v c k e g = let z : _≡_ {A = ℕ} 0 1 = cc in let w : ⊥ = omega arith in absurd w
-verdict-no-diagram ps hs (Unkept d j) v c k e g = rw e
+-- By the answer of the sweeps.
+module _ {text rows : List ℕ} {n : ℕ} (w : Walked text n rows) {v : Verdict} (q : v ≡ verdict (places text) (w .nodes)) where
+  pub judged-refused : {c k : ℕ} → v ≡ Unkept c k → refused c k ≡ read-of text
+  judged-refused e = sym (w .answer ∙ ap (judged (places text) (w .nodes)) (sym q ∙ e))
 
-pub kept-done : (ps : List ℕ) (hs : List TokenNode) (w v : Verdict) (x y : ℕ) (d : Diagram) → v ≡ w → v ≡ Kept x y → d ≡ stored ps hs x y
-    → record { answer = Done; diagram = d } ≡ judged ps hs w
-kept-done ps hs (Kept a b) v x y d e g q = let p : x ≡ a = cc in let r : y ≡ b = cc in rw (q, p, r)
-kept-done ps hs (Unkept c k) v x y d e g q = let z : _≡_ {A = ℕ} 0 1 = cc in let w : ⊥ = omega arith in absurd w
-
--- From the text to its tokens.
-pub record Tokened (text cs ps : List ℕ) (n : ℕ) : Type 0 where
-  pub scanned : scan-of text ≡ Tokens n
-  pub first : Begins n cs (codes text)
-  pub second : Begins n ps (places text)
-
-pub tokened : (text cs ps lent owed : List ℕ) (n : ℕ) (r : Scan) → r ≡ scan-of text → r ≡ Tokens n → length lent ≡ 16384 → length owed ≡ 16384
-    → cs ≡ written (scan-of text) (codes text) lent → ps ≡ written (scan-of text) (places text) owed → Tokened text cs ps n
-tokened text cs ps lent owed n r e g l o a b =
-    let s : scan-of text ≡ Tokens n = sym e ∙ g in
-    let c = scan-clean text n s in
-    let k : Tokens n ≡ Tokens (length (spans-of text)) = sym s ∙ clean-scan text c in
-    let q : n ≡ length (spans-of text) = cc in
-    let h : n ≤ 16384 = omega (arith, tokens-bounded text, c .size) in
-    record {
-      scanned = s;
-      first = fill-begins n lent cs (codes text) (omega (arith, codes-length text)) (omega arith) (rw s at a);
-      second = fill-begins n owed ps (places text) (omega (arith, places-length text)) (omega arith) (rw s at b);
-    }
-
-pub scanned-no-diagram : (text : List ℕ) (s r : Scan) (c k : ℕ) → r ≡ s → r ≡ Unscanned c k → no-diagram (scan-answer r) ≡ scanned text (codes text) (places text) s
-scanned-no-diagram text (Tokens n) r c k e g = let z : _≡_ {A = ℕ} 0 1 = cc in let w : ⊥ = omega arith in absurd w
-scanned-no-diagram text (Unscanned d j) r c k e g = rw e
-
-pub unscanned : (text : List ℕ) (r : Scan) (c k : ℕ) → r ≡ scan-of text → r ≡ Unscanned c k → no-diagram (scan-answer r) ≡ read-of text
-unfolding read-of
-unscanned text r c k e g = scanned-no-diagram text (scan-of text) r c k e g
-
-pub tokened-read : (text cs ps : List ℕ) (n : ℕ) (o : ReadResult) → Tokened text cs ps n
-    → o ≡ parsed text (take n ps) (token-nodes (name-in text (take n ps)) 0 0 (take n cs)) (outcome (take n cs)) → o ≡ read-of text
-unfolding read-of
-tokened-read text cs ps n o w e =
-    e ∙ (ap₂ (λ (c p : List ℕ). parsed text p (token-nodes (name-in text p) 0 0 c) (outcome c)) (w .first .is) (w .second .is)
-    ∙ sym (ap (scanned text (codes text) (places text)) (w .scanned)))
+  pub judged-kept : {x y : ℕ} → v ≡ Kept x y → {d : Diagram} → d ≡ stored (places text) (w .nodes) x y → record { answer = Done; diagram = d } ≡ read-of text
+  judged-kept e {d} p = ap (λ (d : Diagram). record { answer = Done; diagram = d }) p ∙ sym (w .answer ∙ ap (judged (places text) (w .nodes)) (sym q ∙ e))

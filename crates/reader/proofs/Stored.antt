@@ -1,47 +1,37 @@
 -- The nodes as they are stored one after the other, over the blank ones.
-use mathlib.Core.Path.{_≡_, refl, sym, _∙_, ap}
+use mathlib.Core.Path.{_≡_, refl, sym, _∙_, ap, ap₂}
+use mathlib.Core.Bool.{Bool, true, false}
 use mathlib.Core.List.{List, [], _∷_, _++_, map}
-use Prim.Native.Nat.{ℕ, zero, suc, _+_, _-_, _≤_, _<_}
-use native.Mathlib.Nat.{le-of-suc-le-suc}
+use Prim.Native.Nat.{ℕ, zero, suc, _+_, _-_, _%_, _≤_, _<_}
+use native.Mathlib.Nat.{le-of-suc-le-suc, mod-eq-of-lt}
 use native.Mathlib.Numerals.{add-one}
 use native.Mathlib.Omega.{arith}
-use lib.ListN.{length, getD, take, drop, set, replicate}
+use lib.Dec.{eqb}
+use lib.ListN.{length, getD, take, set, replicate}
 use lib.Seq.{take-all, take-suc, set-at, length-take-le, append-snoc}
-use Rattle.diagram.specs.Tree.{Name}
 use Rattle.diagram.specs.Stored.{blank-node, blank-diagram}
 use Rattle.diagram.specs.declared.Node.{Node}
 use Rattle.diagram.specs.declared.Diagram.{Diagram}
-use Rattle.rules.specs.TokenNodes.{token-node}
-use Rattle.nodes.specs.code.Columns.{by-columns}
-use Rattle.nodes.proofs.Numbered.{count-keys}
+use Rattle.rules.specs.TokenNodes.{TokenNode}
 use Rattle.reading.specs.Nodes.{node-of, stored}
+use Rattle.walked.specs.Rows.{mark, Row, Rowed, Sized}
+use Rattle.reader.specs.code.Stages.{node-at}
 
--- The nodes of two columns.
-unfoldable pub rows : List ℕ → List ℕ → List ℕ → List ℕ → List Node
-rows ps cs [] ds = []
-rows ps cs (k ∷ ks) [] = []
-rows ps cs (k ∷ ks) (d ∷ ds) = node-of ps (token-node (λ x. []) d k (drop k cs)) ∷ rows ps cs ks ds
+-- The nodes of the rows from the node i on, n of them.
+unfoldable pub nodes-from : List ℕ → ℕ → ℕ → List Node
+nodes-from rows i zero = []
+nodes-from rows i (suc n) = node-at rows i ∷ nodes-from rows (suc i) n
 
--- A node does not depend on its name.
-rows-columns : (nm : ℕ → Name) (ps cs ks ds : List ℕ) → map (node-of ps) (by-columns nm cs ks ds) ≡ rows ps cs ks ds
-unfolding rows by-columns node-of token-node
-rows-columns nm ps cs [] ds = refl
-rows-columns nm ps cs (k ∷ ks) [] = refl
-rows-columns nm ps cs (k ∷ ks) (d ∷ ds) = ap (λ (l : List Node). node-of ps (token-node nm d k (drop k cs)) ∷ l) (rows-columns nm ps cs ks ds)
+nodes-long : (rows : List ℕ) (i n : ℕ) → length (nodes-from rows i n) ≡ n
+unfolding nodes-from
+nodes-long rows i zero = refl
+nodes-long rows i (suc n) = ap suc (nodes-long rows (suc i) n)
 
-rows-length : (ps cs ks ds : List ℕ) → length ds ≡ length ks → length (rows ps cs ks ds) ≡ length ks
-unfolding rows
-rows-length ps cs [] ds h = refl
-rows-length ps cs (k ∷ ks) [] h = let z : ⊥ = omega arith in absurd z
-rows-length ps cs (k ∷ ks) (d ∷ ds) h = ap suc (rows-length ps cs ks ds (omega arith))
-
-rows-at : (ps cs ks ds : List ℕ) (i : ℕ) → length ds ≡ length ks → i < length ks
-    → getD (rows ps cs ks ds) i blank-node ≡ node-of ps (token-node (λ x. []) (getD ds i 0) (getD ks i 0) (drop (getD ks i 0) cs))
-unfolding rows
-rows-at ps cs [] ds i h l = let z : ⊥ = omega arith in absurd z
-rows-at ps cs (k ∷ ks) [] i h l = let z : ⊥ = omega arith in absurd z
-rows-at ps cs (k ∷ ks) (d ∷ ds) zero h l = refl
-rows-at ps cs (k ∷ ks) (d ∷ ds) (suc i) h l = rows-at ps cs ks ds i (omega arith) (le-of-suc-le-suc l)
+nodes-at : (rows : List ℕ) (i n j : ℕ) → j < n → getD (nodes-from rows i n) j blank-node ≡ node-at rows (i + j)
+unfolding nodes-from
+nodes-at rows i zero j h = let z : ⊥ = omega arith in absurd z
+nodes-at rows i (suc n) zero h = ap (node-at rows) (omega arith)
+nodes-at rows i (suc n) (suc j) h = nodes-at rows (suc i) n j (le-of-suc-le-suc h) ∙ ap (node-at rows) (omega arith)
 
 -- The first i of some nodes, and blank ones.
 abbrev pub filled : List Node → ℕ → List Node
@@ -56,30 +46,48 @@ filled-more ns i n l m e =
     ∙ (set-at (take i ns) blank-node (replicate (256 - suc i) blank-node) n i (length-take-le i ns (omega arith))
     ∙ rw (add-one i, take-suc ns i blank-node l, append-snoc (take i ns) (getD ns i blank-node) (replicate (256 - suc i) blank-node), e))
 
--- The first i nodes of the columns are stored.
-pub record Storing (ps cs ks ds : List ℕ) (ns : List Node) (i : ℕ) : Type 0 where
-  pub inside : i ≤ length ks
-  pub is : ns ≡ filled (rows ps cs ks ds) i
+-- The first i nodes of the rows are stored.
+pub record Storing (rows : List ℕ) (count : ℕ) (ns : List Node) (i : ℕ) : Type 0 where
+  pub inside : i ≤ count
+  pub is : ns ≡ filled (nodes-from rows 0 count) i
 
-pub storing-none : (ps cs ks ds : List ℕ) {d : Diagram} → d ≡ blank-diagram → Storing ps cs ks ds (d .nodes) 0
-storing-none ps cs ks ds e = record { inside = omega arith; is = ap (λ (d : Diagram). d .nodes) e }
+pub storing-none : (rows : List ℕ) (count : ℕ) {d : Diagram} → d ≡ blank-diagram → Storing rows count (d .nodes) 0
+storing-none rows count e = record { inside = omega arith; is = ap (λ (d : Diagram). d .nodes) e }
 
-module _ {ps cs ks ds : List ℕ} {ns : List Node} {i : ℕ} (even : length ds ≡ length ks) (s : Storing ps cs ks ds ns i) where
-  pub storing-more : {k d : ℕ} {n : Node} → length ks ≤ 256 → i < length ks → k ≡ getD ks i 0 → d ≡ getD ds i 0
-      → n ≡ node-of ps (token-node (λ x. []) d k (drop k cs)) → Storing ps cs ks ds (set ns i n) (i + 1)
-  storing-more {k} {d} {n} few l p q e =
-      let r = rows-length ps cs ks ds even in
+-- A row's node is that of its token node. Its size fits a byte.
+small-size : {n : ℕ} → n ≤ 16 → n % 256 ≡ n
+small-size {n} h = mod-eq-of-lt (omega arith)
+
+mark-marked : (b : Bool) → eqb (mark b) 1 ≡ b
+mark-marked true = refl
+mark-marked false = refl
+
+row-node : (text places rows : List ℕ) (i : ℕ) (h : TokenNode) → h .size ≤ 16 → Row text places rows i h → node-at rows i ≡ node-of places h
+unfolding node-at node-of
+row-node text places rows i h b r =
+    rw (r .at, r .solid, r .name, r .code, r .size, r .depth, r .strong, mark-marked (h .solid), mark-marked (h .strong), small-size b)
+
+rows-nodes : (text places rows : List ℕ) (i : ℕ) (hs : List TokenNode) → Sized hs → Rowed text places rows i hs → nodes-from rows i (length hs) ≡ map (node-of places) hs
+unfolding nodes-from
+rows-nodes text places rows i [] b r = refl
+rows-nodes text places rows i (h ∷ hs) b r = ap₂ (λ (n : Node) (l : List Node). n ∷ l) (row-node text places rows i h (b .0) (r .0)) (rows-nodes text places rows (suc i) hs (b .1) (r .1))
+
+module _ {rows : List ℕ} {count : ℕ} {ns : List Node} {i : ℕ} (s : Storing rows count ns i) where
+  pub storing-more : {n : Node} → count ≤ 256 → i < count → n ≡ node-at rows i → Storing rows count (set ns i n) (i + 1)
+  storing-more {n} few l e =
+      let r = nodes-long rows 0 count in
       record {
         inside = omega arith;
         is =
             ap (λ (ns : List Node). set ns i n) (s .is)
-            ∙ filled-more (rows ps cs ks ds) i n (omega arith) (omega arith) (rw (p, q) at e ∙ sym (rows-at ps cs ks ds i even l));
+            ∙ filled-more (nodes-from rows 0 count) i n (omega arith) (omega arith) (e ∙ sym (nodes-at rows 0 count i l ∙ ap (node-at rows) (omega arith)));
       }
 
-  pub storing-all : (nm : ℕ → Name) (x y : ℕ) → length ks ≤ i → record { nodes = ns; count = i; copies = x; events = y } ≡ stored ps (by-columns nm cs ks ds) x y
+  pub storing-all : (text places : List ℕ) (hs : List TokenNode) (x y : ℕ) → count ≤ i → length hs ≡ count → Sized hs → Rowed text places rows 0 hs
+      → record { nodes = ns; count = count; copies = x; events = y } ≡ stored places hs x y
   unfolding stored
-  storing-all nm x y h =
-      let e : i ≡ length ks = omega (arith, s .inside) in
-      let n : length (by-columns nm cs ks ds) ≡ i = sym (count-keys nm cs ks ds (omega arith)) ∙ sym e in
-      let t : take i (rows ps cs ks ds) ≡ rows ps cs ks ds = take-all i (rows ps cs ks ds) (omega (arith, rows-length ps cs ks ds even)) in
-      rw (s .is, n, t, rows-columns nm ps cs ks ds)
+  storing-all text places hs x y h l b r =
+      let e : i ≡ count = omega (arith, s .inside) in
+      let t : take i (nodes-from rows 0 count) ≡ nodes-from rows 0 count = take-all i (nodes-from rows 0 count) (omega (arith, nodes-long rows 0 count)) in
+      let m : nodes-from rows 0 count ≡ map (node-of places) hs = rw (← l) (rows-nodes text places rows 0 hs b r) in
+      rw (s .is, t, m, e, l)

@@ -15,6 +15,7 @@ use Rattle.tokens.specs.Spans.{Span, spans-of, tokens, places}
 use Rattle.tokens.specs.Scanned.{first-foreign, first-long, scan-of}
 use Rattle.tokens.specs.declared.Scan.{Scan}
 use Rattle.tokens.specs.declared.Scan.the-variants.{Tokens, Refused}
+use Rattle.tokens.proofs.Foreign.{foreign-along}
 use Rattle.tokens.proofs.Spans.{no-span, tokens-length, token-at, place-at, places-below}
 use Rattle.grammar.proofs.Rendered.{usual}
 use Rattle.reading.specs.Refused.{Long, Foreign, Usual, Wordy, Clean}
@@ -94,10 +95,11 @@ module _ (text : List ℕ) where
 
   foreign-first : {at : ℕ} → Foreign text at → first-foreign text ≡ at
   foreign-first {at} h =
-      front-first usual text at (record { inside = h .inside; here = rw (h .here); first = λ j k. not-i (h .first j k) })
+      foreign-along text
+      ∙ front-first usual text at (record { inside = h .inside; here = rw (h .here); first = λ j k. not-i (h .first j k) })
 
   usual-none : Usual text → length text ≤ first-foreign text
-  usual-none h = front-all usual text (λ j k. not-i (h j k))
+  usual-none h = rw (foreign-along text) (front-all usual text (λ j k. not-i (h j k)))
 
   words-none : Clean text → first-long (spans-of text) (length text) ≡ length text
   words-none h = long-none (spans-of text) (length text) (λ j k. short-fits j (h .words j (omega (arith, sizes-length))))
@@ -166,7 +168,7 @@ module _ (text : List ℕ) where
 
   sorted-bytes : length text ≤ 16384 → Sorted text
   sorted-bytes s =
-      let k = first-foreign text in
+      let k = front usual text in
       ⊎-elim
       (λ e.
       let f = first-front usual text (ltb-true k (length text) e) in

@@ -10,9 +10,11 @@ returns c =
 
 returns-2 : tie.Need-returns-2
 returns-2 c =
-    let a = c .before .before .before .before .before .before .before .before .args in
     let p = c .before .before .print-read in
-    long-answers (a .text .now) (a .out .now) (p .last .1 .0) _ (p .result) (c .before .before .before .before .before .if1 .left) (c .before .before .before .before .read .ensures) (p .ensures)
+    let r = c .before .before .before .before .before .before in
+    let a = r .before .before .before .before .args in
+    long-answers (a .text .now) (a .out .now) (p .last .1 .0) _ (p .result) (r .before .if1 .left) (r .read .ensures) (p .ensures)
 
 pub print-spec : {M : Type 1} → statement M
-print-spec = tie.close (tie.spec returns (λ c κs. search needs) (λ c κs. search needs) (λ c. search needs) returns-2)
+print-spec =
+    tie.close (tie.spec returns (λ c κs. search needs) (λ c κs. search needs) (λ c κs. search needs) (λ c. search needs) returns-2)

@@ -1,49 +1,56 @@
-use mathlib.Core.Path.{_∙_, ap}
-use Prim.Native.Nat.{ℕ}
-use lib.ListN.{replicate, length-replicate}
-use Rattle.reader.proofs.Stages.{Tokened, tokened, unscanned, tokened-read}
-use Rattle.reading.specs.Answers.{no-diagram}
+-- `reader::read` meets its contract: too long, refused on the walk, or judged by the rows that the walk leaves.
 use borrow.Author.Needs.{needs}
+use mathlib.Core.Path.{_∙_, ap}
+use Rattle.reading.specs.Answers.{no-diagram}
+use Rattle.reader.proofs.Stages.{long-text, walk-refused, walk-whole}
 use Rattle.reader.proofs.read.Statement.{statement}
 use Rattle.reader.proofs.read.Tie as tie
 
--- What is known once the tokens are there.
-abbrev Found : tie.After-s → Type 0
-Found c =
-    Tokened (c .before .before .before .before .before .before .before .before .args .text .now) (c .before .before .before .before .scan-text .last .1 .0)
-    (c .before .before .before .before .scan-text .last .1 .1 .0) (c .s .given .0 .0)
-
-found : (c : tie.After-s) → Found c
-found c =
-    let scan = c .before .before .before .before .scan-text in
-    tokened (c .before .before .before .before .before .before .before .before .args .text .now) (scan .last .1 .0) (scan .last .1 .1 .0) (replicate 16384 0)
-    (replicate 16384 0) (c .s .given .0 .0) (scan .result) (scan .ensures .0) (c .s .given .1) (length-replicate {A = ℕ} 16384 0) (length-replicate {A = ℕ} 16384 0)
-    (scan .ensures .1 .0) (scan .ensures .1 .1)
+no-diagram-requires : tie.Need-no-diagram-requires
+no-diagram-requires c κs = search needs
 
 returns : tie.Need-returns
-returns c =
-    c .no-diagram .ensures
-    ∙ (ap no-diagram (c .before .scan-answer .ensures)
-    ∙ unscanned (c .before .before .before .before .before .before .before .before .before .before .args .text .now) _ _ _ (c .before .before .before .before .before .before .scan-text .ensures .0) (c .before .before .enum-told .given .1))
+returns c = c .no-diagram .ensures ∙ long-text _ (c .before .if1 .taken)
 
-array-share-prefix-codes : tie.Need-array-share-prefix-codes
-array-share-prefix-codes c = found (c .before) .first .room
+lexicon-requires : tie.Need-lexicon-requires
+lexicon-requires c κs = search needs
 
-slice-aggregate-read-tokens : tie.Need-slice-aggregate-read-tokens
-slice-aggregate-read-tokens c = found (c .before .before) .first .exact
+parse-requires : tie.Need-parse-requires
+parse-requires c κs = search needs
 
-array-share-prefix-starts : tie.Need-array-share-prefix-starts
-array-share-prefix-starts c = found (c .before .before) .second .room
+enum-known-w : tie.Need-enum-known-w
+enum-known-w c = search needs
 
-slice-aggregate-read-tokens-2 : tie.Need-slice-aggregate-read-tokens-2
-slice-aggregate-read-tokens-2 c = found (c .before .before .before) .second .exact
+turned-away-requires : tie.Need-turned-away-requires
+turned-away-requires c κs = search needs
+
+no-diagram-requires-2 : tie.Need-no-diagram-requires-2
+no-diagram-requires-2 c κs = search needs
+
+enum-known-w-2 : tie.Need-enum-known-w-2
+enum-known-w-2 c = search needs
+
+judge-requires : tie.Need-judge-requires
+judge-requires c κs = (walk-whole _ _ _ (c .before .before .before .before .before .before .before .before .before .if1 .left) (c .before .before .before .before .before .parse .ensures) (c .before .before .before .w2 .given .1) .few, c .before .before .before .before .before .before .before .before .lexicon .ensures)
 
 returns-2 : tie.Need-returns-2
-returns-2 c = tokened-read (c .before .before .before .before .before .before .before .before .before .before .before .before .args .text .now) _ _ _ _ (found (c .before .before .before .before)) (c .read-tokens .ensures)
+returns-2 c = c .no-diagram2 .ensures ∙ (ap no-diagram (c .before .turned-away .ensures) ∙ walk-refused _ _ _ (c .before .before .before .before .before .before .before .before .before .before .if1 .left) (c .before .before .before .before .before .before .parse .ensures) (c .before .before .before .before .w .given .1))
+
+returns-3 : tie.Need-returns-3
+returns-3 c = c .judge .ensures (walk-whole _ _ _ (c .before .before .before .before .before .before .before .before .before .before .if1 .left) (c .before .before .before .before .before .before .parse .ensures) (c .before .before .before .before .w2 .given .1))
 
 pub read-spec : {M : Type 1} → statement M
 read-spec =
     tie.close
-    (tie.spec (λ c. search needs) (λ c. search needs) (λ c κs. search needs) (λ c. search needs) (λ c. search needs) (λ c κs. search needs)
-    (λ c κs. search needs) returns array-share-prefix-codes slice-aggregate-read-tokens array-share-prefix-starts
-    slice-aggregate-read-tokens-2 (λ c κs. search needs) returns-2)
+    (tie.spec
+    no-diagram-requires
+    returns
+    lexicon-requires
+    parse-requires
+    enum-known-w
+    turned-away-requires
+    no-diagram-requires-2
+    enum-known-w-2
+    judge-requires
+    returns-2
+    returns-3)

@@ -1,40 +1,45 @@
 -- What the functions between the stages are held to.
-use mathlib.Core.Bool.{Bool, false, cond}
+use mathlib.Core.Path.{_≡_}
+use mathlib.Core.Bool.{cond}
 use mathlib.Core.List.{List}
-use Prim.Native.Nat.{ℕ, _+_, _-_}
-use lib.ListN.{getD, drop}
-use Rattle.tokens.specs.declared.Scan.{Scan}
-use Rattle.tokens.specs.declared.Scan.the-variants.{Tokens, Refused as Unscanned}
-use Rattle.parser.specs.declared.Step.{Step}
-use Rattle.parser.specs.declared.Step.the-variants.{Go, Stop}
-use Rattle.rules.specs.TokenNodes.{flowing, copying, strong-of}
-use Rattle.rules.specs.declared.Verdict.{Verdict}
-use Rattle.rules.specs.declared.Verdict.the-variants.{Kept, Refused as Unkept}
-use Rattle.reading.specs.Nodes.{name-place}
-use Rattle.reading.specs.Answers.{place-of}
+use Prim.Native.Nat.{ℕ, _+_, _*_, _%_, _≤_}
+use lib.Dec.{eqb, ltb}
+use lib.ListN.{length, getD}
+use Rattle.tokens.specs.Spans.{spans-of, places}
+use Rattle.tokens.specs.Scanned.{first-foreign, first-long}
+use Rattle.diagram.specs.declared.Node.{Node}
+use Rattle.rules.specs.TokenNodes.{TokenNode}
+use Rattle.rules.specs.Judged.{verdict}
+use Rattle.walked.specs.Rows.{Rowed, Nested, Sized}
+use Rattle.reading.specs.Nodes.{kind-of}
+use Rattle.reading.specs.Answers.{judged, read-of}
 use Rattle.reading.specs.declared.Answer.{Answer}
-use Rattle.reading.specs.declared.Answer.the-variants.{Done, Refused}
+use Rattle.reading.specs.declared.Answer.the-variants.{Refused}
 
--- The answer that a stage leads to where it refuses.
-abbrev pub scan-answer : Scan → Answer
-scan-answer (Tokens n) = Done
-scan-answer (Unscanned number place) = Refused number place
+-- The answer to a text that the walk refuses with a number at a place.
+unfoldable pub turned-away : List ℕ → ℕ → ℕ → Answer
+turned-away text number place =
+    cond (ltb (first-foreign text) (length text)) (Refused 3 (first-foreign text))
+    (cond (ltb (first-long (spans-of text) (length text)) (length text)) (Refused 4 (first-long (spans-of text) (length text)))
+    (Refused number place))
 
-abbrev pub parse-answer : List ℕ → List ℕ → Step → Answer
-parse-answer text places (Go k n) = Done
-parse-answer text places (Stop number k) = Refused number (place-of text places k)
+-- The node i by its row.
+unfoldable pub node-at : List ℕ → ℕ → Node
+node-at rows i = record {
+  kind = kind-of (getD rows (i * 8 + 11) 0) (getD rows (i * 8 + 12) 0 % 256);
+  solid = eqb (getD rows (i * 8 + 9) 0) 1;
+  strong = eqb (getD rows (i * 8 + 14) 0) 1;
+  depth = getD rows (i * 8 + 13) 0;
+  at = getD rows (i * 8 + 8) 0;
+  name = getD rows (i * 8 + 10) 0;
+}
 
-abbrev pub verdict-answer : Verdict → Answer
-verdict-answer (Kept copies events) = Done
-verdict-answer (Unkept number place) = Refused number place
-
--- Of the node whose keyword is the token k: its size, which is 0 for one that is no replicator; whether its sw is 1, which is false for one that is no flow; the
--- place of its name or par.
-unfoldable pub size-at : List ℕ → ℕ → ℕ
-size-at cs k = cond (copying (getD cs k 0)) (getD cs (k + 4) 0 - 16) 0
-
-unfoldable pub strong-at : List ℕ → ℕ → Bool
-strong-at cs k = cond (flowing (getD cs k 0)) (strong-of (drop 3 (drop k cs))) false
-
-unfoldable pub name-at : List ℕ → List ℕ → ℕ → ℕ
-name-at cs places k = name-place (getD cs k 0) places k
+-- A text that is walked along to its end: its nodes, and what its rows tell.
+pub record Walked (text : List ℕ) (n : ℕ) (rows : List ℕ) : Type 0 where
+  pub nodes : List TokenNode
+  pub count : length nodes ≡ n
+  pub few : n ≤ 256
+  pub told : Rowed text (places text) rows 0 nodes
+  pub deep : Nested 0 nodes
+  pub small : Sized nodes
+  pub answer : read-of text ≡ judged (places text) nodes (verdict (places text) nodes)

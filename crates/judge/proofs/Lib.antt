@@ -1,6 +1,0 @@
-mod Names
-mod Marked
-mod Solids
-mod Asked
-mod Searched
-mod Ruled

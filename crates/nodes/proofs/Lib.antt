@@ -1,4 +1,0 @@
-pub mod ByColumns
-mod Tokens
-mod Written
-pub mod Numbered

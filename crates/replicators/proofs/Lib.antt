@@ -1,5 +1,0 @@
-mod Seeking
-mod Passing
-mod Capped
-mod Asked
-mod Summed

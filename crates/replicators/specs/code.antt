@@ -1,2 +1,0 @@
-pub mod Around
-pub mod Counting
