@@ -1,4 +1,5 @@
 ghost use mathlib.Core.Path.{_≡_};
+ghost use lib.ListN.{getD};
 ghost use Rattle.columns.specs.Columns.{kind-index, size-number, kind-number, columns as columns-of};
 use diagram::Diagram;
 use diagram::Kind;
@@ -7,13 +8,20 @@ use diagram::Kind;
 pub struct Nodes {
     pub kinds: [u8; 256],
     pub sizes: [u8; 256],
-    pub depths: [usize; 256],
-    pub names: [usize; 256],
+    pub depths: [u16; 256],
+    pub names: [u16; 256],
     pub count: usize,
 }
 
 // What a loop is in the column of kinds; any other number there is one of postfix order.
 pub const LOOP: u8 = 1;
+
+// A number of a column, to count with; 0 past its end.
+pub fn number(column: &[u16], i: usize) -> usize
+    ensures { λ r. ⌜ r ≡ getD (now (column .entry)) i 0 ⌝ }
+{
+    base::wide_short(base::short(column, i))
+}
 
 // Which of the kinds it is, in their order.
 pub fn index(kind: Kind) -> usize
@@ -50,7 +58,7 @@ pub fn size(kind: Kind) -> u8
 }
 
 // What a node is, as a number: a leaf, a loop, or how its parts are joined.
-fn number(kind: Kind) -> u8
+fn sort(kind: Kind) -> u8
     ensures { λ r. ⌜ r ≡ kind-number kind ⌝ }
 {
     match kind {
@@ -72,13 +80,13 @@ pub fn columns(d: Diagram) -> Nodes
 {
     let mut kinds = [0u8; 256];
     let mut sizes = [0u8; 256];
-    let mut depths = [0usize; 256];
-    let mut names = [0usize; 256];
+    let mut depths = [0u16; 256];
+    let mut names = [0u16; 256];
     let mut n = 0;
     while n < 256 && n < d.count {
         let x = d.nodes[n];
         let kind = x.kind;
-        kinds[n] = number(kind);
+        kinds[n] = sort(kind);
         sizes[n] = size(kind);
         depths[n] = x.depth;
         names[n] = x.name;

@@ -1,8 +1,8 @@
 -- What the calls answer for a drawing, by what each event number stands for.
-use mathlib.Core.Path.{_≡_, refl, sym, ap, ap₂, _∙_, subst}
+use mathlib.Core.Path.{_≡_, refl, sym, ap, _∙_, subst}
 use mathlib.Core.Bool.{true, false, cond}
-use mathlib.Core.List.{List, [], _++_}
-use Prim.Native.Nat.{ℕ, _+_, _-_, _≤_, _<_}
+use mathlib.Core.List.{List, []}
+use Prim.Native.Nat.{ℕ, _≤_, _<_}
 use native.Mathlib.Omega.{arith}
 use denote.Ref.{RefT, now}
 use lib.Dec.{ltb}
@@ -11,12 +11,13 @@ use borrow.Author.Tests.{ltb-true, ltb-false, lt-ltb, le-ltb}
 use Rattle.base.specs.Fill.{fill}
 use Rattle.base.proofs.Truth.{by-cases}
 use Rattle.diagram.specs.Tree.{Name, Flow}
-use Rattle.diagram.specs.Count.{flow-events, flow-copies}
+use Rattle.diagram.specs.Count.{flow-events}
 use Rattle.diagram.specs.declared.Diagram.{Diagram}
 use Rattle.tokens.specs.Parts.{Part, Word}
 use Rattle.tokens.proofs.WordAt.{word-within}
 use Rattle.reading.specs.Answers.{read-of}
 use Rattle.reading.specs.Accepted.{Accepted}
+use Rattle.reading.specs.Shows.{Shows}
 use Rattle.reading.specs.declared.Answer.the-variants.{Done, Refused as Unread}
 use Rattle.reading.specs.declared.ReadResult.{ReadResult}
 use Rattle.reading.proofs.Exact.{accepted-exactly, refused-exactly}
@@ -35,11 +36,10 @@ use Rattle.labels.proofs.SearchByText.{labelled}
 use Rattle.reading.specs.Reading.{Reading, drawing, no-drawing}
 use Rattle.events.specs.Labels.{label, label-of, Valued}
 use Rattle.events.specs.Names.{name-of, Placed, Named}
-use Rattle.events.specs.Listing.{listing, Listed}
+use Rattle.events.specs.Listing.{drawing-listing, listing, Listed}
 use Rattle.events.specs.code.Spots.{passed-on, refusal-line, spot-label}
-use Rattle.lines.specs.Lines.{first-line, line}
-use Rattle.lines.specs.code.Spots.{spot-listing}
-use Rattle.lines.proofs.ByLabels.{spot-line-is, spot-lines-are}
+use Rattle.lines.specs.code.Walks.{walked-listing}
+use Rattle.listed.proofs.Trees.{listing-walked}
 use Rattle.events.specs.declared.Label.{Label}
 use Rattle.events.specs.declared.Label.the-variants.{Leaf, Reset, Refused}
 use Rattle.events.proofs.Short.{Short, each-at, events-short}
@@ -63,20 +63,17 @@ module _ (d : Diagram) (e : ℕ) where
 pub record Drawn (text : List ℕ) (o : ReadResult) : Type 0 where
   pub tree : Flow
   pub its-limits : Accepted text tree
-  pub its-events : o .diagram .events ≡ flow-events tree
-  pub its-copies : o .diagram .copies ≡ flow-copies tree
+  pub shown : Shows text tree (o .diagram)
   pub its-labels : (e : ℕ) → e < flow-events tree → Labels (Stands text) (event-of (expand tree) e) (spot-of (o .diagram) e)
 
 pub drawn : (text : List ℕ) (o : ReadResult) → o ≡ read-of text → o .answer ≡ Done → Drawn text o
 drawn text o q h =
     let a = accepted-exactly text .0 (sym (ap (λ (x : ReadResult). x .answer) q) ∙ h) in
-    let s = accepted-shown text (a .0) (a .1) in
     subst (Drawn text) (sym q)
     record {
       tree = a .0;
       its-limits = a .1;
-      its-events = s .events;
-      its-copies = s .copies;
+      shown = accepted-shown text (a .0) (a .1);
       its-labels = labelled text (a .0) (a .1);
     }
 
@@ -102,7 +99,7 @@ valued-drawn text o e r q h g =
     let d = drawn text o q h in
     record {
       reading = drawing (d .tree) (d .its-limits);
-      its-label = g ∙ spot-label-is (o .diagram) (d .tree) e (d .its-events) (d .its-labels e);
+      its-label = g ∙ spot-label-is (o .diagram) (d .tree) e (d .shown .events) (d .its-labels e);
     }
 
 -- A text that was turned away, by what reading answered.
@@ -132,7 +129,7 @@ pub named-past : (text r : RefT (List ℕ)) (o : ReadResult) (e : ℕ) → o ≡
 unfolding name-of Placed
 named-past text r o e q h l p n =
     let d = drawn (now text) o q h in
-    let k = d .its-events in
+    let k = d .shown .events in
     let none : name-of (drawing (d .tree) (d .its-limits)) e ≡ [] = rw (le-ltb e (flow-events (d .tree)) (omega arith)) in
     record {
       reading = drawing (d .tree) (d .its-limits);
@@ -147,7 +144,7 @@ pub named-some : (text r : RefT (List ℕ)) (o : ReadResult) (e : ℕ) (s : Spot
 unfolding name-of Placed
 named-some text r o e s q h l g w =
     let d = drawn (now text) o q h in
-    let k = d .its-events in
+    let k = d .shown .events in
     let less : e < flow-events (d .tree) = omega arith in
     let name = event-of (expand (d .tree)) e .name in
     let stands : Stands (now text) name (s .place) = rw g (d .its-labels e less .named) in
@@ -163,22 +160,7 @@ named-some text r o e s q h l g w =
           (w .inside (word-within (now text) (s .place) name (stands .its-name) some));
     }
 
--- The listing.
-spot-listing-is : (text : List ℕ) (o : ReadResult) (d : Drawn text o) → spot-listing text (o .diagram) ≡ listing (drawing (d .tree) (d .its-limits))
-unfolding spot-listing listing
-spot-listing-is text o d =
-    let t = d .tree in
-    let a = d .its-limits in
-    let n = d .its-events in
-    let count = events-counted t (a .keeps .sizes) in
-    ap₂ (λ (xs ys : List ℕ). xs ++ ys) (ap₂ first-line n (d .its-copies))
-    (spot-lines-are text (o .diagram) (events (expand t)) 0 (o .diagram .events) (omega arith)
-    (λ x h.
-    let less : x < flow-events t = omega arith in
-    spot-line-is text x (event-of (expand t) x) (spot-of (o .diagram) x) (d .its-labels x less) (short-at text t a x less .few)
-    ∙ ap (line x) (event-in-order t (a .keeps .sizes) x nothing less)))
-
--- What is written, where it fits.
+-- The listing: what is written, where it fits.
 listed : (text lent left : List ℕ) (w : Reading text) (bs : List ℕ) (r : ℕ) → bs ≡ listing w → length lent ≡ 32768
     → buffer r left ≡ put-all bs (buffer 0 lent) → Listed text lent r left
 listed text lent left w bs r e m h =
@@ -190,10 +172,13 @@ listed text lent left w bs r e m h =
     }
 
 pub listed-drawn : (text lent left : List ℕ) (o : ReadResult) (r : ℕ) → o ≡ read-of text → o .answer ≡ Done → length lent ≡ 32768
-    → buffer r left ≡ put-all (spot-listing text (o .diagram)) (buffer 0 lent) → Listed text lent r left
+    → buffer r left ≡ walked-listing text (o .diagram) (buffer 0 lent) → Listed text lent r left
+unfolding listing
 listed-drawn text lent left o r q h m w =
     let d = drawn text o q h in
-    listed text lent left (drawing (d .tree) (d .its-limits)) (spot-listing text (o .diagram)) r (spot-listing-is text o d) m w
+    let a = d .its-limits in
+    listed text lent left (drawing (d .tree) a) (drawing-listing (d .tree)) r refl m
+    (w ∙ listing-walked text (d .tree) (o .diagram) (d .shown) (a .keeps .sizes) (a .keeps .parameters) (a .depth) (a .nodes) (a .events) (buffer 0 lent))
 
 pub listed-refused : (text lent left : List ℕ) (o : ReadResult) (number place r : ℕ) → o ≡ read-of text → o .answer ≡ Unread number place → length lent ≡ 32768
     → buffer r left ≡ put-all (refusal-line (o .answer)) (buffer 0 lent) → Listed text lent r left

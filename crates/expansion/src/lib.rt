@@ -27,7 +27,7 @@ fn add(codes: &mut [u8], code: u8, s: Walk) -> Walk
 fn part<'a>(
     kinds: &'a [u8],
     sizes: &'a [u8],
-    depths: &'a [usize],
+    depths: &'a [u16],
     count: usize,
     left: usize,
     s: Walk,
@@ -61,7 +61,7 @@ fn part<'a>(
 fn looped<'a>(
     kinds: &'a [u8],
     sizes: &'a [u8],
-    depths: &'a [usize],
+    depths: &'a [u16],
     count: usize,
     left: usize,
     s: Walk,
@@ -98,7 +98,7 @@ fn more(sizes: &[u8], i: usize) -> u8
 fn further<'a>(
     kinds: &'a [u8],
     sizes: &'a [u8],
-    depths: &'a [usize],
+    depths: &'a [u16],
     count: usize,
     left: usize,
     i: usize,
@@ -114,7 +114,7 @@ fn further<'a>(
     let mut turn = 0;
     while turn < most {
         let node = if size == 0 { t.node } else { i + 1 };
-        if base::number(depths, node) <= base::number(depths, i) {
+        if columns::number(depths, node) <= columns::number(depths, i) {
             return t;
         }
         let again = Walk {

@@ -43,7 +43,7 @@ pub record Labels (ok : Name → ℕ → Type 0) (l : Event) (s : Spot) : Type 0
   pub its-values : s .values ≡ packed (l .values)
   pub named : ok (l .name) (s .place)
 
-member-surrounded : (m : Member) (around : List Name) → member-parameters m around ≡ true → length around ≤ 3
+pub member-surrounded : (m : Member) (around : List Name) → member-parameters m around ≡ true → length around ≤ 3
 unfolding member-parameters flow-parameters
 member-surrounded (leaf n) around h = leb-true (length around) 3 h
 member-surrounded (inner (flow n ps sw c r cs)) around h =

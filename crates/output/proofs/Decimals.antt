@@ -1,5 +1,5 @@
 -- The digits of a number: read back they are the number, there is no leading zero, and a small number has few.
-use mathlib.Core.Path.{_≡_, refl, _∙_}
+use mathlib.Core.Path.{_≡_, refl, sym, _∙_}
 use mathlib.Core.List.{List, [], _∷_, _++_, foldl-append}
 use Prim.Native.Nat.{ℕ, zero, suc, _+_, _-_, _/_, _%_, _^_, _≤_, _<_}
 use native.Mathlib.Nat.{pow-suc}
@@ -8,7 +8,9 @@ use lib.Dec.{ltb}
 use lib.ListN.{length, getD, length-append, List·getD-append}
 use borrow.Author.Tests.{ltb-true, ltb-false}
 use Rattle.base.proofs.Truth.{by-cases}
+use Rattle.output.specs.Buffer.{Buffer, put, put-all}
 use Rattle.output.specs.Decimal.{digits, decimal, value}
+use Rattle.output.proofs.Buffers.{put-all-append}
 
 -- One digit, or those of the tenth and one more.
 by-digits : (P : List ℕ → Type 0) (n v : ℕ) → (v < 10 → P ((48 + v) ∷ [])) → (10 ≤ v → P (digits n (v / 10) ++ ((48 + v % 10) ∷ []))) → P (digits (suc n) v)
@@ -32,6 +34,24 @@ digits-more zero v p h = absurd (omega arith)
 digits-more (suc n) v p h =
     let e : suc n - 1 ≡ n = omega arith in
     rw e (by-digits (λ bs. bs ≡ digits n (v / 10) ++ ((48 + v % 10) ∷ [])) n v (λ l. absurd (omega arith)) (λ l. refl))
+
+-- The only digit written, and the last of several.
+module _ (n v : ℕ) (s : Buffer) where
+  pub only-digit : digits n v ≡ (48 + v % 10) ∷ [] → put (48 + v % 10) s ≡ put-all (digits n v) s
+  unfolding put-all
+  only-digit e = rw e
+
+  pub last-digit : {t : Buffer} → digits n v ≡ digits (n - 1) (v / 10) ++ ((48 + v % 10) ∷ []) → t ≡ put-all (digits (n - 1) (v / 10)) s
+      → put (48 + v % 10) t ≡ put-all (digits n v) s
+  unfolding put-all
+  last-digit e q = rw (e, q) (sym (put-all-append (digits (n - 1) (v / 10)) _ s))
+
+  -- As the code writes them, by what it tests.
+  pub one-put : {t : Buffer} → v ≤ 9 → t ≡ put (48 + v % 10) s → t ≡ put-all (digits n v) s
+  one-put h q = q ∙ only-digit (digits-few n v h)
+
+  pub more-put : {t u : Buffer} → 0 < n → 9 < v → t ≡ put-all (digits (n - 1) (v / 10)) s → u ≡ put (48 + v % 10) t → u ≡ put-all (digits n v) s
+  more-put p h q w = w ∙ last-digit (digits-more n v p h) q
 
 tenth : (n v : ℕ) → v < 10 ^ suc n → v / 10 < 10 ^ n
 tenth n v h = omega (arith, rw pow-suc at h)

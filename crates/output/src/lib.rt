@@ -1,4 +1,5 @@
 ghost use mathlib.Core.Path.{_≡_};
+ghost use Prim.Native.Nat.{_+_, _%_};
 ghost use Rattle.output.specs.Buffer.{buffer, put, put-all};
 ghost use Rattle.output.specs.Decimal.{digits as digits-of, decimal};
 ghost use Rattle.output.specs.Lines.{two-numbers, refused-line};
@@ -28,6 +29,13 @@ pub fn bytes(out: &mut [u8], at: usize, source: &[u8]) -> usize
     n
 }
 
+// The last digit of a number.
+fn last(out: &mut [u8], at: usize, v: usize) -> usize
+    ensures { λ r. ⌜ buffer r (now (out .exit)) ≡ put (48 + v % 10) (buffer at (now (out .entry))) ⌝ }
+{
+    byte(out, at, b'0' + (v % 10) as u8)
+}
+
 // The digits of a number, at most one more than `left`: those of its tenth, and the last.
 fn digits(out: &mut [u8], at: usize, v: usize, left: usize) -> usize
     ensures { λ r. ⌜ buffer r (now (out .exit)) ≡ put-all (digits-of left v) (buffer at (now (out .entry))) ⌝ }
@@ -36,13 +44,26 @@ fn digits(out: &mut [u8], at: usize, v: usize, left: usize) -> usize
     if left > 0 && v > 9 {
         n = digits(out, at, v / 10, left - 1);
     }
-    byte(out, n, b'0' + (v % 10) as u8)
+    last(out, n, v)
 }
 
-// A number in decimal.
+// A number in decimal. One of up to three digits is written straight on.
 pub fn number(out: &mut [u8], at: usize, v: usize) -> usize
     ensures { λ r. ⌜ buffer r (now (out .exit)) ≡ put-all (decimal v) (buffer at (now (out .entry))) ⌝ }
 {
+    if v <= 9 {
+        return last(out, at, v);
+    }
+    let tenth = v / 10;
+    if tenth <= 9 {
+        let a = last(out, at, tenth);
+        return last(out, a, v);
+    }
+    if tenth <= 99 {
+        let a = last(out, at, tenth / 10);
+        let b = last(out, a, tenth);
+        return last(out, b, v);
+    }
     digits(out, at, v, 19)
 }
 

@@ -16,7 +16,7 @@ use labels::Step;
 use labels::Values;
 
 // A value after the others.
-fn push(v: Values, x: usize) -> Values
+pub fn push(v: Values, x: usize) -> Values
     ensures { λ r. ⌜ r ≡ pushed v x ⌝ }
 {
     if v.count == 0 {
@@ -47,16 +47,16 @@ fn push(v: Values, x: usize) -> Values
 }
 
 // The events of the parts of node i, those of the nodes before `end` that are one deeper than it.
-fn parts(depths: &[usize], weights: &[usize], i: usize, end: usize) -> usize
+fn parts(depths: &[u16], weights: &[usize], i: usize, end: usize) -> usize
     requires { ⌜ i < end ⌝ }
     ensures { λ r. ⌜ ((c : Nodes) → c .depths ≡ now (depths .entry) → r ≡ parts-of (getD (c .depths) i 0) 0 (nodes-from c (now (weights .entry)) (i + 1) (end - (i + 1)))) ⌝ }
     ensures { λ r. ⌜ r < 1024 ⌝ }
 {
-    let d = base::number(depths, i);
+    let d = columns::number(depths, i);
     let mut n = 0;
     let mut j = i + 1;
     while j < end {
-        let e = base::number(depths, j);
+        let e = columns::number(depths, j);
         if e <= d {
             return n;
         }
@@ -188,8 +188,8 @@ fn turn(r: SearchNode, q: SearchNode, s: Search) -> Step
 fn node<'a>(
     kinds: &'a [u8],
     sizes: &'a [u8],
-    depths: &'a [usize],
-    names: &'a [usize],
+    depths: &'a [u16],
+    names: &'a [u16],
     weights: &'a [usize],
     count: usize,
     i: usize,
@@ -208,8 +208,8 @@ fn node<'a>(
     SearchNode {
         kind: base::byte(kinds, i),
         size: base::byte(sizes, i),
-        depth: base::number(depths, i),
-        place: base::number(names, i),
+        depth: columns::number(depths, i),
+        place: columns::number(names, i),
         weight: base::number(weights, i),
     }
 }
@@ -230,8 +230,8 @@ fn no_values() -> Values
 pub fn seek<'a>(
     kinds: &'a [u8],
     sizes: &'a [u8],
-    depths: &'a [usize],
-    names: &'a [usize],
+    depths: &'a [u16],
+    names: &'a [u16],
     weights: &'a [usize],
     count: usize,
     event: usize,

@@ -35,7 +35,7 @@ loop-again c =
     record {
       room = omega arith;
       counts = omega (arith, ltb-true (l .n) (s .args .t1 .count) (c .before .before .before .if1 .taken));
-      its-kinds = column-more ns m _ (l .n) _ t (a .its-kinds) (c .before .number .ensures);
+      its-kinds = column-more ns m _ (l .n) _ t (a .its-kinds) (c .before .sort .ensures);
       its-sizes = column-more ns m _ (l .n) _ t (a .its-sizes) (c .size .ensures);
       its-depths = column-more ns m _ (l .n) _ t (a .its-depths) refl;
       its-names = column-more ns m _ (l .n) _ t (a .its-names) refl;

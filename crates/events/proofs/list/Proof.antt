@@ -15,7 +15,7 @@ returns-2 : tie.Need-returns-2
 returns-2 c =
     let a = c .before .before .before .before .before .before .before .args in
     let r = c .before .before .before .before .before .read in
-    listed-drawn (a .text .now) (a .out .now) _ (r .result) (c .write .result) (r .ensures) (c .before .before .before .enum-told .given .1) (c .before .write-arg .given .0 .1) (c .write .ensures)
+    listed-drawn (a .text .now) (a .out .now) _ (r .result) (c .write .result) (r .ensures) (c .before .before .before .enum-told .given .1) (c .write .ensures .1) (c .write .ensures .0)
 
 pub list-spec : {M : Type 1} → statement M
 list-spec =

@@ -20,7 +20,7 @@ use Rattle.expansion.proofs.part.Kinds as part-kinds
 use Rattle.expansion.proofs.+further+looped+part.Lts-part as part-lts
 use Rattle.expansion.proofs.add.Reads as add-reads
 use Rattle.base.proofs.byte.Reads as byte-reads
-use Rattle.base.proofs.number.Reads as number-reads
+use Rattle.columns.proofs.number.Reads as number-reads
 use Rattle.expansion.proofs.more.Reads as more-reads
 use Rattle.expansion.proofs.+further+looped+part.{statement}
 use Rattle.expansion.proofs.+further+looped+part.Tie.{close}

@@ -1,5 +1,5 @@
 -- `lines::spaced` meets its contract: the values stand one after the other. Assumes nothing.
-use Rattle.lines.specs.code.Spots.{spaced-values}
+use Rattle.lines.specs.code.Written.{spaced-values}
 use Rattle.output.proofs.Buffers.{before}
 use borrow.Author.Needs.{needs}
 use Rattle.lines.proofs.spaced.Statement.{statement}

@@ -1,0 +1,4 @@
+pub mod Told
+pub mod ShownNodes
+pub mod Joins
+pub mod Trees
