@@ -98,7 +98,15 @@ fn part<'a>(
     }
     let kind = base::byte(kinds, i);
     if kind == postfix::LEAF {
-        let end = line(text, out, at, event, false, columns::number(names, i), values);
+        let end = line(
+            text,
+            out,
+            at,
+            event,
+            false,
+            columns::number(names, i),
+            values,
+        );
         return Walk {
             node: i + 1,
             event: event % 1024 + 1,
