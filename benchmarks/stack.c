@@ -1,4 +1,4 @@
-/* How much stack each call takes, for ./bench. The listing's figure has the 32,768 bytes of the harness's own buffer in it.
+/* How much stack each call takes, for ./bench.
  *
  * The calls on a text are those of libharness.a, the four on a table those of libfirmware.a. Each has to do with its limit; the gate runs this.
  */
@@ -14,13 +14,13 @@
 uint64_t adl_test_read(const uint8_t *text, size_t len);
 uint64_t adl_test_print(const uint8_t *text, size_t len, uint8_t *out, size_t out_len);
 uint64_t adl_test_translate(const uint8_t *text, size_t len, uint8_t *out, size_t out_len);
-uint64_t adl_test_list(const uint8_t *text, size_t len, uint8_t *out, size_t out_len);
+uint64_t adl_test_list(const uint8_t *text, size_t len, uint8_t *out);
 uint64_t adl_test_name(const uint8_t *text, size_t len, uint64_t event, uint8_t *out, size_t out_len);
 uint64_t adl_test_values(const uint8_t *text, size_t len, uint64_t event);
 uint64_t adl_test_eventb(const uint8_t *text, size_t len, uint64_t event, uint8_t *out, size_t out_len);
 
 /* What a call may take: those on a table, read and print, and the others on a text, which expand or list as well. */
-enum { MOST_TABLE = 16384, MOST_READ = 24576, MOST_TEXT_CALL = 49152, LISTING_BUFFER = 32768 };
+enum { MOST_TABLE = 16384, MOST_READ = 24576, MOST_TEXT_CALL = 49152 };
 
 /* What the calls are given. */
 static uint8_t text[16384], lines[32768], event_text[65536], record[ADL_RECORD_BYTES], offered[ADL_OFFER_BYTES];
@@ -32,7 +32,7 @@ static struct table table;
 
 static void read_text(void) { adl_test_read(text, length); }
 static void print_text(void) { adl_test_print(text, length, lines, sizeof lines); }
-static void list_text(void) { adl_test_list(text, length, lines, sizeof lines); }
+static void list_text(void) { adl_test_list(text, length, lines); }
 static void name_event(void) { adl_test_name(text, length, 0, lines, sizeof lines); }
 static void values_of_event(void) { adl_test_values(text, length, 0); }
 static void write_event(void) { adl_test_eventb(text, length, event, event_text, sizeof event_text); }
@@ -62,7 +62,7 @@ struct call {
 static const struct call text_calls[] = {{"read", read_text, MOST_READ},
                                          {"print", print_text, MOST_READ},
                                          {"translate", translate_text, MOST_TEXT_CALL},
-                                         {"list", list_text, MOST_TEXT_CALL + LISTING_BUFFER},
+                                         {"list", list_text, MOST_TEXT_CALL},
                                          {"name", name_event, MOST_TEXT_CALL},
                                          {"values", values_of_event, MOST_TEXT_CALL}};
 static const struct call table_calls[] = {
@@ -202,7 +202,7 @@ int main(void) {
     print_calls(table_calls, TABLE_CALLS);
     printf("\n");
     print_limits();
-    printf("\n%s. The last four are the C calls of libfirmware.a. List has the 32,768 bytes of the harness's own buffer in it.\n",
+    printf("\n%s. The last four are the C calls of libfirmware.a.\n",
            over ? "OVER THE LIMITS" : "All within the limits");
     printf("Eventb is that of the deepest event; - for a drawing that has no machine: with a replicator, or more than 32 events.\n");
     return over > 0;

@@ -2,7 +2,7 @@
 //! for these tests, and those of the firmware (adl.h) that play a run.
 
 pub use crate::kit::refusal_number;
-use crate::listing::Values;
+use crate::listing::{Values, LISTING_LIMIT};
 use crate::table::Words;
 use crate::{Kind, NodeInfo, Refusal, Summary};
 
@@ -16,7 +16,7 @@ extern "C" {
     fn adl_test_read(text: *const u8, len: usize) -> u64;
     fn adl_test_print(text: *const u8, len: usize, out: *mut u8, out_len: usize) -> u64;
     fn adl_test_translate(text: *const u8, len: usize, out: *mut u8, out_len: usize) -> u64;
-    fn adl_test_list(text: *const u8, len: usize, out: *mut u8, out_len: usize) -> u64;
+    fn adl_test_list(text: *const u8, len: usize, out: *mut u8) -> u64;
     fn adl_test_name(text: *const u8, len: usize, event: u64, out: *mut u8, out_len: usize) -> u64;
     fn adl_test_values(text: *const u8, len: usize, event: u64) -> u64;
     fn adl_test_eventb(text: *const u8, len: usize, event: u64, out: *mut u8, out_len: usize) -> u64;
@@ -55,10 +55,18 @@ pub fn translate(text: &[u8], out: &mut [u8]) -> u64 {
     unsafe { adl_test_translate(text.as_ptr(), text.len(), out.as_mut_ptr(), out.len()) }
 }
 
-/// The length of the listing, which is written as far as the buffer goes.
+/// The length of the listing, which is written as far as the buffer goes: the
+/// call is lent room for the longest listing, a shorter buffer gets its front.
 pub fn list(text: &[u8], out: &mut [u8]) -> u64 {
-    // Pointers and lengths are those of two slices; the second may be written.
-    unsafe { adl_test_list(text.as_ptr(), text.len(), out.as_mut_ptr(), out.len()) }
+    if out.len() < LISTING_LIMIT {
+        let mut whole = vec![0; LISTING_LIMIT];
+        let length = list(text, &mut whole);
+        let front = out.len().min(length as usize);
+        out[..front].copy_from_slice(&whole[..front]);
+        return length;
+    }
+    // Pointer and length are those of a slice; LISTING_LIMIT bytes may be written.
+    unsafe { adl_test_list(text.as_ptr(), text.len(), out.as_mut_ptr()) }
 }
 
 /// The length of the name, which is written as far as the buffer goes; 0 for a

@@ -6,9 +6,7 @@ use native.Mathlib.Omega.{arith}
 use lib.ListN.{length, take, getD, set}
 use lib.Seq.{take-all}
 use Rattle.base.specs.Fill.{fill}
-use Rattle.base.proofs.Filled.{fill-front, fill-more}
-use Rattle.events.specs.Listing.{Listed, listing}
-use Rattle.events.proofs.Bounds.{list-bounded}
+use Rattle.base.proofs.Filled.{fill-more}
 
 -- One byte more.
 pub copied-more : (bytes lent out left : List ℕ) (n : ℕ) → n < length bytes → out ≡ fill lent (take n bytes)
@@ -19,11 +17,3 @@ copied-more bytes lent out left n h e q =
 
 pub copied-all : (bytes lent out : List ℕ) (n : ℕ) → length bytes ≤ n → out ≡ fill lent (take n bytes) → out ≡ fill lent bytes
 copied-all bytes lent out n h e = e ∙ ap (fill lent) (take-all n bytes h)
-
--- A listing in a buffer that is long enough, copied into another one.
-pub listed-again : (text room bytes : List ℕ) (n : ℕ) (h : Listed text room n bytes) → length room ≡ 32768 → (lent left : List ℕ) (r : ℕ)
-    → r ≡ length (take n bytes) → left ≡ fill lent (take n bytes) → Listed text lent r left
-listed-again text room bytes n h m lent left r p q =
-    let few = list-bounded text room n bytes h .few in
-    let front : take n bytes ≡ listing (h .reading) = rw (h .its-bytes, h .its-count) (fill-front room (listing (h .reading)) (omega (arith, m, few, h .its-count))) in
-    record { reading = h .reading; its-count = p ∙ ap length front; its-bytes = q ∙ ap (fill lent) front }

@@ -67,14 +67,11 @@ fn copy(bytes: &[u8], out: &mut [u8]) -> u64
     n as u64
 }
 
-// The bytes of the listing, over the front of `out` as far as it goes.
 #[no_mangle]
-pub extern "C" fn adl_test_list(text: &[u8], out: &mut [u8]) -> u64
+pub extern "C" fn adl_test_list(text: &[u8], out: &mut [u8; 32768]) -> u64
     ensures { λ r. ⌜ Listed (now (text .entry)) (now (out .entry)) r (now (out .exit)) ⌝ }
 {
-    let mut bytes = [0u8; 32768];
-    let n = events::list(text, &mut bytes);
-    copy(&bytes[..n], out)
+    events::list(text, out) as u64
 }
 
 // The bytes of the name, over the front of `out` as far as it goes; none where refused.
