@@ -4,5 +4,4 @@ pub mod Each
 pub mod Fields
 pub mod Decided
 pub mod Compared
-pub mod Begins
 pub mod Lists

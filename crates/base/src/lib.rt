@@ -55,15 +55,6 @@ pub fn put_byte(bytes: &mut [u8], n: usize, b: u8)
     bytes[n] = b;
 }
 
-pub fn put_short(column: &mut [u16], i: usize, x: u16)
-    ensures { λ r. ⌜ now (column .exit) ≡ set (now (column .entry)) i x ⌝ }
-{
-    if column.len() <= i {
-        return;
-    }
-    column[i] = x;
-}
-
 pub fn put_number(column: &mut [usize], i: usize, v: usize)
     ensures { λ r. ⌜ now (column .exit) ≡ set (now (column .entry)) i v ⌝ }
 {

@@ -13,7 +13,8 @@ use Rattle.diagram.specs.Names.{equal, same, new}
 use Rattle.diagram.specs.Sizes.{flow-sized, children-sized, child-sized, member-sized, members-sized}
 use Rattle.diagram.specs.Parameters.{surrounded, flow-parameters, children-parameters, child-parameters, member-parameters, members-parameters}
 use Rattle.tokens.specs.Classes.{worded}
-use Rattle.tokens.specs.Words.{lettered, every, short, named}
+use Rattle.tokens.specs.Words.{keywords, lettered, every, short}
+use Rattle.tokens.specs.Token.{named}
 use Rattle.grammar.specs.Named.{all-named, flow-named, children-named, child-named, member-named, members-named}
 use Rattle.reading.specs.Accepted.{Accepted}
 use Rattle.process.specs.Process.{Event, Joint, seq, Process, event, join, again, rounds, events}
@@ -92,7 +93,7 @@ lettered-some [] h = absurd (false≢true h)
 lettered-some (b ∷ bs) h = omega arith
 
 -- A leaf's event, or a reset: a name is short, and no more than 3 replicators surround a node.
-event-short : {around : List Name} {vs : List ℕ} (r : Bool) (n : Name) → Valued around vs → named n ≡ true → surrounded around ≡ true
+event-short : {around : List Name} {vs : List ℕ} (r : Bool) (n : Name) → Valued around vs → named keywords n ≡ true → surrounded around ≡ true
     → Short record { reset = r; name = n; values = vs }
 unfolding named
 event-short {around} r n w h k =
@@ -105,31 +106,31 @@ event-short {around} r n w h k =
       small = w .small;
     }
 
-reset-short : {around : List Name} {vs : List ℕ} (f : Flow) → Valued around vs → Passed (flow-named f) (flow-sized f) (flow-parameters f around)
+reset-short : {around : List Name} {vs : List ℕ} (f : Flow) → Valued around vs → Passed (flow-named keywords f) (flow-sized f) (flow-parameters f around)
     → Short (reset-of f vs)
 unfolding flow-named flow-parameters
 reset-short {around} (flow n ps sw c r cs) w t =
-    event-short true n w (and-l (named n) (all-named ps) (and-l _ _ (t .names))) (and-l (surrounded around) (equal same ps around) (and-l _ _ (t .parameters)))
+    event-short true n w (and-l (named keywords n) (all-named keywords ps) (and-l _ _ (t .names))) (and-l (surrounded around) (equal same ps around) (and-l _ _ (t .parameters)))
 
 -- Each copy of a node has short events, by the shape of `flow-process`: `w` gives the values so far, `t` the tests passed.
 mutual
   unfolding flow-process flow-named flow-sized flow-parameters
 
-  flow-short : {around : List Name} {vs : List ℕ} (f : Flow) (e : ℕ) → Valued around vs → Passed (flow-named f) (flow-sized f) (flow-parameters f around)
+  flow-short : {around : List Name} {vs : List ℕ} (f : Flow) (e : ℕ) → Valued around vs → Passed (flow-named keywords f) (flow-sized f) (flow-parameters f around)
       → All-short (flow-process f vs e)
   flow-short {around} (flow n ps sw c r cs) e w t =
-      let i = parts (named n && all-named ps) true (surrounded around && equal same ps around) _ _ _ t in
+      let i = parts (named keywords n && all-named keywords ps) true (surrounded around && equal same ps around) _ _ _ t in
       let k = parts _ _ _ _ _ _ (i .1) in
       children-short cs _ _ w (k .1) (child-short c e w (k .0))
 
   children-short : {around : List Name} {vs : List ℕ} (cs : Children) (p : Process) (e : ℕ) → Valued around vs
-      → Passed (children-named cs) (children-sized cs) (children-parameters cs around) → All-short p → All-short (children-process cs vs p e)
+      → Passed (children-named keywords cs) (children-sized cs) (children-parameters cs around) → All-short p → All-short (children-process cs vs p e)
   children-short none p e w t P = P
   children-short (next c r cs) p e w t P =
       let k = parts _ _ _ _ _ _ t in
       children-short cs _ _ w (k .1) (short-join seq p _ P (child-short c e w (k .0)))
 
-  child-short : {around : List Name} {vs : List ℕ} (c : Child) (e : ℕ) → Valued around vs → Passed (child-named c) (child-sized c) (child-parameters c around)
+  child-short : {around : List Name} {vs : List ℕ} (c : Child) (e : ℕ) → Valued around vs → Passed (child-named keywords c) (child-sized c) (child-parameters c around)
       → All-short (child-process c vs e)
   child-short (plain m) e w t = member-short m e w t
   child-short {around} (loop m) e w t = loop-short m e w (parts true true (surrounded around) _ _ _ t .1)
@@ -139,22 +140,22 @@ mutual
       let l = parts _ _ _ _ _ _ (k .1) in
       members-short ms (joint y) _ _ w (l .1) (short-join (joint y) _ _ (member-short a _ w (k .0)) (member-short b _ w (l .0)))
   child-short {around} (replicator y par n m) e w t =
-      let k = parts (named par) (leb 1 n && leb n 16) (surrounded around && new par around) _ _ _ t in
+      let k = parts (named keywords par) (leb 1 n && leb n 16) (surrounded around && new par around) _ _ _ t in
       let l = leb-true n 16 (and-r (leb 1 n) _ (k .0 .sizes)) in
       copies-short (joint y) _ (n - 1) (λ v h. member-short m _ (valued-more par v w (omega arith)) (k .1))
 
-  loop-short : {around : List Name} {vs : List ℕ} (m : Member) (e : ℕ) → Valued around vs → Passed (member-named m) (member-sized m) (member-parameters m around)
+  loop-short : {around : List Name} {vs : List ℕ} (m : Member) (e : ℕ) → Valued around vs → Passed (member-named keywords m) (member-sized m) (member-parameters m around)
       → All-short (loop-process m vs e)
   loop-short (leaf n) e w t = short-one e _ (event-short false n w (t .names) (t .parameters)) .1
   loop-short (inner f) e w t = short-rounds _ _ _ (flow-short f e w t) (reset-short f w t)
 
-  member-short : {around : List Name} {vs : List ℕ} (m : Member) (e : ℕ) → Valued around vs → Passed (member-named m) (member-sized m) (member-parameters m around)
+  member-short : {around : List Name} {vs : List ℕ} (m : Member) (e : ℕ) → Valued around vs → Passed (member-named keywords m) (member-sized m) (member-parameters m around)
       → All-short (member-process m vs e)
   member-short (leaf n) e w t = short-one e _ (event-short false n w (t .names) (t .parameters)) .0
   member-short (inner f) e w t = flow-short f e w t
 
   members-short : {around : List Name} {vs : List ℕ} (ms : Members) (j : Joint) (p : Process) (e : ℕ) → Valued around vs
-      → Passed (members-named ms) (members-sized ms) (members-parameters ms around) → All-short p → All-short (members-process ms j vs p e)
+      → Passed (members-named keywords ms) (members-sized ms) (members-parameters ms around) → All-short p → All-short (members-process ms j vs p e)
   members-short end j p e w t P = P
   members-short (also m ms) j p e w t P =
       let k = parts _ _ _ _ _ _ t in

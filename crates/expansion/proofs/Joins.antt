@@ -7,7 +7,7 @@ use native.Mathlib.Omega.{arith}
 use lib.Dec.{eqb}
 use lib.ListN.{length, getD, drop, length-append}
 use borrow.Author.Tests.{lt-ltb, lt-leb, le-leb, ne-eqb}
-use Rattle.diagram.specs.TreeNodes.{TreeNode}
+use Rattle.diagram.specs.TreeNodes.{ShownNode}
 use Rattle.process.specs.Process.{Event, Joint, seq, and, or, xor, Process, event, join, again, rounds}
 use Rattle.process.specs.Expand.{copies}
 use Rattle.postfix.specs.Postfix.{joint-code, postfix}
@@ -24,7 +24,7 @@ pub record Here (c : Columns) (i kind size depth : ℕ) : Type 0 where
   pub size-is : getD (c .sizes) i 0 ≡ size
   pub depth-is : getD (c .depths) i 0 ≡ depth
 
-pub here : (vs : List TreeNode) (i : ℕ) (v : TreeNode) (rest : List TreeNode) → drop i vs ≡ v ∷ rest
+pub here : (vs : List ShownNode) (i : ℕ) (v : ShownNode) (rest : List ShownNode) → drop i vs ≡ v ∷ rest
     → Here (shown-columns vs) i (shown-kind v) (shown-size v) (shown-depth v)
 here vs i v rest h =
     record {

@@ -10,20 +10,20 @@ use Rattle.diagram.specs.declared.Node.{Node}
 use Rattle.diagram.specs.declared.Diagram.{Diagram}
 use Rattle.columns.proofs.Filled.{array-read}
 use Rattle.reading.specs.Shows.{shown-node, shown-nodes}
-use Rattle.diagram.specs.TreeNodes.{TreeNode}
+use Rattle.diagram.specs.TreeNodes.{ShownNode}
 use Rattle.expansion.specs.Walks.{Columns, columns, walk-columns}
 
-abbrev pub shown-kind : TreeNode → ℕ
+abbrev pub shown-kind : ShownNode → ℕ
 shown-kind v = kind-number (v .kind)
 
-abbrev pub shown-size : TreeNode → ℕ
+abbrev pub shown-size : ShownNode → ℕ
 shown-size v = size-number (v .kind)
 
-abbrev pub shown-depth : TreeNode → ℕ
+abbrev pub shown-depth : ShownNode → ℕ
 shown-depth v = v .depth
 
 -- The columns of some shown nodes.
-abbrev pub shown-columns : List TreeNode → Columns
+abbrev pub shown-columns : List ShownNode → Columns
 shown-columns vs = columns (array-of (map shown-kind vs)) (array-of (map shown-size vs)) (array-of (map shown-depth vs)) (length vs)
 
 -- What the walk reads of a diagram is what its nodes are shown to be.
@@ -32,23 +32,23 @@ unfolding shown-node
 nodes-shown text ns =
     rw (map-map shown-kind (shown-node text) ns, map-map shown-size (shown-node text) ns, map-map shown-depth (shown-node text) ns, length-map ns (shown-node text))
 
-pub columns-shown : (text : List ℕ) (g : Diagram) (vs : List TreeNode) → shown-nodes text g ≡ vs → walk-columns (nodes-of g) ≡ shown-columns vs
+pub columns-shown : (text : List ℕ) (g : Diagram) (vs : List ShownNode) → shown-nodes text g ≡ vs → walk-columns (nodes-of g) ≡ shown-columns vs
 unfolding nodes-of shown-nodes
 columns-shown text g vs h = nodes-shown text (take (g .count) (g .nodes)) ∙ ap shown-columns h
 
 -- A number of the first node; 0 where there is none.
-abbrev pub first : (TreeNode → ℕ) → List TreeNode → ℕ
+abbrev pub first : (ShownNode → ℕ) → List ShownNode → ℕ
 first f [] = 0
 first f (v ∷ vs) = f v
 
-column-read : (f : TreeNode → ℕ) (vs : List TreeNode) (i : ℕ) → getD (map f vs) i 0 ≡ first f (drop i vs)
-column-read f [] i = rw (drop-nil {A = TreeNode} i)
+column-read : (f : ShownNode → ℕ) (vs : List ShownNode) (i : ℕ) → getD (map f vs) i 0 ≡ first f (drop i vs)
+column-read f [] i = rw (drop-nil {A = ShownNode} i)
 column-read f (v ∷ vs) zero = refl
 column-read f (v ∷ vs) (suc i) = column-read f vs i
 
 -- What stands in a column at i is a number of the first node from i on.
-pub column-at : (f : TreeNode → ℕ) (vs : List TreeNode) (i : ℕ) → getD (array-of (map f vs)) i 0 ≡ first f (drop i vs)
+pub column-at : (f : ShownNode → ℕ) (vs : List ShownNode) (i : ℕ) → getD (array-of (map f vs)) i 0 ≡ first f (drop i vs)
 column-at f vs i = array-read (map f vs) i ∙ column-read f vs i
 
-pub node-inside : (vs rest : List TreeNode) (i : ℕ) (v : TreeNode) → drop i vs ≡ v ∷ rest → i < length vs
+pub node-inside : (vs rest : List ShownNode) (i : ℕ) (v : ShownNode) → drop i vs ≡ v ∷ rest → i < length vs
 node-inside vs rest i v h = omega (arith, length-drop i vs, ap length h)

@@ -1,343 +1,192 @@
 -- One step of the machine: what the first entry spells is the token and then what is pushed.
 use mathlib.Core.Path.{_≡_, refl, sym, _∙_, ap, subst}
 use mathlib.Core.Logic.{_⊎_, inl, inr, ⊎-elim}
-use mathlib.Core.Bool.{Bool, true, cond}
+use mathlib.Core.Bool.{true, cond}
 use mathlib.Core.List.{List, [], _∷_, _++_, nil≢cons, head-eq-of-cons-eq, tail-eq-of-cons-eq}
-use Prim.Native.Nat.{ℕ, _+_, _-_, _≤_, _<_}
-use native.Mathlib.Omega.{arith}
-use lib.Dec.{eqb}
-use borrow.Author.Tests.{eqb-true, eq-eqb, ne-eqb}
-use Rattle.diagram.specs.Tree.{Name, all, some, one, Children, none, next, Members, end, also}
-use Rattle.diagram.specs.Sizes.{children-sized, child-sized, member-sized, members-sized}
-use Rattle.base.proofs.Truth.{and-l, and-r, and-i}
-use Rattle.tokens.specs.Classes.{between}
-use Rattle.tokens.specs.Words.{named, code}
-use Rattle.grammar.specs.Tokens.{closing, comma, bit, pars-tokens, ref-tokens, children-tokens, members-tokens}
-use Rattle.grammar.specs.Named.{all-named, children-named, child-named, member-named, members-named}
-use Rattle.grammar.specs.Machine.{Want, sign, number, params, param, node, more, others, Move, off, big, push, member, child, ref, parts, full, begin, expand}
-use Rattle.grammar.proofs.Token.{token}
-use Rattle.grammar.proofs.Codes.{chosen, is-key, is-name, is-comma, is-closing, is-bit, coded-closing, coded-comma, coded-name, bit-between}
-use Rattle.tokens.proofs.Below.{at-below}
-use Rattle.tokens.proofs.Between.{in-range, between-in}
-use Rattle.grammar.proofs.Stack.{Kind, flows, leaves, groups, replicators, loops, place, key-of, shape, One, Params, Node, More, Others, is-sign, Spells, SpellsAll, joined, parted, at-closing, as-member}
-use Rattle.grammar.proofs.Nodes.{Opened, parts-of, parts-kind, coded-kind, opened, built, after-child, child-after, a-child, a-member, closes}
+use Prim.Native.Nat.{ℕ, _-_}
+use Rattle.diagram.specs.Tree.{Name, Children, none, next, Members, end, also}
+use Rattle.base.proofs.Truth.{and-r, and-i}
+use Rattle.tokens.specs.Token.{closing, comma, Keyword, Token, key, name, numeral, named, proper}
+use Rattle.tokens.proofs.Tokens.{chosen}
+use Rattle.grammar.specs.Tokens.{bit, pars-tokens, ref-tokens, children-tokens, members-tokens}
+use Rattle.grammar.specs.Named.{all-named}
+use Rattle.grammar.specs.Machine.{is-sign, is-name, counts, Place, member, child, allows, Want, sign, number, params, param, node, more, others, Move, off, big, push, ref, parts, full, begin, expand}
+use Rattle.grammar.proofs.Fit.{FitChildren, FitMembers}
+use Rattle.grammar.proofs.Stack.{shape, Params, Node, More, Others, Spells, SpellsAll, joined, parted, as-member, a-member, a-child, bit-number, number-bit}
+use Rattle.grammar.proofs.Takes.{sign-same, Begins, at-node, at-more, at-others, more-ends, others-ends, Takes, astray, a-sign, a-name, a-number, a-comma, a-par, a-sw, an-end, too-big, a-node}
+use Rattle.grammar.proofs.Nodes.{after-child, child-after, opened, built}
 
--- What is left to spell after a move. Where a node is one too many or too deep it is B.
-abbrev pub Taken : Type 0 → Move → List Name → List Name → Type 0
-Taken B off ts rest = ⊥
-Taken B big ts rest = B
-Taken B (push u ws) ts rest = SpellsAll ws ts rest
+module _ (words : List Name) where
+  -- What is left to spell after a move. Where a node is one too many or too deep it is B.
+  abbrev pub Taken : Type 0 → Move → List Token → List Token → Type 0
+  Taken B off ts rest = ⊥
+  Taken B big ts rest = B
+  Taken B (push u ws) ts rest = SpellsAll words ws ts rest
 
--- The kind of a keyword.
-abbrev kind-at : ℕ → Kind
-kind-at i =
-    cond (eqb i 0) flows
-    (cond (eqb i 1) leaves
-    (cond (eqb i 2) (groups all)
-    (cond (eqb i 3) (groups some)
-    (cond (eqb i 4) (groups one)
-    (cond (eqb i 5) (replicators all)
-    (cond (eqb i 6) (replicators some)
-    (cond (eqb i 7) (replicators one) loops)))))))
+  -- A node is a keyword that may stand there, and its parts.
+  pub node-out : (p : Place) (d : ℕ) (t : Token) (ts rest : List Token) → Node words p (t ∷ ts) rest
+      → (k : Keyword) × (t ≡ key k) × (allows p k ≡ true) × SpellsAll words (parts k d) ts rest
+  node-out p d t ts rest n =
+      let o = opened words d rest (n .tree) (n .fit) in
+      let e = n .tokens ∙ o .1 in
+      (shape (n .tree), head-eq-of-cons-eq e, n .allowed, subst (λ (l : List Token). SpellsAll words (parts (shape (n .tree)) d) l rest) (sym (tail-eq-of-cons-eq e)) (o .2))
 
-place-at : (i : ℕ) → i < 9 → place (kind-at i) ≡ i
-place-at i h = eqb-true (place (kind-at i)) i (at-below (λ j. eqb (place (kind-at j)) j) 9 refl i h)
+  pub node-into : (p : Place) (d : ℕ) (k : Keyword) (ts rest : List Token) → allows p k ≡ true → SpellsAll words (parts k d) ts rest
+      → Node words p (key k ∷ ts) rest
+  node-into p d k ts rest a s =
+      let b = built words d rest k ts s in record { tree = b .0; fit = b .1; allowed = rw (b .2) a; tokens = b .3 }
 
-kind-of : (t : Name) → token t ≡ true → 7 ≤ code t → code t ≤ 15 → (k : Kind) × (t ≡ key-of k)
-kind-of t h a b = let e = place-at (code t - 7) (omega arith) in (kind-at (code t - 7), rw e (is-key t h a b))
+  -- A node and then what is wanted after it.
+  abbrev pub Begun : Place → List Want → List Token → List Token → Type 0
+  Begun p after ts rest = (mid : List Token) × Node words p ts mid × SpellsAll words after mid rest
 
-key-code : (k : Kind) (t : Name) → t ≡ key-of k → code t ≡ 7 + place k
-key-code k t e = ap code e ∙ coded-kind k .number
-
-parts-code : (k : Kind) (t : Name) (d : ℕ) → t ≡ key-of k → parts (code t) d ≡ parts-of k d
-parts-code k t d e = rw (e, coded-kind k .number) (parts-kind k d)
-
-module _ (t : Name) (ts rest : List Name) (top : ℕ) where
-  -- A node is a keyword up to `top`, and its parts.
-  pub node-out : (d : ℕ) → Node top (t ∷ ts) rest → (between 7 top (code t) ≡ true) × SpellsAll (parts (code t) d) ts rest
-  node-out d n = (
-    between-in 7 top (code t) (omega (arith, c)) (omega (arith, c, n .allowed)),
-    subst (λ (ws : List Want). SpellsAll ws ts rest) (sym (parts-code k t d (head-eq-of-cons-eq e)))
-        (subst (λ (l : List Name). SpellsAll (parts-of k d) l rest) (sym (tail-eq-of-cons-eq e)) (o .2)),
-  )
-    where
-      k : Kind
-      k = shape (n .tree)
-
-      o : Opened (n .tree) d rest
-      o = opened d rest (n .tree) (n .names) (n .sizes)
-
-      e : t ∷ ts ≡ key-of k ∷ o .0
-      e = n .tokens ∙ o .1
-
-      c : code t ≡ 7 + place k
-      c = key-code k t (head-eq-of-cons-eq e)
-
-  pub node-into : (d : ℕ) → top ≤ 15 → token t ≡ true → between 7 top (code t) ≡ true → SpellsAll (parts (code t) d) ts rest → Node top (t ∷ ts) rest
-  node-into d low h b s =
-      let k = kind-of t h (r .0) (omega (arith, r .1)) in
-      let code-at : code t ≡ 7 + place (k .0) = key-code (k .0) t (k .1) in
-      let m = built d ts rest (k .0) (subst (λ (ws : List Want). SpellsAll ws ts rest) (parts-code (k .0) t d (k .1)) s) in
-      record {
-        tree = m .tree;
-        names = m .names;
-        sizes = m .sizes;
-        allowed = omega (arith, code-at, m .allowed, r .1);
-        tokens = ap (λ (u : Name). u ∷ ts) (k .1) ∙ m .tokens;
-      }
-    where
-      r : (7 ≤ code t) × (code t ≤ top)
-      r = in-range 7 top (code t) b
-
--- A node and then what is wanted after it.
-abbrev pub Begun : ℕ → List Want → List Name → List Name → Type 0
-Begun top after ts rest = (mid : List Name) × Node top ts mid × SpellsAll after mid rest
-
-module _ (top d n : ℕ) (after : List Want) (t : Name) (ts rest : List Name) where
-  pub begin-out : Begun top after (t ∷ ts) rest → (between 7 top (code t) ≡ true) × Taken (Unit {0}) (begin top d n (code t) after) ts rest
-  unfolding begin
-  begin-out b =
-      let r = node-out t ts (b .0) top (d - 1) (b .1) in (
+  begin-out : (p : Place) (d n : ℕ) (after : List Want) (t : Token) (ts rest : List Token) → Begun p after (t ∷ ts) rest
+      → (k : Keyword) × (t ≡ key k) × Taken (Unit {0}) (begin p d n (key k) after) ts rest
+  begin-out p d n after t ts rest b =
+      let r = node-out p (d - 1) t ts (b .0) (b .1) in (
         r .0,
-        rw (r .0)
-            (chosen (full d n) big (push 1 (parts (code t) (d - 1) ++ after)) (λ (m : Move). Taken (Unit {0}) m ts rest) (λ q. tt)
-            (λ q. joined (parts (code t) (d - 1)) after ts rest (b .0, r .1, b .2))),
+        r .1,
+        rw (r .2)
+            (chosen (full d n) big (push 1 (parts (r .0) (d - 1) ++ after)) (λ (m : Move). Taken (Unit {0}) m ts rest) (λ q. tt)
+            (λ q. joined words (parts (r .0) (d - 1)) after ts rest (b .0, r .3, b .2))),
       )
 
-  pub begin-into : top ≤ 15 → token t ≡ true → Taken ⊥ (begin top d n (code t) after) ts rest → Begun top after (t ∷ ts) rest
-  unfolding begin
-  begin-into low h =
-      chosen (between 7 top (code t)) (cond (full d n) big (push 1 (parts (code t) (d - 1) ++ after))) off
-      (λ (m : Move). Taken ⊥ m ts rest → Begun top after (t ∷ ts) rest)
-      (λ b.
-      chosen (full d n) big (push 1 (parts (code t) (d - 1) ++ after)) (λ (m : Move). Taken ⊥ m ts rest → Begun top after (t ∷ ts) rest)
-      (λ q z. absurd z)
-      (λ q s. let r = parted (parts (code t) (d - 1)) after ts rest s in (r .0, node-into t ts (r .0) top (d - 1) low h b (r .1), r .2)))
-      (λ b z. absurd z)
+  -- What is listed up to a `)`: that sign, or a node and what is wanted after it.
+  pub record Listed (W : List Token → List Token → Type 0) (p : Place) (after : List Want) : Type 0 where
+    pub out : (ts rest : List Token) → W ts rest → (ts ≡ Token.sign closing ∷ rest) ⊎ Begun p after ts rest
+    pub ended : (rest : List Token) → W (Token.sign closing ∷ rest) rest
+    pub begun : (ts rest : List Token) → Begun p after ts rest → W ts rest
 
-pub big-allowed : (top d n c : ℕ) (after : List Want) → begin top d n c after ≡ big → between 7 top c ≡ true
-unfolding begin
-big-allowed top d n c after =
-    chosen (between 7 top c) (cond (full d n) big (push 1 (parts c (d - 1) ++ after))) off (λ (m : Move). m ≡ big → between 7 top c ≡ true) (λ b e. b)
-    (λ b e. let z : _≡_ {A = ℕ} 0 1 = cc in let y : ⊥ = omega arith in absurd y)
-
--- What is listed up to a `)`: that sign, or a node and what is wanted after it.
-pub record Listed (W : List Name → List Name → Type 0) (top : ℕ) (after : List Want) : Type 0 where
-  pub out : (ts rest : List Name) → W ts rest → (ts ≡ closing ∷ rest) ⊎ Begun top after ts rest
-  pub ended : (rest : List Name) → W (closing ∷ rest) rest
-  pub begun : (ts rest : List Name) → Begun top after ts rest → W ts rest
-
-pub more-listed : (d : ℕ) → Listed More child (ref ++ (more d ∷ []))
-unfolding children-named children-sized children-tokens
-more-listed d =
-    record {
-      out = λ ts rest m. out ts rest (m .tree) (m .names) (m .sizes) (m .tokens);
-      ended = λ rest. record { tree = none; names = refl; sizes = refl; tokens = refl };
-      begun = begun;
-    }
-  where
-    out : (ts rest : List Name) (cs : Children) → children-named cs ≡ true → children-sized cs ≡ true → ts ≡ children-tokens cs (closing ∷ rest)
-        → (ts ≡ closing ∷ rest) ⊎ Begun child (ref ++ (more d ∷ [])) ts rest
-    out ts rest none h k e = inl e
-    out ts rest (next c r cs) h k e =
-        inr (
-          ref-tokens r (children-tokens cs (closing ∷ rest)),
-          rw e (a-child c (and-l (child-named c) (children-named cs) h) (and-l (child-sized c) (children-sized cs) k) _),
-          after-child d rest r cs (and-r (child-named c) (children-named cs) h) (and-r (child-sized c) (children-sized cs) k),
-        )
-
-    begun : (ts rest : List Name) → Begun child (ref ++ (more d ∷ [])) ts rest → More ts rest
-    begun ts rest b =
-        let n = b .1 in
-        let a = child-after d rest (b .0) (b .2) in
-        let m = a .2 in
-        record {
-          tree = next (n .tree) (a .0) (m .tree);
-          names = and-i (n .names) (m .names);
-          sizes = and-i (n .sizes) (m .sizes);
-          tokens = cc (n .tokens, a .3, m .tokens);
-        }
-
-pub others-listed : (d : ℕ) → Listed Others member (others d ∷ [])
-unfolding members-named members-sized members-tokens
-others-listed d =
-    record {
-      out = λ ts rest m. out ts rest (m .tree) (m .names) (m .sizes) (m .tokens);
-      ended = λ rest. record { tree = end; names = refl; sizes = refl; tokens = refl };
-      begun = begun;
-    }
-  where
-    out : (ts rest : List Name) (ms : Members) → members-named ms ≡ true → members-sized ms ≡ true → ts ≡ members-tokens ms (closing ∷ rest)
-        → (ts ≡ closing ∷ rest) ⊎ Begun member (others d ∷ []) ts rest
-    out ts rest end h k e = inl e
-    out ts rest (also m ms) h k e =
-        inr (
-          members-tokens ms (closing ∷ rest),
-          rw e (a-member m (and-l (member-named m) (members-named ms) h) (and-l (member-sized m) (members-sized ms) k) _),
-          (
-            rest,
-            record { tree = ms; names = and-r (member-named m) (members-named ms) h; sizes = and-r (member-sized m) (members-sized ms) k; tokens = refl },
-            refl,
-          ),
-        )
-
-    begun : (ts rest : List Name) → Begun member (others d ∷ []) ts rest → Others ts rest
-    begun ts rest b =
-        let n = as-member (b .1) in
-        let m = b .2 .1 in
-        let z = b .2 .2 in
-        record {
-          tree = also (n .tree) (m .tree);
-          names = and-i (n .names) (m .names);
-          sizes = and-i (n .sizes) (m .sizes);
-          tokens = cc (n .tokens, m .tokens, z);
-        }
-
-module _ {W : List Name → List Name → Type 0} (top d n : ℕ) (after : List Want) (l : Listed W top after) (t : Name) (ts rest : List Name) where
-  list-out : W (t ∷ ts) rest → Taken (Unit {0}) (cond (eqb (code t) 2) (push 0 []) (begin top d n (code t) after)) ts rest
-  list-out w = ⊎-elim last first (l .out (t ∷ ts) rest w)
+  pub more-listed : (d : ℕ) → Listed (More words) child (ref ++ (more d ∷ []))
+  unfolding children-tokens
+  more-listed d =
+      record {
+        out = λ ts rest m. out ts rest (m .tree) (m .fit) (m .tokens);
+        ended = λ rest. record { tree = none; fit = tt; tokens = refl };
+        begun = begun;
+      }
     where
-      last : t ∷ ts ≡ closing ∷ rest → Taken (Unit {0}) (cond (eqb (code t) 2) (push 0 []) (begin top d n (code t) after)) ts rest
-      last e = rw (eq-eqb (code t) 2 (ap code (head-eq-of-cons-eq e) ∙ coded-closing .number)) (tail-eq-of-cons-eq e)
+      out : (ts rest : List Token) (cs : Children) → FitChildren words cs → ts ≡ children-tokens cs (Token.sign closing ∷ rest)
+          → (ts ≡ Token.sign closing ∷ rest) ⊎ Begun child (ref ++ (more d ∷ [])) ts rest
+      out ts rest none h e = inl e
+      out ts rest (next c r cs) h e =
+          inr (ref-tokens r (children-tokens cs (Token.sign closing ∷ rest)), rw e (a-child words c (h .0) _), after-child words d rest r cs (h .1))
 
-      first : Begun top after (t ∷ ts) rest → Taken (Unit {0}) (cond (eqb (code t) 2) (push 0 []) (begin top d n (code t) after)) ts rest
-      first b =
-          let r = begin-out top d n after t ts rest b in
-          let g = in-range 7 top (code t) (r .0) in
-          rw (ne-eqb (code t) 2 (λ q. omega (arith, g .0))) (r .1)
+      begun : (ts rest : List Token) → Begun child (ref ++ (more d ∷ [])) ts rest → More words ts rest
+      begun ts rest b =
+          let n = b .1 in
+          let a = child-after words d rest (b .0) (b .2) in
+          let m = a .2 in
+          record { tree = next (n .tree) (a .0) (m .tree); fit = (n .fit, m .fit); tokens = cc (n .tokens, a .3, m .tokens) }
 
-  list-into : top ≤ 15 → token t ≡ true → Taken ⊥ (cond (eqb (code t) 2) (push 0 []) (begin top d n (code t) after)) ts rest → W (t ∷ ts) rest
-  list-into low h =
-      chosen (eqb (code t) 2) (push 0 []) (begin top d n (code t) after) (λ (m : Move). Taken ⊥ m ts rest → W (t ∷ ts) rest)
-      (λ q e. subst (λ (r : List Name). W r rest) (sym (cc (is-closing t h (eqb-true (code t) 2 q)))) (l .ended rest))
-      (λ q s. l .begun (t ∷ ts) rest (begin-into top d n after t ts rest low h s))
-
--- A single token, and the parameters of a flow.
-module _ (f : ℕ → Bool) (t : Name) (ts rest : List Name) where
-  one-out : One f (t ∷ ts) rest → Taken (Unit {0}) (cond (f (code t)) (push 0 []) off) ts rest
-  one-out o =
-      let p : f (code t) ≡ true = subst (λ (u : Name). f (code u) ≡ true) (sym (head-eq-of-cons-eq (o .tokens))) (o .passed) in
-      rw p (tail-eq-of-cons-eq (o .tokens))
-
-  one-into : token t ≡ true → Taken ⊥ (cond (f (code t)) (push 0 []) off) ts rest → One f (t ∷ ts) rest
-  one-into h =
-      chosen (f (code t)) (push 0 []) off (λ (m : Move). Taken ⊥ m ts rest → One f (t ∷ ts) rest)
-      (λ q e. record { first = t; taken = h; passed = q; tokens = ap (λ (l : List Name). t ∷ l) e })
-      (λ q z. absurd z)
-
-params-comma : (t : Name) (ts rest : List Name) → Params (t ∷ ts) rest → t ≡ comma
-params-comma t ts rest p = go (p .pars) (p .tokens)
-  where
-    go : (ps : List Name) → t ∷ ts ≡ pars-tokens ps (comma ∷ bit (p .sw) ∷ closing ∷ rest) → t ≡ comma
-    go [] e = head-eq-of-cons-eq e
-    go (q ∷ ps) e = head-eq-of-cons-eq e
-
-module _ (t : Name) (ts rest : List Name) where
-  params-out : Params (t ∷ ts) rest → Taken (Unit {0}) (cond (eqb (code t) 3) (push 0 (param ∷ [])) off) ts rest
-  params-out p =
-      let c = params-comma t ts rest p in
-      rw (eq-eqb (code t) 3 (ap code c ∙ coded-comma .number)) (rest, subst (λ (u : Name). Params (u ∷ ts) rest) c p, refl)
-
-  params-into : token t ≡ true → Taken ⊥ (cond (eqb (code t) 3) (push 0 (param ∷ [])) off) ts rest → Params (t ∷ ts) rest
-  params-into h =
-      chosen (eqb (code t) 3) (push 0 (param ∷ [])) off (λ (m : Move). Taken ⊥ m ts rest → Params (t ∷ ts) rest)
-      (λ q s. rw (is-comma t h (eqb-true (code t) 3 q), ← s .2) (s .1))
-      (λ q z. absurd z)
-
-  abbrev at-param : Move
-  at-param = cond (eqb (code t) 6) (push 0 (params ∷ [])) (cond (between 16 17 (code t)) (push 0 (sign 2 ∷ [])) off)
-
-  param-out : Params (comma ∷ t ∷ ts) rest → Taken (Unit {0}) at-param ts rest
-  param-out p = go (p .pars) (p .names) (tail-comma (p .pars) (p .tokens))
+  pub others-listed : (d : ℕ) → Listed (Others words) member (others d ∷ [])
+  unfolding members-tokens
+  others-listed d =
+      record {
+        out = λ ts rest m. out ts rest (m .tree) (m .fit) (m .tokens);
+        ended = λ rest. record { tree = end; fit = tt; tokens = refl };
+        begun = begun;
+      }
     where
-      last : List Name
-      last = comma ∷ bit (p .sw) ∷ closing ∷ rest
+      out : (ts rest : List Token) (ms : Members) → FitMembers words ms → ts ≡ members-tokens ms (Token.sign closing ∷ rest)
+          → (ts ≡ Token.sign closing ∷ rest) ⊎ Begun member (others d ∷ []) ts rest
+      out ts rest end h e = inl e
+      out ts rest (also m ms) h e =
+          inr (members-tokens ms (Token.sign closing ∷ rest), rw e (a-member words m (h .0) _), (rest, record { tree = ms; fit = h .1; tokens = refl }, refl))
 
-      After : List Name → Type 0
-      After [] = t ∷ ts ≡ bit (p .sw) ∷ closing ∷ rest
-      After (q ∷ ps) = t ∷ ts ≡ q ∷ pars-tokens ps last
+      begun : (ts rest : List Token) → Begun member (others d ∷ []) ts rest → Others words ts rest
+      begun ts rest b =
+          let n = as-member words (b .1) in
+          let m = b .2 .1 in
+          let z = b .2 .2 in
+          record { tree = also (n .tree) (m .tree); fit = (n .fit, m .fit); tokens = cc (n .tokens, m .tokens, z) }
 
-      tail-comma : (ps : List Name) → comma ∷ t ∷ ts ≡ pars-tokens ps last → After ps
-      tail-comma [] e = tail-eq-of-cons-eq e
-      tail-comma (q ∷ ps) e = tail-eq-of-cons-eq e
+  module _ {W : List Token → List Token → Type 0} (p : Place) (d n : ℕ) (after : List Want) (l : Listed W p after) (t : Token) (ts rest : List Token) where
+    list-out : W (t ∷ ts) rest → Taken (Unit {0}) (cond (is-sign closing t) (push 0 []) (begin p d n t after)) ts rest
+    list-out w =
+        ⊎-elim (λ (e : t ∷ ts ≡ Token.sign closing ∷ rest). let h : t ≡ Token.sign closing = head-eq-of-cons-eq e in rw h (tail-eq-of-cons-eq e))
+        (λ (b : Begun p after (t ∷ ts) rest). let r = begin-out p d n after t ts rest b in rw (r .1) (r .2)) (l .out (t ∷ ts) rest w)
 
-      go : (ps : List Name) → all-named ps ≡ true → After ps → Taken (Unit {0}) at-param ts rest
-      go [] h e =
-          let b : between 16 17 (code t) ≡ true = subst (λ (u : Name). between 16 17 (code u) ≡ true) (sym (head-eq-of-cons-eq e)) (bit-between (p .sw)) in
-          let g = in-range 16 17 (code t) b in
-          rw (ne-eqb (code t) 6 (λ q. omega (arith, g .0)), b) (rest, rw (tail-eq-of-cons-eq e) (closes rest), refl)
-      go (q ∷ ps) h e =
-          let c : code t ≡ 6 = ap code (head-eq-of-cons-eq e) ∙ coded-name q (and-l (named q) (all-named ps) h) .number in
-          rw (eq-eqb (code t) 6 c) (
-            rest,
-            record { pars = ps; sw = p .sw; names = and-r (named q) (all-named ps) h; tokens = tail-eq-of-cons-eq e },
-            refl,
-          )
+  -- The parameters of a flow.
+  module _ (t : Token) (ts rest : List Token) where
+    params-comma : Params words (t ∷ ts) rest → t ≡ Token.sign comma
+    params-comma p = go (p .pars) (p .tokens)
+      where
+        go : (ps : List Name) → t ∷ ts ≡ pars-tokens ps (Token.sign comma ∷ bit (p .sw) ∷ Token.sign closing ∷ rest) → t ≡ Token.sign comma
+        go [] e = head-eq-of-cons-eq e
+        go (q ∷ ps) e = head-eq-of-cons-eq e
 
-  param-into : token t ≡ true → Taken ⊥ at-param ts rest → Params (comma ∷ t ∷ ts) rest
-  param-into h =
-      chosen (eqb (code t) 6) (push 0 (params ∷ [])) (cond (between 16 17 (code t)) (push 0 (sign 2 ∷ [])) off)
-      (λ (m : Move). Taken ⊥ m ts rest → Params (comma ∷ t ∷ ts) rest)
-      (λ q s. named-next (is-name t h (eqb-true (code t) 6 q)) (rw (← s .2) (s .1)))
-      (λ q.
-      chosen (between 16 17 (code t)) (push 0 (sign 2 ∷ [])) off (λ (m : Move). Taken ⊥ m ts rest → Params (comma ∷ t ∷ ts) rest)
-      (λ b s. let r = is-bit t h b in record { pars = []; sw = r .0; names = refl; tokens = cc (r .1, at-closing (s .1), s .2) })
-      (λ b z. absurd z))
-    where
-      named-next : named t ≡ true → Params ts rest → Params (comma ∷ t ∷ ts) rest
-      named-next g p = record { pars = t ∷ p .pars; sw = p .sw; names = and-i g (p .names); tokens = ap (λ (l : List Name). comma ∷ t ∷ l) (p .tokens) }
+    abbrev at-param : Move
+    at-param = cond (is-name t) (push 0 (params ∷ [])) (cond (counts 0 1 t) (push 0 (sign closing ∷ [])) off)
 
-pub step-out : (w : Want) (n : ℕ) (t : Name) (ts rest : List Name) → Spells w (t ∷ ts) rest → Taken (Unit {0}) (expand w n (code t)) ts rest
-unfolding expand
-step-out (sign s) n t ts rest h = one-out (is-sign s) t ts rest h
-step-out (number a b) n t ts rest h = one-out (between (16 + a) (16 + b)) t ts rest h
-step-out params n t ts rest h = params-out t ts rest h
-step-out param n t ts rest h = param-out t ts rest h
-step-out (node top d) n t ts rest h = begin-out top d n [] t ts rest (rest, h, refl) .1
-step-out (more d) n t ts rest h = list-out child d n (ref ++ (more d ∷ [])) (more-listed d) t ts rest h
-step-out (others d) n t ts rest h = list-out member d n (others d ∷ []) (others-listed d) t ts rest h
+    param-out : Params words (Token.sign comma ∷ t ∷ ts) rest → Taken (Unit {0}) at-param ts rest
+    param-out p = go (p .pars) (p .names) (p .tokens)
+      where
+        last : List Token
+        last = Token.sign comma ∷ bit (p .sw) ∷ Token.sign closing ∷ rest
 
--- The keywords that an entry allows are keywords.
-abbrev pub Low : Want → Type 0
-Low (sign s) = Unit {0}
-Low (number a b) = Unit {0}
-Low params = Unit {0}
-Low param = Unit {0}
-Low (node top d) = top ≤ 15
-Low (more d) = Unit {0}
-Low (others d) = Unit {0}
+        go : (ps : List Name) → all-named words ps ≡ true → Token.sign comma ∷ t ∷ ts ≡ pars-tokens ps last → Taken (Unit {0}) at-param ts rest
+        go [] h e =
+            let b = bit-number (p .sw) in
+            let z = tail-eq-of-cons-eq e in
+            rw (head-eq-of-cons-eq z, b .2, b .1) (rest, tail-eq-of-cons-eq z, refl)
+        go (q ∷ ps) h e =
+            let z = tail-eq-of-cons-eq e in
+            rw (head-eq-of-cons-eq z) (rest, record { pars = ps; sw = p .sw; names = and-r (named words q) (all-named words ps) h; tokens = tail-eq-of-cons-eq z }, refl)
 
-pub step-into : (w : Want) (n : ℕ) (t : Name) (ts rest : List Name) → Low w → token t ≡ true → Taken ⊥ (expand w n (code t)) ts rest
-    → Spells w (t ∷ ts) rest
-unfolding expand
-step-into (sign s) n t ts rest l h m = one-into (is-sign s) t ts rest h m
-step-into (number a b) n t ts rest l h m = one-into (between (16 + a) (16 + b)) t ts rest h m
-step-into params n t ts rest l h m = params-into t ts rest h m
-step-into param n t ts rest l h m = param-into t ts rest h m
-step-into (node top d) n t ts rest l h m = let b = begin-into top d n [] t ts rest l h m in rw (← b .2) (b .1)
-step-into (more d) n t ts rest l h m = list-into child d n (ref ++ (more d ∷ [])) (more-listed d) t ts rest (omega arith) h m
-step-into (others d) n t ts rest l h m = list-into member d n (others d ∷ []) (others-listed d) t ts rest (omega arith) h m
+  pub step-out : (w : Want) (n : ℕ) (t : Token) (ts rest : List Token) → Spells words w (t ∷ ts) rest → Taken (Unit {0}) (expand w n t) ts rest
+  unfolding expand
+  step-out (sign s) n t ts rest h = rw (head-eq-of-cons-eq h, sign-same s) (tail-eq-of-cons-eq h)
+  step-out Want.named n t ts rest h = rw (head-eq-of-cons-eq (h .2)) (tail-eq-of-cons-eq (h .2))
+  step-out (number a b) n t ts rest h = rw (head-eq-of-cons-eq (h .2), h .1) (tail-eq-of-cons-eq (h .2))
+  step-out params n t ts rest h = let c = params-comma t ts rest h in rw c (rest, rw c at h, refl)
+  step-out param n t ts rest h = param-out t ts rest h
+  step-out (node p d) n t ts rest h = let r = begin-out p d n [] t ts rest (rest, h, refl) in rw (r .1) (r .2)
+  step-out (more d) n t ts rest h = list-out child d n (ref ++ (more d ∷ [])) (more-listed d) t ts rest h
+  step-out (others d) n t ts rest h = list-out member d n (others d ∷ []) (others-listed d) t ts rest h
 
--- No entry spells nothing.
-node-filled : (top : ℕ) (rest : List Name) → Node top [] rest → ⊥
-node-filled top rest n = nil≢cons (n .tokens ∙ opened 0 rest (n .tree) (n .names) (n .sizes) .1)
+  pub begun-spells : {w : Want} {p : Place} {d : ℕ} {after : List Want} → Begins w p d after → (ts rest : List Token) → Begun p after ts rest → Spells words w ts rest
+  begun-spells at-node ts rest b = rw (← b .2) (b .1)
+  begun-spells (at-more {d}) ts rest b = more-listed d .begun ts rest b
+  begun-spells (at-others {d}) ts rest b = others-listed d .begun ts rest b
 
-listed-filled : {W : List Name → List Name → Type 0} (top : ℕ) (after : List Want) → Listed W top after → (rest : List Name) → W [] rest → ⊥
-listed-filled top after l rest w = ⊎-elim (λ e. nil≢cons e) (λ b. node-filled top (b .0) (b .1)) (l .out [] rest w)
+  pub step-into : {n : ℕ} {w : Want} {t : Token} {m : Move} → Takes n w t m → (ts rest : List Token) → proper words t ≡ true → Taken ⊥ m ts rest
+      → Spells words w (t ∷ ts) rest
+  step-into astray ts rest h z = absurd z
+  step-into (a-sign {s}) ts rest h e = ap (λ (l : List Token). Token.sign s ∷ l) e
+  step-into (a-name {x}) ts rest h e = (x, h, ap (λ (l : List Token). name x ∷ l) e)
+  step-into (a-number {m} b) ts rest h e = (m, b, ap (λ (l : List Token). numeral m ∷ l) e)
+  step-into a-comma ts rest h s = rw (← s .2) (s .1)
+  step-into (a-par {x}) ts rest h s =
+      let p = s .1 in
+      let e = s .2 in
+      record { pars = x ∷ p .pars; sw = p .sw; names = and-i h (p .names); tokens = cc (p .tokens) }
+  step-into (a-sw {m} b) ts rest h s =
+      let r = number-bit m b in record { pars = []; sw = r .0; names = refl; tokens = cc (r .1, s .1, s .2) }
+  step-into (an-end (more-ends {d})) ts rest h e = rw e (more-listed d .ended rest)
+  step-into (an-end (others-ends {d})) ts rest h e = rw e (others-listed d .ended rest)
+  step-into (too-big b a f) ts rest h z = absurd z
+  step-into (a-node {p = p} {d = d} {after = after} {k = k} b a f) ts rest h s =
+      let r = parted words (parts k (d - 1)) after ts rest s in
+      begun-spells b (key k ∷ ts) rest (r .0, node-into p (d - 1) k ts (r .0) a (r .1), r .2)
 
-params-filled : (ps l : List Name) → [] ≡ pars-tokens ps (comma ∷ l) → ⊥
-params-filled [] l e = nil≢cons e
-params-filled (p ∷ ps) l e = nil≢cons e
+  -- No entry spells nothing.
+  node-filled : (p : Place) (rest : List Token) → Node words p [] rest → ⊥
+  node-filled p rest n = nil≢cons (n .tokens ∙ opened words 0 rest (n .tree) (n .fit) .1)
 
-param-filled : (ps : List Name) (t : Name) (l : List Name) → comma ∷ [] ≡ pars-tokens ps (comma ∷ t ∷ l) → ⊥
-param-filled [] t l e = nil≢cons (tail-eq-of-cons-eq e)
-param-filled (p ∷ ps) t l e = nil≢cons (tail-eq-of-cons-eq e)
+  listed-filled : {W : List Token → List Token → Type 0} (p : Place) (after : List Want) → Listed W p after → (rest : List Token) → W [] rest → ⊥
+  listed-filled p after l rest w = ⊎-elim (λ e. nil≢cons e) (λ b. node-filled p (b .0) (b .1)) (l .out [] rest w)
 
-pub never-empty : (w : Want) (rest : List Name) → Spells w [] rest → ⊥
-never-empty (sign s) rest h = nil≢cons (h .tokens)
-never-empty (number a b) rest h = nil≢cons (h .tokens)
-never-empty params rest h = params-filled (h .pars) (bit (h .sw) ∷ closing ∷ rest) (h .tokens)
-never-empty param rest h = param-filled (h .pars) (bit (h .sw)) (closing ∷ rest) (h .tokens)
-never-empty (node top d) rest h = node-filled top rest h
-never-empty (more d) rest h = listed-filled child (ref ++ (more d ∷ [])) (more-listed d) rest h
-never-empty (others d) rest h = listed-filled member (others d ∷ []) (others-listed d) rest h
+  params-filled : (ps : List Name) (t : Token) (l : List Token) → ([] ≡ pars-tokens ps (Token.sign comma ∷ t ∷ l) → ⊥) × (Token.sign comma ∷ [] ≡ pars-tokens ps (Token.sign comma ∷ t ∷ l) → ⊥)
+  params-filled [] t l = (λ e. nil≢cons e, λ e. nil≢cons (tail-eq-of-cons-eq e))
+  params-filled (p ∷ ps) t l = (λ e. nil≢cons e, λ e. nil≢cons (tail-eq-of-cons-eq e))
+
+  pub never-empty : (w : Want) (rest : List Token) → Spells words w [] rest → ⊥
+  never-empty (sign s) rest h = nil≢cons h
+  never-empty Want.named rest h = nil≢cons (h .2)
+  never-empty (number a b) rest h = nil≢cons (h .2)
+  never-empty params rest h = params-filled (h .pars) (bit (h .sw)) (Token.sign closing ∷ rest) .0 (h .tokens)
+  never-empty param rest h = params-filled (h .pars) (bit (h .sw)) (Token.sign closing ∷ rest) .1 (h .tokens)
+  never-empty (node p d) rest h = node-filled p rest h
+  never-empty (more d) rest h = listed-filled child (ref ++ (more d ∷ [])) (more-listed d) rest h
+  never-empty (others d) rest h = listed-filled member (others d ∷ []) (others-listed d) rest h

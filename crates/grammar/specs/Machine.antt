@@ -1,22 +1,76 @@
--- The reader as a machine: what it still wants is a list, of which each token replaces the first entry. Tokens are the numbers of
--- the lexer: 1 to 4 the signs ( ) , : , 6 a name, 7 flow, 8 leaf, 9 and, 10 or, 11 xor, 12 all, 13 some, 14 one, 15 loop, 16 to 32
--- the numerals 0 to 16; 0 and 5 are wanted nowhere.
-use mathlib.Core.Bool.{Bool, _&&_, _||_, cond}
+-- The reader as a machine: what it still wants is a list, of which each token replaces the first entry.
+use mathlib.Core.Bool.{Bool, true, false, _||_, cond}
 use mathlib.Core.List.{List, [], _∷_, _++_}
 use Prim.Native.Nat.{ℕ, suc, _+_, _-_}
-use lib.Dec.{eqb, ltb, leb}
+use lib.Dec.{eqb, leb}
 use Rattle.tokens.specs.Classes.{between}
+use Rattle.tokens.specs.Token.{Sign, opening, closing, comma, colon, Keyword, flow, leaf, group, replicator, loop, Token, key, name, numeral, other, sign-code}
+
+-- What is asked of a token: is it this sign, a name, a keyword, a number from a to b.
+abbrev pub is-sign : Sign → Token → Bool
+is-sign s (Token.sign r) = eqb (sign-code r) (sign-code s)
+is-sign s (key k) = false
+is-sign s (name w) = false
+is-sign s (numeral n) = false
+is-sign s other = false
+
+abbrev pub is-name : Token → Bool
+is-name (Token.sign r) = false
+is-name (key k) = false
+is-name (name w) = true
+is-name (numeral n) = false
+is-name other = false
+
+-- "Leaves, flows and constructors are nodes": each keyword begins one.
+abbrev pub is-key : Token → Bool
+is-key (Token.sign r) = false
+is-key (key k) = true
+is-key (name w) = false
+is-key (numeral n) = false
+is-key other = false
+
+abbrev pub counts : ℕ → ℕ → Token → Bool
+counts a b (Token.sign r) = false
+counts a b (key k) = false
+counts a b (name w) = false
+counts a b (numeral n) = between a b n
+counts a b other = false
+
+-- Where a node stands: "The text is one flow, the root. Child: leaf, constructor or flow. Member: leaf or flow."
+pub data Place : Type 0 where
+  root : Place
+  member : Place
+  child : Place
+
+abbrev pub is-flow : Keyword → Bool
+is-flow flow = true
+is-flow leaf = false
+is-flow (group y) = false
+is-flow (replicator y) = false
+is-flow loop = false
+
+abbrev pub is-member : Keyword → Bool
+is-member flow = true
+is-member leaf = true
+is-member (group y) = false
+is-member (replicator y) = false
+is-member loop = false
+
+abbrev pub allows : Place → Keyword → Bool
+allows root k = is-flow k
+allows member k = is-member k
+allows child k = true
 
 pub data Want : Type 0 where
-  -- this very token
-  sign : ℕ → Want
-  -- a number from the first to the second
+  -- this sign; a name; a number from the first to the second
+  sign : Sign → Want
+  named : Want
   number : ℕ → ℕ → Want
   -- the pars and sw of a flow up to its first `)`: before a comma, and after one
   params : Want
   param : Want
-  -- a node whose keyword has at most the number given, with so many depths left
-  node : ℕ → ℕ → Want
+  -- a node that may stand here, with so many depths left
+  node : Place → ℕ → Want
   -- the `)` of a flow, or another child with its ref before it; the `)` of a group, or another member before it
   more : ℕ → Want
   others : ℕ → Want
@@ -33,64 +87,55 @@ pub data Outcome : Type 0 where
   whole : ℕ → Outcome
   stop : ℕ → ℕ → Outcome
 
--- A keyword, of which each begins a node: "Leaves, flows and constructors are nodes."
-abbrev pub keyed : ℕ → Bool
-keyed c = between 7 15 c
-
--- "child: leaf, constructor or flow. Member: leaf or flow": the keywords up to the number given.
-abbrev pub root : ℕ
-root = 7
-
-abbrev pub member : ℕ
-member = 8
-
-abbrev pub child : ℕ
-child = 15
-
 abbrev pub ref : List Want
-ref = sign 1 ∷ number 0 1 ∷ sign 2 ∷ []
+ref = sign opening ∷ number 0 1 ∷ sign closing ∷ []
 
 -- What follows the keyword of a node, whose parts have d depths left.
 abbrev pub flow-parts : ℕ → List Want
-flow-parts d = sign 1 ∷ sign 6 ∷ params ∷ sign 1 ∷ node child d ∷ ref ++ (more d ∷ [])
+flow-parts d = sign opening ∷ named ∷ params ∷ sign opening ∷ node child d ∷ ref ++ (more d ∷ [])
 
 abbrev pub leaf-parts : List Want
-leaf-parts = sign 1 ∷ sign 6 ∷ sign 2 ∷ []
+leaf-parts = sign opening ∷ named ∷ sign closing ∷ []
 
 abbrev pub group-parts : ℕ → List Want
-group-parts d = sign 1 ∷ node member d ∷ node member d ∷ others d ∷ []
+group-parts d = sign opening ∷ node member d ∷ node member d ∷ others d ∷ []
 
 abbrev pub replicator-parts : ℕ → List Want
-replicator-parts d = sign 1 ∷ sign 6 ∷ sign 4 ∷ number 1 16 ∷ sign 2 ∷ sign 1 ∷ node member d ∷ sign 2 ∷ []
+replicator-parts d =
+    sign opening ∷ named ∷ sign colon ∷ number 1 16 ∷ sign closing ∷ sign opening ∷ node member d ∷ sign closing ∷ []
 
 abbrev pub loop-parts : ℕ → List Want
-loop-parts d = sign 1 ∷ node member d ∷ sign 2 ∷ []
+loop-parts d = sign opening ∷ node member d ∷ sign closing ∷ []
 
--- The choice between flow, leaf and constructor, by the keyword.
-unfoldable pub parts : ℕ → ℕ → List Want
-parts c d =
-    cond (eqb c 7) (flow-parts d)
-    (cond (eqb c 8) leaf-parts
-    (cond (ltb c 12) (group-parts d)
-    (cond (ltb c 15) (replicator-parts d) (loop-parts d))))
+abbrev pub parts : Keyword → ℕ → List Want
+parts flow d = flow-parts d
+parts leaf d = leaf-parts
+parts (group y) d = group-parts d
+parts (replicator y) d = replicator-parts d
+parts loop d = loop-parts d
 
 -- Number 6: "node 257, or a node at depth 13": n nodes stand before it, and d depths are left.
 abbrev pub full : ℕ → ℕ → Bool
 full d n = eqb d 0 || leb 256 n
 
--- A node's keyword c, where n nodes stand before it, and what is wanted after the node.
-unfoldable pub begin : ℕ → ℕ → ℕ → ℕ → List Want → Move
-begin top d n c after = cond (between 7 top c) (cond (full d n) big (push 1 (parts c (d - 1) ++ after))) off
+-- A node's keyword, where n nodes stand before it, and what is wanted after the node.
+abbrev pub begin : Place → ℕ → ℕ → Token → List Want → Move
+begin p d n (Token.sign s) after = off
+begin p d n (key k) after = cond (allows p k) (cond (full d n) big (push 1 (parts k (d - 1) ++ after))) off
+begin p d n (name w) after = off
+begin p d n (numeral m) after = off
+begin p d n other after = off
 
--- What becomes of the first entry at the token c, where n nodes stand before it.
-unfoldable pub expand : Want → ℕ → ℕ → Move
-expand (sign s) n c = cond (eqb c s && ltb 0 c) (push 0 []) off
-expand (number a b) n c = cond (between (16 + a) (16 + b) c) (push 0 []) off
-expand params n c = cond (eqb c 3) (push 0 (param ∷ [])) off
-expand param n c = cond (eqb c 6) (push 0 (params ∷ [])) (cond (between 16 17 c) (push 0 (sign 2 ∷ [])) off)
-expand (node top d) n c = begin top d n c []
-expand (more d) n c = cond (eqb c 2) (push 0 []) (begin child d n c (ref ++ (more d ∷ [])))
-expand (others d) n c = cond (eqb c 2) (push 0 []) (begin member d n c (others d ∷ []))
+-- What becomes of the first entry at the token t, where n nodes stand before it.
+unfoldable pub expand : Want → ℕ → Token → Move
+expand (sign s) n t = cond (is-sign s t) (push 0 []) off
+expand named n t = cond (is-name t) (push 0 []) off
+expand (number a b) n t = cond (counts a b t) (push 0 []) off
+expand params n t = cond (is-sign comma t) (push 0 (param ∷ [])) off
+expand param n t = cond (is-name t) (push 0 (params ∷ [])) (cond (counts 0 1 t) (push 0 (sign closing ∷ [])) off)
+expand (node p d) n t = begin p d n t []
+expand (more d) n t = cond (is-sign closing t) (push 0 []) (begin child d n t (ref ++ (more d ∷ [])))
+expand (others d) n t = cond (is-sign closing t) (push 0 []) (begin member d n t (others d ∷ []))
 
 abbrev pub proceed : Move → ℕ → (ℕ → List Want → Outcome) → Outcome
 proceed off k go = stop 5 k
@@ -98,16 +143,16 @@ proceed big k go = stop 6 k
 proceed (push u ws) k go = go u ws
 
 -- The outcome, from what is wanted, the nodes so far, the number of the next token, and the tokens left.
-unfoldable pub run : List Want → ℕ → ℕ → List ℕ → Outcome
+unfoldable pub run : List Want → ℕ → ℕ → List Token → Outcome
 run [] n k [] = whole n
-run [] n k (c ∷ cs) = stop 5 k
+run [] n k (t ∷ ts) = stop 5 k
 run (w ∷ ws) n k [] = stop 5 k
-run (w ∷ ws) n k (c ∷ cs) = proceed (expand w n c) k (λ u vs. run (vs ++ ws) (n + u) (suc k) cs)
+run (w ∷ ws) n k (t ∷ ts) = proceed (expand w n t) k (λ u vs. run (vs ++ ws) (n + u) (suc k) ts)
 
 -- A node at depth 13 is too deep.
 abbrev pub depths : ℕ
 depths = 12
 
 -- "The text is one flow, the root."
-unfoldable pub outcome : List ℕ → Outcome
-outcome cs = run (node root depths ∷ []) 0 0 cs
+unfoldable pub outcome : List Token → Outcome
+outcome ts = run (node root depths ∷ []) 0 0 ts

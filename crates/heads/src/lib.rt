@@ -1,17 +1,18 @@
 ghost use mathlib.Core.Path.{_≡_};
 ghost use mathlib.Core.List.{[], _∷_};
 ghost use Prim.Native.Nat.{ℕ, _+_, _*_, _-_, _<_};
-ghost use Rattle.grammar.specs.Machine.{sign as sign-of, number, params};
+ghost use Rattle.tokens.specs.Token.{Sign, opening, closing as closing-sign, colon, sign-code};
+ghost use Rattle.grammar.specs.Machine.{sign as sign-of, named, number, params};
 ghost use Rattle.walked.specs.Walk.{store, begun};
 ghost use Rattle.walked.specs.code.Readers.{Closing, Reads, Fills, Marks};
 ghost use Rattle.heads.specs.code.Lent.{Lent};
-use tokens::Token;
+use tokens::Lexeme;
 use walked::Step;
 
 // One of the signs ( ) , : by its class. No word is looked at.
 pub fn sign(text: &[u8], at: usize, n: usize, want: u8, lexicon: &[u8; 400]) -> Step
-    requires { ⌜ Lent (now text) (now lexicon) × (0 < want) × (want < 5) ⌝ }
-    ensures { λ r. ⌜ Reads (now (text .entry)) (sign-of want ∷ []) n at r ⌝ }
+    requires { ⌜ Lent (now text) (now lexicon) ⌝ }
+    ensures { λ r. ⌜ ((s : Sign) → sign-code s ≡ want → Reads (now (text .entry)) (sign-of s ∷ []) n at r) ⌝ }
 {
     let start = lexer::gap(text, at, lexicon);
     if text.len() <= start {
@@ -81,23 +82,24 @@ pub fn begin_row(rows: &mut [u16; 2056], n: usize, c: u8, place: u16, left: usiz
     put(rows, n, 5, depth_of(left));
 }
 
-// The name of the node n, or its par.
+// The name of the node n, or its par: its place, and the place past it.
 fn read_name(text: &[u8], at: usize, n: usize, rows: &mut [u16; 2056], lexicon: &[u8; 400]) -> Step
     requires { ⌜ Lent (now text) (now lexicon) ⌝ }
-    ensures { λ r. ⌜ Fills (now (text .entry)) (sign-of 6 ∷ []) n at (now (rows .entry)) r (now (rows .exit)) ⌝ }
+    ensures { λ r. ⌜ Fills (now (text .entry)) (named ∷ []) n at (now (rows .entry)) r (now (rows .exit)) ⌝ }
 {
-    let t: Token = lexer::next(text, at, lexicon);
+    let t: Lexeme = lexer::next(text, at, lexicon);
     if t.code != 6 {
         return Step::Stop(5, t.start);
     }
     put(rows, n, 2, t.start as u16);
+    put(rows, n, 7, t.end as u16);
     Step::Go(t.end, n)
 }
 
 // `(` and a name.
 fn read_named(text: &[u8], at: usize, n: usize, rows: &mut [u16; 2056], lexicon: &[u8; 400]) -> Step
     requires { ⌜ Lent (now text) (now lexicon) ⌝ }
-    ensures { λ r. ⌜ Fills (now (text .entry)) (sign-of 1 ∷ sign-of 6 ∷ []) n at (now (rows .entry)) r (now (rows .exit)) ⌝ }
+    ensures { λ r. ⌜ Fills (now (text .entry)) (sign-of opening ∷ named ∷ []) n at (now (rows .entry)) r (now (rows .exit)) ⌝ }
 {
     let s = sign(text, at, n, 1, lexicon);
     let Step::Go(p, m) = s else {
@@ -119,11 +121,11 @@ fn read_params(
 {
     let mut p = at;
     loop {
-        let comma: Token = lexer::next(text, p, lexicon);
+        let comma: Lexeme = lexer::next(text, p, lexicon);
         if comma.code != 3 {
             return Step::Stop(5, comma.start);
         }
-        let t: Token = lexer::next(text, comma.end, lexicon);
+        let t: Lexeme = lexer::next(text, comma.end, lexicon);
         if t.code != 6 {
             if t.code < 16 {
                 return Step::Stop(5, t.start);
@@ -147,7 +149,7 @@ pub fn read_flow_head(
     lexicon: &[u8; 400],
 ) -> Step
     requires { ⌜ Lent (now text) (now lexicon) ⌝ }
-    ensures { λ r. ⌜ Fills (now (text .entry)) (sign-of 1 ∷ sign-of 6 ∷ params ∷ sign-of 1 ∷ []) n at (now (rows .entry)) r (now (rows .exit)) ⌝ }
+    ensures { λ r. ⌜ Fills (now (text .entry)) (sign-of opening ∷ named ∷ params ∷ sign-of opening ∷ []) n at (now (rows .entry)) r (now (rows .exit)) ⌝ }
 {
     let s = read_named(text, at, n, rows, lexicon);
     let Step::Go(p, m) = s else {
@@ -163,9 +165,9 @@ pub fn read_flow_head(
 // The size of the node n, from 1 to 16, and the `)`.
 fn read_size(text: &[u8], at: usize, n: usize, rows: &mut [u16; 2056], lexicon: &[u8; 400]) -> Step
     requires { ⌜ Lent (now text) (now lexicon) ⌝ }
-    ensures { λ r. ⌜ Fills (now (text .entry)) (number 1 16 ∷ sign-of 2 ∷ []) n at (now (rows .entry)) r (now (rows .exit)) ⌝ }
+    ensures { λ r. ⌜ Fills (now (text .entry)) (number 1 16 ∷ sign-of closing-sign ∷ []) n at (now (rows .entry)) r (now (rows .exit)) ⌝ }
 {
-    let t: Token = lexer::next(text, at, lexicon);
+    let t: Lexeme = lexer::next(text, at, lexicon);
     if t.code < 17 {
         return Step::Stop(5, t.start);
     }
@@ -185,7 +187,7 @@ pub fn read_copies(
     lexicon: &[u8; 400],
 ) -> Step
     requires { ⌜ Lent (now text) (now lexicon) ⌝ }
-    ensures { λ r. ⌜ Fills (now (text .entry)) (sign-of 1 ∷ sign-of 6 ∷ sign-of 4 ∷ number 1 16 ∷ sign-of 2 ∷ []) n at (now (rows .entry)) r (now (rows .exit)) ⌝ }
+    ensures { λ r. ⌜ Fills (now (text .entry)) (sign-of opening ∷ named ∷ sign-of colon ∷ number 1 16 ∷ sign-of closing-sign ∷ []) n at (now (rows .entry)) r (now (rows .exit)) ⌝ }
 {
     let s = read_named(text, at, n, rows, lexicon);
     let Step::Go(p, m) = s else {
@@ -207,7 +209,7 @@ pub fn read_leaf(
     lexicon: &[u8; 400],
 ) -> Step
     requires { ⌜ Lent (now text) (now lexicon) ⌝ }
-    ensures { λ r. ⌜ Fills (now (text .entry)) (sign-of 1 ∷ sign-of 6 ∷ sign-of 2 ∷ []) n at (now (rows .entry)) r (now (rows .exit)) ⌝ }
+    ensures { λ r. ⌜ Fills (now (text .entry)) (sign-of opening ∷ named ∷ sign-of closing-sign ∷ []) n at (now (rows .entry)) r (now (rows .exit)) ⌝ }
 {
     let s = read_named(text, at, n, rows, lexicon);
     let Step::Go(p, m) = s else {
@@ -232,7 +234,7 @@ pub fn read_ref(
     let Step::Go(p, m) = s else {
         return s;
     };
-    let t: Token = lexer::next(text, p, lexicon);
+    let t: Lexeme = lexer::next(text, p, lexicon);
     if t.code < 16 {
         return Step::Stop(5, t.start);
     }

@@ -1,9 +1,10 @@
 pub mod MoreValues
 pub mod Steps
+pub mod EventOrder
 pub mod NodeDepths
 pub mod TreeWeights
-pub mod EventOrder
 pub mod SearchByNode
 pub mod SearchByTree
+pub mod KeyNodes
 pub mod SearchByText
 pub mod OnePlace

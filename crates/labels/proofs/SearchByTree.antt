@@ -1,36 +1,34 @@
 -- The search over the nodes of a tree finds the event at its place in the tree's order.
 use mathlib.Core.Path.{_≡_, refl, sym, ap, _∙_, subst}
-use mathlib.Core.Bool.{Bool, true, false, _&&_, _||_}
-use mathlib.Core.List.{List, [], _∷_, _++_, map, reverse}
-use Prim.Native.Nat.{ℕ, zero, suc, _+_, _-_, _*_, _/_, _%_, _≤_, _<_}
-use native.Mathlib.Nat.{mod-lt, div-add-mod', div-lt-iff-lt-mul}
+use mathlib.Core.Bool.{Bool, true, false, _&&_}
+use mathlib.Core.List.{List, [], _∷_, _++_, append-assoc}
+use Prim.Native.Nat.{ℕ, suc, _+_, _-_, _*_, _/_, _%_, _≤_, _<_}
+use native.Mathlib.Nat.{mul-comm, le-mul-of-pos-right, mod-lt, mod-eq-of-lt, div-add-mod', div-lt-iff-lt-mul}
 use native.Mathlib.Omega.{arith}
 use lib.Dec.{leb, ltb}
 use lib.ListN.{length, getD, length-append, List·getD-append}
-use lib.Seq.{getD-append-seam}
+use lib.Seq.{getD-append-seam, getD-append-add}
 use borrow.Author.Tests.{leb-true, ltb-true, ltb-false}
 use Rattle.base.proofs.Truth.{by-cases, and-l, and-r}
 use Rattle.diagram.specs.Tree.{Name, Flow, flow, Children, none, next, Child, plain, loop, group, replicator, Member, leaf, inner, Members, end, also}
 use Rattle.diagram.specs.Names.{equal, same, new}
-use Rattle.diagram.specs.Count.{flow-events, children-events, child-events, loop-events, member-events, members-events}
+use Rattle.diagram.specs.Count.{flow-events, child-events, member-events}
 use Rattle.diagram.specs.Sizes.{flow-sized, children-sized, child-sized, member-sized, members-sized}
 use Rattle.diagram.specs.Parameters.{surrounded, flow-parameters, children-parameters, child-parameters, member-parameters, members-parameters}
-use Rattle.grammar.specs.Tokens.{child-tokens, member-tokens}
-use Rattle.rules.specs.TokenNodes.{TokenNode, flowing, leafy}
-use Rattle.rules.proofs.NodesRead.{flow-node, copy-node}
-use Rattle.rules.proofs.Trees.{group-code, replicator-code, simple, flow-token-nodes, children-token-nodes, child-token-nodes, member-token-nodes, members-token-nodes}
-use Rattle.reading.specs.Nodes.{kind-of, node-of}
-use Rattle.process.specs.Process.{Event, Joint, seq, Process, join, events}
-use Rattle.process.specs.Expand.{leaf-copy, reset-of, joint, copies, flow-process, children-process, child-process, loop-process, member-process, members-process}
+use Rattle.diagram.specs.TreeNodes.{TextNode, own, titled, nodes-by, flow-tree-nodes, children-tree-nodes, child-tree-nodes, member-tree-nodes, members-tree-nodes}
+use Rattle.diagram.specs.declared.Kind.the-variants.{Leaf, Loop}
+use Rattle.process.specs.Process.{Event, Joint, Process, join, events}
+use Rattle.process.specs.Expand.{leaf-copy, reset-of, joint, copies, expand, flow-process, child-process, loop-process, member-process}
 use Rattle.process.proofs.Numbered.{size-events}
 use Rattle.process.proofs.Cleared.{size-positive}
+use Rattle.process.proofs.Events.{events-counted}
 use Rattle.labels.specs.declared.Spot.{Spot}
 use Rattle.labels.specs.Values.{packed}
-use Rattle.labels.specs.Weights.{weight, weigh}
+use Rattle.labels.specs.Weights.{product-mod, parts, resets, weight, weigh}
 use Rattle.labels.specs.Seeks.{next as after}
-use Rattle.labels.proofs.NodeDepths.{Deep, done, deeper, tree-deep, first-depth, tree-first, child-tree, member-tree, children-first, members-first}
-use Rattle.labels.proofs.TreeWeights.{first-weight, token-search-node, copies-more, flow-joins, group-joins, replicator-joins, flow-weighed, child-weighed, member-weighed}
-use Rattle.labels.proofs.EventOrder.{flow-count, child-count, member-count, join-first, join-second, join-count, children-begin, members-begin, copies-at}
+use Rattle.labels.proofs.NodeDepths.{Deep, done, deeper, deep-then, Tree, tree, tree-deep, first-depth, tree-first}
+use Rattle.labels.proofs.TreeWeights.{sum-small, Joins, group-joins, replicator-joins, weighed, first-weight, weight-parts, weight-copies, parts-then, parts-end}
+use Rattle.labels.proofs.EventOrder.{member-count, children-rest, children-split, members-rest, members-split, copies-count, copies-at}
 use Rattle.labels.proofs.SearchByNode.{search, sought, seek-past, seek-leaf, seek-reset, seek-body, seek-parts, seek-copy}
 
 -- No event.
@@ -55,15 +53,22 @@ member-surrounded (inner (flow n ps sw c r cs)) around h =
 member-some : (m : Member) → member-sized m ≡ true → 1 ≤ member-events m
 member-some m h =
     let p = member-process m [] 0 in
-    omega (arith, size-positive p, size-events p, member-count [] 0 m h)
+    omega (arith, size-positive p, size-events p, member-count m h [] 0)
 
-module _ (ps : List ℕ) (ok : Name → ℕ → Type 0) where
+copies-more : (size n : ℕ) → 1 ≤ size → n ≤ size * n
+copies-more size n h = rw (mul-comm size n) (le-mul-of-pos-right n h)
+
+-- In a part, or past it.
+part-or-past : (i n : ℕ) {A : Type 0} → (i < n → A) → (n ≤ i → A) → A
+part-or-past i n f g = by-cases (ltb i n) (λ t. f (ltb-true i n t)) (λ t. g (ltb-false i n t))
+
+module _ (at : TextNode → ℕ) (ok : Name → ℕ → Type 0) where
   -- The name of each leaf and flow among some nodes stands at its place.
-  unfoldable pub Known : List TokenNode → Type 0
+  unfoldable pub Known : List TextNode → Type 0
   Known [] = Unit {0}
-  Known (h ∷ hs) = ((flowing (h .code) || leafy (h .code)) ≡ true → ok (h .name) (token-search-node ps h .place)) × Known hs
+  Known (h ∷ hs) = (titled (h .kind) ≡ true → ok (h .name) (at h)) × Known hs
 
-  known-more : {d : ℕ} {hs more : List TokenNode} → Deep d hs more → Known hs → Known more
+  known-more : {d : ℕ} {hs more : List TextNode} → Deep d hs more → Known hs → Known more
   unfolding Known
   known-more done k = k
   known-more (deeper l p) k = known-more p (k .1)
@@ -72,203 +77,253 @@ module _ (ps : List ℕ) (ok : Name → ℕ → Type 0) where
   moved : {l m : Event} {s t : Spot} → Labels ok l s → l ≡ m → s ≡ t → Labels ok m t
   moved {s = s} g p q = rw (← q) (subst (λ (x : Event). Labels ok x s) p g)
 
-  abbrev At : Process → ℕ → Spot → Type 0
-  At p i s = Labels ok (getD (events p) i nothing) s
+  -- Each of the events es is found among the nodes hs, from a search in the node around them, at depth d, with the values vs. What comes after
+  -- hs is no deeper than its parts.
+  Found : ℕ → List ℕ → List Event → List TextNode → List TextNode → Type 0
+  Found d vs es hs more =
+      Known hs → first-depth more ≤ suc d → length es < 1024 → (i : ℕ) → i < length es → Labels ok (getD es i nothing) (sought at hs (search d i vs))
 
-  -- In a part, or past it.
-  part-or-past : (rest n : ℕ) {A : Type 0} → (rest < n → A) → (n ≤ rest → A) → A
-  part-or-past rest n f g = by-cases (ltb rest n) (λ t. f (ltb-true rest n t)) (λ t. g (ltb-false rest n t))
+  -- One part of that node, and then others.
+  record Part (d : ℕ) (vs : List ℕ) (es : List Event) (hs more : List TextNode) : Type 0 where
+    tree : Tree (suc d) hs more
+    weighs : first-depth more ≤ suc d → length es < 1024 → first-weight at hs ≡ length es
+    found : Found d vs es hs more
 
-  -- The one event of a leaf.
-  one-event : (x : Event) (i : ℕ) → i < 1 → x ≡ getD (x ∷ []) i nothing
-  one-event x zero h = refl
-  one-event x (suc i) h = let z : ⊥ = omega arith in absurd z
+  -- Some of them, one after the other.
+  record Parts (d : ℕ) (vs : List ℕ) (es : List Event) (hs more : List TextNode) : Type 0 where
+    deep : Deep (suc d) hs more
+    first : first-depth more ≤ suc d → first-depth hs ≤ suc d
+    adds : (n : ℕ) → first-depth more ≤ d → n + length es < 1024 → parts d n (weighed at hs) ≡ n + length es
+    found : Found d vs es hs more
+
+  no-parts : (d : ℕ) (vs : List ℕ) (more : List TextNode) → Parts d vs [] more more
+  unfolding Found
+  no-parts d vs more = record {
+    deep = done;
+    first = λ s. s;
+    adds = λ n s f. parts-end at d n more s ∙ omega arith;
+    found = λ k s f i l. let z : ⊥ = omega arith in absurd z;
+  }
+
+  and-parts : {d : ℕ} {vs : List ℕ} {es fs : List Event} {hs mid more : List TextNode} → Part d vs es hs mid → Parts d vs fs mid more
+      → Parts d vs (es ++ fs) hs more
+  unfolding Found
+  and-parts {d} {vs} {es} {fs} {hs} {mid} {more} p q =
+      let both = length-append es fs in
+      record {
+        deep = deep-then (tree-deep (p .tree)) (q .deep);
+        first = λ s. omega (arith, tree-first (p .tree));
+        adds = λ n s f.
+            parts-then at d n (length es) (p .tree) (p .weighs (q .first (omega arith)) (omega arith)) (omega arith)
+            ∙ (q .adds (n + length es) s (omega arith) ∙ omega arith);
+        found = λ k s f i l.
+            part-or-past i (length es)
+            (λ m. moved (p .found k (q .first s) (omega arith) i m) (sym (List·getD-append es fs nothing i m)) refl)
+            (λ m.
+            let e : length es + (i - length es) ≡ i = omega arith in
+            moved (q .found (known-more (tree-deep (p .tree)) k) s (omega arith) (i - length es) (omega arith))
+            (sym (getD-append-add es fs (i - length es) nothing) ∙ ap (λ (j : ℕ). getD (es ++ fs) j nothing) e)
+            (sym (seek-past at d i vs (length es) (p .tree) (p .weighs (q .first s) (omega arith)) m)));
+      }
+
+  -- A node whose parts are joined.
+  joined : {d : ℕ} {vs : List ℕ} {es : List Event} (h : TextNode) {hs more : List TextNode} → h .depth ≡ suc d → Joins (h .kind) 0
+      → Parts (suc d) vs es hs more → Part d vs es (h ∷ hs) more
+  unfolding Found Known weigh
+  joined {d} {vs} {es} h {hs} {more} e j q =
+      let weighs : first-depth more ≤ suc d → length es < 1024 → first-weight at (h ∷ hs) ≡ length es =
+      λ s f. weight-parts at h (weighed at hs) j ∙ (ap (λ (x : ℕ). parts x 0 (weighed at hs)) e ∙ (q .adds 0 s (omega arith) ∙ omega arith)) in
+      record {
+        tree = tree e (q .deep);
+        weighs = weighs;
+        found = λ k s f i l.
+            moved (q .found (k .1) (omega arith) f i l) refl (sym (seek-parts at h hs d i vs e (omega (arith, weighs s f)) j));
+      }
+
+  -- A leaf.
+  leaf-part : (d : ℕ) (vs : List ℕ) (h : TextNode) (more : List TextNode) → h .kind ≡ Leaf → h .depth ≡ suc d
+      → Part d vs (leaf-copy (h .name) vs ∷ []) (h ∷ more) more
+  unfolding Found Known weigh weight
+  leaf-part d vs h more t e =
+      let weighs : first-weight at (h ∷ more) ≡ 1 = rw t in
+      record {
+        tree = tree e done;
+        weighs = λ s f. weighs;
+        found = λ k s f i l.
+            let z : 0 ≡ i = omega arith in
+            moved (record { mark = refl; its-values = refl; named = k .0 (rw t) }) (ap (λ (j : ℕ). getD (leaf-copy (h .name) vs ∷ []) j nothing) z)
+            (sym (seek-leaf at h more d i vs e (omega (arith, weighs)) (rw t)));
+      }
+
+  -- A part that is the only one of its node.
+  lone : {d : ℕ} {vs : List ℕ} {es : List Event} {hs more : List TextNode} → Part d vs es hs more → first-depth more ≤ d → length es < 1024
+      → parts d 0 (weighed at hs) ≡ length es
+  lone {d} {vs} {es} {hs} {more} p s f =
+      parts-then at d 0 (length es) (p .tree) (p .weighs (omega arith) f) (omega arith) ∙ (parts-end at d (0 + length es) more s ∙ omega arith)
+
+  -- A loop, by the reset of its body.
+  module _ {d : ℕ} {vs : List ℕ} {es : List Event} (h : TextNode) {hs more : List TextNode} (t : h .kind ≡ Loop) (e : h .depth ≡ suc d)
+      (p : Part (suc d) vs es hs more) where
+    loop-weighs : (r : ℕ) → resets (weighed at hs) ≡ r → first-depth more ≤ suc d → length es + r < 1024 → first-weight at (h ∷ hs) ≡ length es + r
+    unfolding weigh weight
+    loop-weighs r q s f = rw (t, e, lone p s (omega arith), q) (sum-small (length es) r f)
+
+    leaf-loop : resets (weighed at hs) ≡ 0 → Part d vs es (h ∷ hs) more
+    unfolding Found Known
+    leaf-loop q = record {
+      tree = tree e (tree-deep (p .tree));
+      weighs = λ s f. loop-weighs 0 q s (omega arith) ∙ omega arith;
+      found = λ k s f i l.
+          moved (p .found (k .1) (omega arith) f i l) refl
+          (sym (seek-body at h hs d i vs e (omega (arith, loop-weighs 0 q s (omega arith))) (rw t) (omega (arith, p .weighs (omega arith) f)) (rw t)));
+    }
+
+    flow-loop : (x : Event) → resets (weighed at hs) ≡ 1
+        → (Known hs → Labels ok x (record { reset = true; place = after (weighed at hs) .place; values = packed vs }))
+        → Part d vs (es ++ (x ∷ [])) (h ∷ hs) more
+    unfolding Found Known
+    flow-loop x q named =
+        let both = length-append es (x ∷ []) in
+        record {
+          tree = tree e (tree-deep (p .tree));
+          weighs = λ s f. loop-weighs 1 q s (omega arith) ∙ omega arith;
+          found = λ k s f i l.
+              let own : i < first-weight at (h ∷ hs) = omega (arith, loop-weighs 1 q s (omega arith)) in
+              let body = p .weighs (omega arith) (omega arith) in
+              part-or-past i (length es)
+              (λ m. moved (p .found (k .1) (omega arith) (omega arith) i m) (sym (List·getD-append es (x ∷ []) nothing i m))
+              (sym (seek-body at h hs d i vs e own (rw t) (omega arith) (rw t))))
+              (λ m.
+              let last : length es ≡ i = omega arith in
+              moved (named (k .1)) (sym (getD-append-seam es x [] nothing) ∙ ap (λ (j : ℕ). getD (es ++ (x ∷ [])) j nothing) last)
+              (sym (seek-reset at h hs d i vs e own (rw t) (omega arith))));
+        }
+
+  -- A replicator: the copies of its member, each with its value.
+  copied : {d : ℕ} {vs : List ℕ} (h : TextNode) {hs more : List TextNode} → h .depth ≡ suc d → {size : ℕ} → Joins (h .kind) size → 1 ≤ size → length vs < 3
+      → (j : Joint) (copy : ℕ → Process) (n : ℕ) → ((v : ℕ) → length (events (copy v)) ≡ n) → 1 ≤ n
+      → ((v : ℕ) → Part (suc d) (vs ++ (v ∷ [])) (events (copy v)) hs more) → Part d vs (events (copies j copy (size - 1))) (h ∷ hs) more
+  unfolding Found Known weigh
+  copied {d} {vs} h {hs} {more} e {size} js some room j copy n each one p =
+      let count : length (events (copies j copy (size - 1))) ≡ size * n = copies-count j copy n each (size - 1) ∙ ap (λ (x : ℕ). x * n) (omega arith) in
+      let less : n ≤ size * n = copies-more size n some in
+      let weighs : first-depth more ≤ suc d → size * n < 1024 → first-weight at (h ∷ hs) ≡ size * n =
+      λ s f. weight-copies at h (weighed at hs) js some
+      ∙ (ap (λ (x : ℕ). product-mod size (parts x 0 (weighed at hs))) e
+      ∙ (ap (product-mod size) (lone (p 0) s (omega (arith, each 0)) ∙ each 0) ∙ mod-eq-of-lt f)) in
+      record {
+        tree = tree e (tree-deep (p 0 .tree));
+        weighs = λ s f. weighs s (omega arith) ∙ sym count;
+        found = λ k s f i l.
+            let v = i / n in
+            let body : first-weight at hs ≡ n = p 0 .weighs (omega arith) (omega (arith, each 0)) ∙ each 0 in
+            moved (p v .found (k .1) (omega arith) (omega (arith, each v)) (i % n) (omega (arith, mod-lt i one, each v)))
+            (sym (copies-at j copy n each (size - 1) v (i % n) nothing
+            (omega (arith, div-lt-iff-lt-mul {x = i} {y = size} one .1 (omega arith))) (mod-lt i one))
+            ∙ ap (λ (x : ℕ). getD (events (copies j copy (size - 1))) x nothing) (div-add-mod' i n))
+            (sym (seek-copy at h hs d i vs e (omega (arith, weighs s (omega arith))) js some (omega arith) room
+            ∙ ap (λ (x : ℕ). sought at hs (search (suc d) (i % x) (vs ++ ((i / x) ∷ [])))) body));
+      }
 
   -- A reset has the name of its body's flow.
-  reset-named : (f : Flow) (d k : ℕ) (more : List TokenNode) → Known (flow-token-nodes f false d k more) → (vs : List ℕ)
-      → Labels ok (reset-of f vs) (record { reset = true; place = after (weigh (map (token-search-node ps) (flow-token-nodes f false d k more))) .place; values = packed vs })
-  unfolding flow-token-nodes Known weigh
-  reset-named (flow n p sw c r cs) d k more known vs = record { mark = refl; its-values = refl; named = known .0 refl }
+  reset-named : (f : Flow) (around : List Name) (d i : ℕ) (more : List TextNode) (vs : List ℕ) → Known (flow-tree-nodes own f around false d i more)
+      → Labels ok (reset-of f vs) (record { reset = true; place = after (weighed at (flow-tree-nodes own f around false d i more)) .place; values = packed vs })
+  unfolding flow-tree-nodes Known weigh
+  reset-named (flow n ps sw c r cs) around d i more vs known = record { mark = refl; its-values = refl; named = known .0 refl }
 
-  -- A tree whose first node is searched in for its event number `rest`, from a search in the node around it, at depth d.
+  flow-resets : (f : Flow) (around : List Name) (d i : ℕ) (more : List TextNode) → resets (weighed at (flow-tree-nodes own f around false d i more)) ≡ 1
+  unfolding flow-tree-nodes weigh
+  flow-resets (flow n ps sw c r cs) around d i more = refl
+
+  loop-part : (m : Member) (around : List Name) (b : Bool) (d i : ℕ) (more : List TextNode) (vs : List ℕ) (e : ℕ)
+      → Part (suc d) vs (events (member-process m vs e)) (member-tree-nodes own m around false (suc (suc d)) (suc i) more) more
+      → Part d vs (events (loop-process m vs e)) (child-tree-nodes own (loop m) around b (suc d) i more) more
+  unfolding flow-tree-nodes flow-process events weigh
+  loop-part (leaf n) around b d i more vs e p = leaf-loop _ refl refl p refl
+  loop-part (inner f) around b d i more vs e p = flow-loop _ refl refl p (reset-of f vs) (flow-resets f around _ _ more) (reset-named f around _ _ more vs)
+
+  -- The parts of a tree, by the tree; `around` are the pars for whose values the events are.
   mutual
-    unfolding flow-token-nodes flow-process flow-events flow-sized flow-parameters Known events token-search-node node-of kind-of weigh weight
+    unfolding flow-tree-nodes flow-process children-rest members-rest flow-sized flow-parameters events weigh
 
-    pub flow-found : (f : Flow) (b : Bool) (d k : ℕ) (more : List TokenNode) → first-depth more ≤ suc d → flow-sized f ≡ true → flow-events f < 1024
-        → Known (flow-token-nodes f b (suc d) k more) → (around : List Name) (vs : List ℕ) → length around ≡ length vs → flow-parameters f around ≡ true
-        → (e rest : ℕ) → rest < flow-events f → At (flow-process f vs e) rest (sought ps (flow-token-nodes f b (suc d) k more) (search d rest vs))
-    flow-found (flow n p sw c r cs) b d k more stop sized few known around vs long kept e rest l =
-        let k1 = k + (7 + 2 * length p) in
-        let k2 = k1 + (length (child-tokens c []) + 3) in
-        let tail = children-token-nodes cs (suc (suc d)) k2 more in
-        let q = child-process c vs e in
-        let sized1 = and-l (child-sized c) (children-sized cs) sized in
-        let sized2 = and-r (child-sized c) (children-sized cs) sized in
-        let kepts = and-r (surrounded around && equal same p around) (child-parameters c around && children-parameters cs around) kept in
-        let first = children-first cs (suc (suc d)) k2 more (omega arith) in
-        let count = child-count vs e c sized1 in
-        let in-it = seek-parts ps (flow-node k (suc d) n (reverse p) sw b) (child-token-nodes c r (suc (suc d)) k1 tail) d rest vs _ refl (flow-weighed ps (flow n p sw c r cs) b (suc d) k more stop sized few) l
-        (flow-joins ps n (reverse p) sw b (suc d) k) in
-        part-or-past rest (child-events c)
-        (λ m. moved
-        (child-found c r (suc d) k1 tail first sized1 (omega arith) (known .1) around vs long (and-l (child-parameters c around) (children-parameters cs around) kepts) e rest m)
-        (sym (children-begin cs vs q (e + child-events c) rest nothing (omega arith))) (sym in-it))
-        (λ m. moved
-        (children-found cs (suc d) k2 more stop sized2 (omega arith) (known-more (tree-deep (child-tree c r (suc (suc d)) k1 tail)) (known .1)) around vs long
-        (and-r (child-parameters c around) (children-parameters cs around) kepts) q (e + child-events c) (rest - child-events c) (omega arith))
-        (ap (λ (i : ℕ). getD (events (children-process cs vs q (e + child-events c))) i nothing) (omega arith))
-        (sym (in-it ∙ seek-past ps (suc d) rest vs (child-events c) (child-tree c r (suc (suc d)) k1 tail)
-        (child-weighed ps c r (suc (suc d)) k1 tail first sized1 (omega arith)) m)))
+    flow-part : (f : Flow) (around : List Name) (b : Bool) (d i : ℕ) (more : List TextNode) → flow-sized f ≡ true → flow-parameters f around ≡ true
+        → (vs : List ℕ) → length around ≡ length vs → (e : ℕ)
+        → Part d vs (events (flow-process f vs e)) (flow-tree-nodes own f around b (suc d) i more) more
+    flow-part (flow n ps sw c r cs) around b d i more sized kept vs long e =
+        let kepts = and-r (surrounded around && equal same ps around) (child-parameters c around && children-parameters cs around) kept in
+        rw (children-split cs vs (child-process c vs e) (e + child-events c))
+        (joined _ refl (record { parted = omega arith; sized = refl })
+        (and-parts
+        (child-part c around r (suc d) _ _ (and-l (child-sized c) (children-sized cs) sized)
+        (and-l (child-parameters c around) (children-parameters cs around) kepts) vs long e)
+        (children-parts cs around (suc d) _ more (and-r (child-sized c) (children-sized cs) sized)
+        (and-r (child-parameters c around) (children-parameters cs around) kepts) vs long _)))
 
-    children-found : (cs : Children) (d k : ℕ) (more : List TokenNode) → first-depth more ≤ d → children-sized cs ≡ true → children-events cs < 1024
-        → Known (children-token-nodes cs (suc d) k more) → (around : List Name) (vs : List ℕ) → length around ≡ length vs → children-parameters cs around ≡ true
-        → (p : Process) (e rest : ℕ) → rest < children-events cs
-        → At (children-process cs vs p e) (length (events p) + rest) (sought ps (children-token-nodes cs (suc d) k more) (search d rest vs))
-    children-found none d k more stop sized few known around vs long kept p e rest l = let z : ⊥ = omega arith in absurd z
-    children-found (next c r cs) d k more stop sized few known around vs long kept p e rest l =
-        let k2 = k + (length (child-tokens c []) + 3) in
-        let tail = children-token-nodes cs (suc d) k2 more in
-        let q = child-process c vs e in
-        let sized1 = and-l (child-sized c) (children-sized cs) sized in
-        let first = children-first cs (suc d) k2 more (omega arith) in
-        let count = child-count vs e c sized1 in
-        let both = join-count seq p q nothing in
-        part-or-past rest (child-events c)
-        (λ m. moved
-        (child-found c r d k tail first sized1 (omega arith) known around vs long (and-l (child-parameters c around) (children-parameters cs around) kept) e rest m)
-        (sym (children-begin cs vs (join seq p q) (e + child-events c) (length (events p) + rest) nothing (omega arith) ∙ join-second seq p q nothing rest)) refl)
-        (λ m. moved
-        (children-found cs d k2 more stop (and-r (child-sized c) (children-sized cs) sized) (omega arith)
-        (known-more (tree-deep (child-tree c r (suc d) k tail)) known) around vs long (and-r (child-parameters c around) (children-parameters cs around) kept)
-        (join seq p q) (e + child-events c) (rest - child-events c) (omega arith))
-        (ap (λ (i : ℕ). getD (events (children-process cs vs (join seq p q) (e + child-events c))) i nothing) (omega arith))
-        (sym (seek-past ps d rest vs (child-events c) (child-tree c r (suc d) k tail) (child-weighed ps c r (suc d) k tail first sized1 (omega arith)) m)))
+    children-parts : (cs : Children) (around : List Name) (d i : ℕ) (more : List TextNode) → children-sized cs ≡ true → children-parameters cs around ≡ true
+        → (vs : List ℕ) → length around ≡ length vs → (e : ℕ) → Parts d vs (children-rest cs vs e) (children-tree-nodes own cs around (suc d) i more) more
+    children-parts none around d i more sized kept vs long e = no-parts d vs more
+    children-parts (next c r cs) around d i more sized kept vs long e =
+        and-parts
+        (child-part c around r d i _ (and-l (child-sized c) (children-sized cs) sized)
+        (and-l (child-parameters c around) (children-parameters cs around) kept) vs long e)
+        (children-parts cs around d _ more (and-r (child-sized c) (children-sized cs) sized)
+        (and-r (child-parameters c around) (children-parameters cs around) kept) vs long _)
 
-    child-found : (c : Child) (b : Bool) (d k : ℕ) (more : List TokenNode) → first-depth more ≤ suc d → child-sized c ≡ true → child-events c < 1024
-        → Known (child-token-nodes c b (suc d) k more) → (around : List Name) (vs : List ℕ) → length around ≡ length vs → child-parameters c around ≡ true
-        → (e rest : ℕ) → rest < child-events c → At (child-process c vs e) rest (sought ps (child-token-nodes c b (suc d) k more) (search d rest vs))
-    child-found (plain m) b d k more stop sized few known around vs long kept e rest l = member-found m b d k more stop sized few known around vs long kept e rest l
-    child-found (loop m) b d k more stop sized few known around vs long kept e rest l =
-        loop-found m b d k more stop sized few (known .1) around vs long (and-r (surrounded around) (member-parameters m around) kept) e rest l
-    child-found (group y m w ms) b d k more stop sized few known around vs long kept e rest l =
-        let k2 = k + 2 + length (member-tokens m []) in
-        let k3 = k2 + length (member-tokens w []) in
-        let tail = members-token-nodes ms (suc (suc d)) k3 more in
-        let rests = member-token-nodes w false (suc (suc d)) k2 tail in
-        let j = joint y in
+    child-part : (c : Child) (around : List Name) (b : Bool) (d i : ℕ) (more : List TextNode) → child-sized c ≡ true → child-parameters c around ≡ true
+        → (vs : List ℕ) → length around ≡ length vs → (e : ℕ)
+        → Part d vs (events (child-process c vs e)) (child-tree-nodes own c around b (suc d) i more) more
+    child-part (plain m) around b d i more sized kept vs long e = member-part m around b d i more sized kept vs long e
+    child-part (loop m) around b d i more sized kept vs long e =
+        loop-part m around b d i more vs e
+        (member-part m around false (suc d) _ more sized (and-r (surrounded around) (member-parameters m around) kept) vs long e)
+    child-part (group y m o ms) around b d i more sized kept vs long e =
+        let sizeds = and-r (member-sized m) (member-sized o && members-sized ms) sized in
+        let kepts = and-r (surrounded around) (member-parameters m around && (member-parameters o around && members-parameters ms around)) kept in
+        let kepts2 = and-r (member-parameters m around) (member-parameters o around && members-parameters ms around) kepts in
         let p = member-process m vs e in
-        let q = member-process w vs (e + member-events m) in
-        let f = e + member-events m + member-events w in
-        let sized1 = and-l (member-sized m) (member-sized w && members-sized ms) sized in
-        let sizeds = and-r (member-sized m) (member-sized w && members-sized ms) sized in
-        let sized2 = and-l (member-sized w) (members-sized ms) sizeds in
-        let kepts = and-r (surrounded around) (member-parameters m around && (member-parameters w around && members-parameters ms around)) kept in
-        let kepts2 = and-r (member-parameters m around) (member-parameters w around && members-parameters ms around) kepts in
-        let first1 : first-depth rests ≤ suc (suc d) = omega (arith, tree-first (member-tree w false (suc (suc d)) k2 tail)) in
-        let first2 = members-first ms (suc (suc d)) k3 more (omega arith) in
-        let known2 = known-more (tree-deep (member-tree m false (suc (suc d)) (k + 2) rests)) (known .1) in
-        let count1 = member-count vs e m sized1 in
-        let count2 = member-count vs (e + member-events m) w sized2 in
-        let both = join-count j p q nothing in
-        let in-it = seek-parts ps (simple k (suc d) (group-code y) [] b) (member-token-nodes m false (suc (suc d)) (k + 2) rests) d rest vs _ refl
-        (child-weighed ps (group y m w ms) b (suc d) k more stop sized few) l (group-joins ps y b (suc d) k) in
-        part-or-past rest (member-events m)
-        (λ u. moved
-        (member-found m false (suc d) (k + 2) rests first1 sized1 (omega arith) (known .1) around vs long
-        (and-l (member-parameters m around) (member-parameters w around && members-parameters ms around) kepts) e rest u)
-        (sym (members-begin ms j vs (join j p q) f rest nothing (omega arith) ∙ join-first j p q nothing rest (omega arith))) (sym in-it))
-        (λ u.
-        let past = in-it ∙ seek-past ps (suc d) rest vs (member-events m) (member-tree m false (suc (suc d)) (k + 2) rests)
-        (member-weighed ps m false (suc (suc d)) (k + 2) rests first1 sized1 (omega arith)) u in
-        part-or-past (rest - member-events m) (member-events w)
-        (λ v. moved
-        (member-found w false (suc d) k2 tail first2 sized2 (omega arith) known2 around vs long
-        (and-l (member-parameters w around) (members-parameters ms around) kepts2) (e + member-events m) (rest - member-events m) v)
-        (sym (members-begin ms j vs (join j p q) f rest nothing (omega arith)
-        ∙ (ap (λ (i : ℕ). getD (events (join j p q)) i nothing) (omega arith) ∙ join-second j p q nothing (rest - member-events m)))) (sym past))
-        (λ v. moved
-        (members-found ms j (suc d) k3 more stop (and-r (member-sized w) (members-sized ms) sizeds) (omega arith)
-        (known-more (tree-deep (member-tree w false (suc (suc d)) k2 tail)) known2) around vs long
-        (and-r (member-parameters w around) (members-parameters ms around) kepts2) (join j p q) f (rest - member-events m - member-events w) (omega arith))
-        (ap (λ (i : ℕ). getD (events (members-process ms j vs (join j p q) f)) i nothing) (omega arith))
-        (sym (past ∙ seek-past ps (suc d) (rest - member-events m) vs (member-events w) (member-tree w false (suc (suc d)) k2 tail)
-        (member-weighed ps w false (suc (suc d)) k2 tail first2 sized2 (omega arith)) v))))
-    child-found (replicator y par size m) b d k more stop sized few known around vs long kept e rest l =
-        let body = member-token-nodes m false (suc (suc d)) (k + 7) more in
-        let n = member-events m in
-        let v = rest / n in
+        let q = member-process o vs (e + member-events m) in
+        let rest = e + member-events m + member-events o in
+        rw (members-split ms (joint y) vs (join (joint y) p q) rest, append-assoc (events p) (events q) (members-rest ms vs rest))
+        (joined _ refl (group-joins y)
+        (and-parts
+        (member-part m around false (suc d) _ _ (and-l (member-sized m) (member-sized o && members-sized ms) sized)
+        (and-l (member-parameters m around) (member-parameters o around && members-parameters ms around) kepts) vs long e)
+        (and-parts
+        (member-part o around false (suc d) _ _ (and-l (member-sized o) (members-sized ms) sizeds)
+        (and-l (member-parameters o around) (members-parameters ms around) kepts2) vs long _)
+        (members-parts ms around (suc d) _ more (and-r (member-sized o) (members-sized ms) sizeds)
+        (and-r (member-parameters o around) (members-parameters ms around) kepts2) vs long _))))
+    child-part (replicator y par size m) around b d i more sized kept vs long e =
         let sizes = and-l (leb 1 size && leb size 16) (member-sized m) sized in
         let sized1 = and-r (leb 1 size && leb size 16) (member-sized m) sized in
-        let kept1 = and-r (surrounded around && new par around) (member-parameters m (around ++ (par ∷ []))) kept in
-        let some : 1 ≤ size = leb-true 1 size (and-l (leb 1 size) (leb size 16) sizes) in
-        let less : n ≤ size * n = copies-more size n some in
-        let one : 1 ≤ n = member-some m sized1 in
-        let longer : length (around ++ (par ∷ [])) ≡ length (vs ++ (v ∷ [])) = simp length-append (omega arith) in
-        let room : length vs < 3 = omega (arith, member-surrounded m (around ++ (par ∷ [])) kept1, length-append around (par ∷ [])) in
-        let weighed : first-weight (map (token-search-node ps) body) ≡ n = member-weighed ps m false (suc (suc d)) (k + 7) more (omega arith) sized1 (omega arith) in
-        let copy : ℕ → Process = λ x. member-process m (vs ++ (x ∷ [])) (e + x * n) in
-        let in-it = seek-copy ps (copy-node k (suc d) (replicator-code y) par size b) body d rest vs _ refl
-        (child-weighed ps (replicator y par size m) b (suc d) k more stop sized few) l (replicator-joins ps y par size b (suc d) k) some (omega arith) room in
-        moved
-        (member-found m false (suc d) (k + 7) more (omega arith) sized1 (omega arith) (known .1) (around ++ (par ∷ [])) (vs ++ (v ∷ [])) longer kept1
-        (e + v * n) (rest % n) (mod-lt rest one))
-        (sym (copies-at (joint y) copy n (λ x. member-count (vs ++ (x ∷ [])) (e + x * n) m sized1) nothing (size - 1) v (rest % n)
-        (omega (arith, div-lt-iff-lt-mul {x = rest} {y = size} one .1 l)) (mod-lt rest one))
-        ∙ ap (λ (i : ℕ). getD (events (copies (joint y) copy (size - 1))) i nothing) (div-add-mod' rest n))
-        (sym (in-it ∙ ap (λ (x : ℕ). sought ps body (search (suc d) (rest % x) (vs ++ ((rest / x) ∷ [])))) weighed))
+        let inside = around ++ (par ∷ []) in
+        let kept1 = and-r (surrounded around && new par around) (member-parameters m inside) kept in
+        let longer = length-append around (par ∷ []) in
+        copied _ refl (replicator-joins y size) (leb-true 1 size (and-l (leb 1 size) (leb size 16) sizes))
+        (omega (arith, member-surrounded m inside kept1)) (joint y) (λ v. member-process m (vs ++ (v ∷ [])) (e + v * member-events m)) (member-events m)
+        (λ v. member-count m sized1 (vs ++ (v ∷ [])) (e + v * member-events m)) (member-some m sized1)
+        (λ v. member-part m inside false (suc d) _ more sized1 kept1 (vs ++ (v ∷ [])) (omega (arith, length-append vs (v ∷ []))) _)
 
-    loop-found : (m : Member) (b : Bool) (d k : ℕ) (more : List TokenNode) → first-depth more ≤ suc d → member-sized m ≡ true → loop-events m < 1024
-        → Known (member-token-nodes m false (suc (suc d)) (k + 2) more) → (around : List Name) (vs : List ℕ) → length around ≡ length vs → member-parameters m around ≡ true
-        → (e rest : ℕ) → rest < loop-events m
-        → At (loop-process m vs e) rest (sought ps (simple k (suc d) 15 [] b ∷ member-token-nodes m false (suc (suc d)) (k + 2) more) (search d rest vs))
-    loop-found (leaf n) b d k more stop sized few known around vs long kept e rest l =
-        let in-it = seek-body ps (simple k (suc d) 15 [] b) (simple (k + 2) (suc (suc d)) 8 n false ∷ more) d rest vs 1 refl
-        (child-weighed ps (loop (leaf n)) b (suc d) k more stop sized few) l refl l refl in
-        moved (record { mark = refl; its-values = refl; named = known .0 refl }) (one-event (leaf-copy n vs) rest l)
-        (sym (in-it ∙ seek-leaf ps (simple (k + 2) (suc (suc d)) 8 n false) more (suc d) rest vs 1 refl
-        (member-weighed ps (leaf n) false (suc (suc d)) (k + 2) more (omega arith) sized few) l refl))
-    loop-found (inner f) b d k more stop sized few known around vs long kept e rest l =
-        let body = flow-token-nodes f false (suc (suc d)) (k + 2) more in
-        let p = flow-process f vs e in
-        let weighed = flow-weighed ps f false (suc (suc d)) (k + 2) more (omega arith) sized (omega arith) in
-        let whole = child-weighed ps (loop (inner f)) b (suc d) k more stop sized few in
-        let count = flow-count vs e f sized in
-        part-or-past rest (flow-events f)
-        (λ m. moved (flow-found f false (suc d) (k + 2) more (omega arith) sized (omega arith) known around vs long kept e rest m)
-        (sym (List·getD-append (events p) (reset-of f vs ∷ []) nothing rest (omega arith)))
-        (sym (seek-body ps (simple k (suc d) 15 [] b) body d rest vs _ refl whole l refl (omega arith) refl)))
-        (λ m. moved (reset-named f (suc (suc d)) (k + 2) more known vs)
-        (sym (getD-append-seam (events p) (reset-of f vs) [] nothing) ∙ ap (λ (i : ℕ). getD (events p ++ (reset-of f vs ∷ [])) i nothing) (omega arith))
-        (sym (seek-reset ps (simple k (suc d) 15 [] b) body d rest vs _ refl whole l refl (omega arith))))
+    member-part : (m : Member) (around : List Name) (b : Bool) (d i : ℕ) (more : List TextNode) → member-sized m ≡ true → member-parameters m around ≡ true
+        → (vs : List ℕ) → length around ≡ length vs → (e : ℕ)
+        → Part d vs (events (member-process m vs e)) (member-tree-nodes own m around b (suc d) i more) more
+    member-part (leaf n) around b d i more sized kept vs long e = leaf-part d vs _ more refl refl
+    member-part (inner f) around b d i more sized kept vs long e = flow-part f around b d i more sized kept vs long e
 
-    member-found : (m : Member) (b : Bool) (d k : ℕ) (more : List TokenNode) → first-depth more ≤ suc d → member-sized m ≡ true → member-events m < 1024
-        → Known (member-token-nodes m b (suc d) k more) → (around : List Name) (vs : List ℕ) → length around ≡ length vs → member-parameters m around ≡ true
-        → (e rest : ℕ) → rest < member-events m → At (member-process m vs e) rest (sought ps (member-token-nodes m b (suc d) k more) (search d rest vs))
-    member-found (leaf n) b d k more stop sized few known around vs long kept e rest l =
-        moved (record { mark = refl; its-values = refl; named = known .0 refl }) (one-event (leaf-copy n vs) rest l)
-        (sym (seek-leaf ps (simple k (suc d) 8 n b) more d rest vs 1 refl (member-weighed ps (leaf n) b (suc d) k more stop sized few) l refl))
-    member-found (inner f) b d k more stop sized few known around vs long kept e rest l = flow-found f b d k more stop sized few known around vs long kept e rest l
+    members-parts : (ms : Members) (around : List Name) (d i : ℕ) (more : List TextNode) → members-sized ms ≡ true → members-parameters ms around ≡ true
+        → (vs : List ℕ) → length around ≡ length vs → (e : ℕ) → Parts d vs (members-rest ms vs e) (members-tree-nodes own ms around (suc d) i more) more
+    members-parts end around d i more sized kept vs long e = no-parts d vs more
+    members-parts (also m ms) around d i more sized kept vs long e =
+        and-parts
+        (member-part m around false d i _ (and-l (member-sized m) (members-sized ms) sized)
+        (and-l (member-parameters m around) (members-parameters ms around) kept) vs long e)
+        (members-parts ms around d _ more (and-r (member-sized m) (members-sized ms) sized)
+        (and-r (member-parameters m around) (members-parameters ms around) kept) vs long _)
 
-    members-found : (ms : Members) (j : Joint) (d k : ℕ) (more : List TokenNode) → first-depth more ≤ d → members-sized ms ≡ true → members-events ms < 1024
-        → Known (members-token-nodes ms (suc d) k more) → (around : List Name) (vs : List ℕ) → length around ≡ length vs → members-parameters ms around ≡ true
-        → (p : Process) (e rest : ℕ) → rest < members-events ms
-        → At (members-process ms j vs p e) (length (events p) + rest) (sought ps (members-token-nodes ms (suc d) k more) (search d rest vs))
-    members-found end j d k more stop sized few known around vs long kept p e rest l = let z : ⊥ = omega arith in absurd z
-    members-found (also m ms) j d k more stop sized few known around vs long kept p e rest l =
-        let k2 = k + length (member-tokens m []) in
-        let tail = members-token-nodes ms (suc d) k2 more in
-        let q = member-process m vs e in
-        let sized1 = and-l (member-sized m) (members-sized ms) sized in
-        let first = members-first ms (suc d) k2 more (omega arith) in
-        let count = member-count vs e m sized1 in
-        let both = join-count j p q nothing in
-        part-or-past rest (member-events m)
-        (λ u. moved
-        (member-found m false d k tail first sized1 (omega arith) known around vs long (and-l (member-parameters m around) (members-parameters ms around) kept) e rest u)
-        (sym (members-begin ms j vs (join j p q) (e + member-events m) (length (events p) + rest) nothing (omega arith) ∙ join-second j p q nothing rest)) refl)
-        (λ u. moved
-        (members-found ms j d k2 more stop (and-r (member-sized m) (members-sized ms) sized) (omega arith)
-        (known-more (tree-deep (member-tree m false (suc d) k tail)) known) around vs long (and-r (member-parameters m around) (members-parameters ms around) kept)
-        (join j p q) (e + member-events m) (rest - member-events m) (omega arith))
-        (ap (λ (i : ℕ). getD (events (members-process ms j vs (join j p q) (e + member-events m))) i nothing) (omega arith))
-        (sym (seek-past ps d rest vs (member-events m) (member-tree m false (suc d) k tail) (member-weighed ps m false (suc d) k tail first sized1 (omega arith)) u)))
+  -- The events of a whole diagram.
+  pub event-found : (d : Flow) → flow-sized d ≡ true → flow-parameters d [] ≡ true → flow-events d < 1024 → Known (nodes-by own d) → (e : ℕ) → e < flow-events d
+      → Labels ok (getD (events (expand d)) e nothing) (sought at (nodes-by own d) (search 0 e []))
+  unfolding Found
+  event-found d sized kept few known e l =
+      let count = events-counted d sized in
+      flow-part d [] false 0 0 [] sized kept [] refl 0 .found known (omega arith) (omega arith) e (omega arith)

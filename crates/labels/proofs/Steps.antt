@@ -16,7 +16,8 @@ module _ (r q : SearchNode) (s : Search) where
   unfolding turn
   turn-other h = rw (ne-eqb (r .depth) (suc (s .above)) h)
 
-  pub turn-past : r .depth ≡ suc (s .above) → r .weight ≤ s .rest → turn r q s ≡ Go (record { above = s .above; rest = s .rest - r .weight; values = s .values })
+  pub turn-past : r .depth ≡ suc (s .above) → r .weight ≤ s .rest
+      → turn r q s ≡ Go (record { above = s .above; rest = s .rest - r .weight; values = s .values })
   unfolding turn
   turn-past h l = rw (eq-eqb (r .depth) (suc (s .above)) h, le-leb (r .weight) (s .rest) l)
 

@@ -8,7 +8,7 @@ use lib.ListN.{length, take, drop, getD}
 use borrow.Author.Tests.{le-leb, lt-leb}
 use Rattle.base.proofs.Truth.{is-false}
 use Rattle.tokens.specs.Classes.{between, class-of}
-use Rattle.tokens.specs.Words.{blanks, code}
+use Rattle.tokens.specs.Words.{blanks}
 use Rattle.tokens.specs.Spans.{Span, width, spans-of}
 use Rattle.tokens.specs.Rest.{rest}
 use Rattle.tokens.specs.Scanned.{foreign-in, first-foreign, first-long}

@@ -1,4 +1,4 @@
-pub mod Ways
+mod Ways
 mod Rows
 mod Along
 pub mod Positions

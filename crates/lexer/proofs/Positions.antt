@@ -13,11 +13,11 @@ use Rattle.tokens.specs.Classes.{between, class-of, worded, blank}
 use Rattle.tokens.specs.Words.{front, blanks, word-code, code}
 use Rattle.tokens.specs.Spans.{width}
 use Rattle.tokens.specs.Rest.{rest, Next}
-use Rattle.tokens.specs.declared.Token.{Token}
+use Rattle.tokens.specs.declared.Lexeme.{Lexeme}
 use Rattle.tokens.proofs.Front.{front-le, front-more}
 use Rattle.tokens.proofs.Between.{between-in, between-low, in-range, class-small}
 use Rattle.tokens.proofs.Steps.{rest-end, rest-skip, rest-token}
-use Rattle.tokens.proofs.WordCodes.{first-byte, word-code-high}
+use Rattle.tokens.proofs.WordCodes.{part-length, first-byte, word-code-high}
 use Rattle.lexer.proofs.Ways.{a-sign, a-word, ends-word, ends-sign, end-after}
 
 module _ (text : List ℕ) (at i : ℕ) (I : i ≡ at + blanks (drop at text)) where
@@ -31,6 +31,7 @@ module _ (text : List ℕ) (at i : ℕ) (I : i ≡ at + blanks (drop at text)) w
         after = rw y z;
         within = omega arith;
         ended = λ l. y;
+        long = λ f. absurd (f refl);
         onward = λ f. absurd (f refl);
       }
 
@@ -38,6 +39,7 @@ module _ (text : List ℕ) (at i : ℕ) (I : i ≡ at + blanks (drop at text)) w
       → Next text at (record { code = c; start = i; end = e })
   a-token e c h E C =
       let s = rest-skip text at i I in
+      let a = end-after text i e h E in
       let y : rest text at ≡ record { place = i; bytes = take (e - i) (drop i text) } ∷ rest text e = s .1 ∙ rest-token text i e h (s .0) E in
       record {
         coded = rw y C;
@@ -45,7 +47,8 @@ module _ (text : List ℕ) (at i : ℕ) (I : i ≡ at + blanks (drop at text)) w
         after = rw y;
         within = omega arith;
         ended = λ l. absurd (omega arith);
-        onward = λ f. let a = end-after text i e h E in (omega arith, a .1);
+        long = λ f. rw (y, part-length text i e (a .1)) (omega arith);
+        onward = λ f. (omega arith, a .1);
       }
 
 -- A byte at which no word stands is its own token; where one stands, its first byte has a word's class.
@@ -96,10 +99,10 @@ module _ (text : List ℕ) (at i : ℕ) (I : i ≡ at + blanks (drop at text)) (
       (E ∙ sym q, omega arith, omega (arith, front-end))
 
   -- Another class: another token.
-  pub other-token : (s : ℕ) → 0 < s → s < 5 → (c ≡ s → ⊥) → (t : Token) × (Next text at t × (t .start ≡ i) × (t .code ≡ s → ⊥))
+  pub other-token : (s : ℕ) → 0 < s → s < 5 → (c ≡ s → ⊥) → (t : Lexeme) × (Next text at t × (t .start ≡ i) × (t .code ≡ s → ⊥))
   other-token s z l f = by (front worded (drop i text)) refl
     where
-      by : (n : ℕ) → front worded (drop i text) ≡ n → (t : Token) × (Next text at t × (t .start ≡ i) × (t .code ≡ s → ⊥))
+      by : (n : ℕ) → front worded (drop i text) ≡ n → (t : Lexeme) × (Next text at t × (t .start ≡ i) × (t .code ≡ s → ⊥))
       by zero e = (record { code = c; start = i; end = i + 1 }, (sign-token (i + front worded (drop i text)) refl (omega arith), refl, f))
       by (suc n) e =
           let w = take (i + suc n - i) (drop i text) in

@@ -50,7 +50,8 @@ other-size text t a n row m l s r z M f =
     f (omega (arith, q, length-take n (drop a text), length-drop a text, length-take m (drop (row + 1) t), length-drop (row + 1) t))))
 
 -- The same number of letters, and the same letters.
-pub same-size : (t : List ℕ) (v : Name) (n row m : ℕ) {b : Bool} → m ≡ getD t row 0 → m ≡ n → b ≡ same v (take n (drop (row + 1) t)) → b ≡ same v (word-in t row)
+pub same-size : (t : List ℕ) (v : Name) (n row m : ℕ) {b : Bool} → m ≡ getD t row 0 → m ≡ n → b ≡ same v (take n (drop (row + 1) t))
+    → b ≡ same v (word-in t row)
 same-size t v n row m M e q = rw (← M, e) q
 
 -- What is left to look at: the rows from `row` on, the first of which has the number c.

@@ -3,14 +3,14 @@ ghost use mathlib.Core.Bool.{cond};
 ghost use Prim.Native.Nat.{_+_, _-_, _≤_, _<_};
 ghost use lib.ListN.{getD, length, take, drop};
 ghost use Rattle.diagram.specs.Names.{same as alike};
-ghost use Rattle.tokens.specs.Classes.{between, class-of, within, worded as worded-byte};
+ghost use Rattle.tokens.specs.Classes.{between, class-of, within, worded as worded-byte, unbroken};
 ghost use Rattle.tokens.specs.Words.{front, blanks, word-at, keyword-in, numeral as numeral-of, word-code};
 ghost use Rattle.tokens.specs.Parts.{Word};
 ghost use Rattle.tokens.specs.Spans.{width, spans-of};
 ghost use Rattle.tokens.specs.Rest.{Next};
 ghost use Rattle.tokens.specs.Scanned.{first-foreign, first-long};
 ghost use Rattle.lexer.specs.Lexicon.{Lexicon, word-in, words-in};
-use tokens::Token;
+use tokens::Lexeme;
 
 // The class of each byte: 0 foreign, 1 to 4 the signs ( ) , : in this order, 5 letter, 6 digit, 7 underscore, 8 blank. Then, from 256 on, a row of 16
 // numbers for each keyword: how many letters it has, and its letters.
@@ -458,6 +458,14 @@ pub fn gap(text: &[u8], at: usize, lexicon: &[u8; 400]) -> usize
     past(text, at, 8, 8, lexicon)
 }
 
+// The end of the tokens that stand side by side from `at` on: where the next gap starts, or the text ends.
+pub fn run_end(text: &[u8], at: usize, lexicon: &[u8; 400]) -> usize
+    requires { ⌜ Lexicon (now lexicon) ⌝ }
+    ensures { λ r. ⌜ r ≡ at + front unbroken (drop at (now (text .entry))) ⌝ }
+{
+    past(text, at, 0, 7, lexicon)
+}
+
 // Whether the n bytes from `a` on are the word of a row.
 fn row_is(text: &[u8], a: usize, n: usize, lexicon: &[u8; 400], row: usize) -> bool
     requires { ⌜ (a + n ≤ length (now text)) × (n < 15) × (row + 16 ≤ 400) × (length (now lexicon) ≡ 400) ⌝ }
@@ -549,13 +557,13 @@ fn number(text: &[u8], a: usize, e: usize, c: u8, lexicon: &[u8; 400]) -> u8
 }
 
 // The token at a place or after it. Number 0 is none: the text's end, or a foreign byte.
-pub fn next(text: &[u8], at: usize, lexicon: &[u8; 400]) -> Token
+pub fn next(text: &[u8], at: usize, lexicon: &[u8; 400]) -> Lexeme
     requires { ⌜ Lexicon (now lexicon) ⌝ }
     ensures { λ r. ⌜ Next (now (text .entry)) at r ⌝ }
 {
     let start = gap(text, at, lexicon);
     if text.len() <= start {
-        return Token {
+        return Lexeme {
             code: 0,
             start: text.len(),
             end: start,
@@ -563,7 +571,7 @@ pub fn next(text: &[u8], at: usize, lexicon: &[u8; 400]) -> Token
     }
     let c = class(text[start], lexicon);
     if c < 5 {
-        return Token {
+        return Lexeme {
             code: c,
             start: start,
             end: start + 1,
@@ -571,7 +579,7 @@ pub fn next(text: &[u8], at: usize, lexicon: &[u8; 400]) -> Token
     }
     let end = past(text, start + 1, 5, 7, lexicon);
     let code = number(text, start, end, c, lexicon);
-    Token {
+    Lexeme {
         code: code,
         start: start,
         end: end,
@@ -579,7 +587,7 @@ pub fn next(text: &[u8], at: usize, lexicon: &[u8; 400]) -> Token
 }
 
 // The end of the token that starts at `at`: of a word, or past the one byte.
-pub fn token_end(text: &[u8], at: usize, lexicon: &[u8; 400]) -> usize
+fn token_end(text: &[u8], at: usize, lexicon: &[u8; 400]) -> usize
     requires { ⌜ (at < length (now text)) × Lexicon (now lexicon) ⌝ }
     ensures { λ r. ⌜ r ≡ at + width (drop at (now (text .entry))) ⌝ }
 {
@@ -595,14 +603,14 @@ pub fn foreign(text: &[u8], lexicon: &[u8; 400]) -> usize
     requires { ⌜ Lexicon (now lexicon) ⌝ }
     ensures { λ r. ⌜ r ≡ first-foreign (now (text .entry)) ⌝ }
 {
-    let mut at = gap(text, 0, lexicon);
-    while at < text.len() {
-        let c = class(text[at], lexicon);
+    let mut place = gap(text, 0, lexicon);
+    while place < text.len() {
+        let c = class(text[place], lexicon);
         if c == 0 {
-            return at;
+            return place;
         }
-        let e = token_end(text, at, lexicon);
-        at = gap(text, e, lexicon);
+        let e = token_end(text, place, lexicon);
+        place = gap(text, e, lexicon);
     }
     text.len()
 }
@@ -666,7 +674,7 @@ fn word_end(text: &[u8], at: usize) -> usize
 }
 
 // The first byte of the word that starts at `at`; 0, which no word has, where none starts.
-pub fn letter(text: &[u8], at: usize) -> u8
+fn letter(text: &[u8], at: usize) -> u8
     ensures { λ r. ⌜ r ≡ getD (word-at (now (text .entry)) at) 0 0 ⌝ }
 {
     let b = base::byte(text, at);

@@ -5,7 +5,7 @@ use mathlib.Core.List.{List, [], _∷_, map}
 use Prim.Native.Nat.{ℕ, zero, suc, _≤_, _<_}
 use native.Mathlib.Omega.{arith}
 use lib.ListN.{length, getD, take, drop}
-use Rattle.diagram.specs.TreeNodes.{TreeNode, has-name}
+use Rattle.diagram.specs.TreeNodes.{ShownNode, has-name}
 use Rattle.diagram.specs.declared.Node.{Node}
 use Rattle.diagram.specs.declared.Diagram.{Diagram}
 use Rattle.tokens.specs.Words.{word-at}
@@ -17,30 +17,30 @@ use Rattle.expansion.proofs.ShownColumns.{shown-kind, shown-size, shown-depth, 
 use Rattle.lines.specs.code.Walks.{Columns, walk-columns}
 
 -- The columns hold these nodes: from node i on, what the first of them is; a name stands in the text.
-pub record Shown (text : List ℕ) (c : Columns) (vs : List TreeNode) : Type 0 where
+pub record Shown (text : List ℕ) (c : Columns) (vs : List ShownNode) : Type 0 where
   pub few : length vs ≤ 256
   pub kind-at : (i : ℕ) → getD (c .kinds) i 0 ≡ first shown-kind (drop i vs)
   pub size-at : (i : ℕ) → getD (c .sizes) i 0 ≡ first shown-size (drop i vs)
   pub depth-at : (i : ℕ) → getD (c .depths) i 0 ≡ first shown-depth (drop i vs)
-  pub name-at : (i : ℕ) (v : TreeNode) (rest : List TreeNode) → drop i vs ≡ v ∷ rest → has-name (v .kind) ≡ true → word-at text (getD (c .names) i 0) ≡ v .name
+  pub name-at : (i : ℕ) (v : ShownNode) (rest : List ShownNode) → drop i vs ≡ v ∷ rest → has-name (v .kind) ≡ true → word-at text (getD (c .names) i 0) ≡ v .name
 
 -- The name of a node, by the node of the diagram that shows it.
 abbrev node-name : Node → ℕ
 node-name n = n .name
 
-name-read : (text : List ℕ) (ns : List Node) (i : ℕ) (v : TreeNode) (rest : List TreeNode) → drop i (map (shown-node text) ns) ≡ v ∷ rest → has-name (v .kind) ≡ true
+name-read : (text : List ℕ) (ns : List Node) (i : ℕ) (v : ShownNode) (rest : List ShownNode) → drop i (map (shown-node text) ns) ≡ v ∷ rest → has-name (v .kind) ≡ true
     → word-at text (getD (map node-name ns) i 0) ≡ v .name
 unfolding shown-node
 name-read text [] zero v rest h t = let l = ap length h in let z : ⊥ = omega arith in absurd z
 name-read text [] (suc i) v rest h t = let l = ap length h in let z : ⊥ = omega arith in absurd z
 name-read text (n ∷ ns) zero v rest h t =
-    let e : shown-node text n ≡ v = ap (λ (l : List TreeNode). getD l 0 v) h in
-    let k : has-name (n .kind) ≡ true = ap (λ (x : TreeNode). has-name (x .kind)) e ∙ t in
+    let e : shown-node text n ≡ v = ap (λ (l : List ShownNode). getD l 0 v) h in
+    let k : has-name (n .kind) ≡ true = ap (λ (x : ShownNode). has-name (x .kind)) e ∙ t in
     let w : word-at text (n .name) ≡ shown-node text n .name = rw k in
-    w ∙ ap (λ (x : TreeNode). x .name) e
+    w ∙ ap (λ (x : ShownNode). x .name) e
 name-read text (n ∷ ns) (suc i) v rest h t = name-read text ns i v rest h t
 
-pub diagram-shown : (text : List ℕ) (g : Diagram) (vs : List TreeNode) → shown-nodes text g ≡ vs → length vs ≤ 256 → Shown text (walk-columns (nodes-of g)) vs
+pub diagram-shown : (text : List ℕ) (g : Diagram) (vs : List ShownNode) → shown-nodes text g ≡ vs → length vs ≤ 256 → Shown text (walk-columns (nodes-of g)) vs
 unfolding nodes-of shown-nodes
 diagram-shown text g vs h few =
     let c = columns-shown text g vs h in
@@ -61,7 +61,7 @@ pub record Here (c : Columns) (i kind size depth : ℕ) : Type 0 where
   pub size-is : getD (c .sizes) i 0 ≡ size
   pub depth-is : getD (c .depths) i 0 ≡ depth
 
-pub here : {text : List ℕ} {c : Columns} {vs : List TreeNode} → Shown text c vs → (i : ℕ) (v : TreeNode) (rest : List TreeNode) → drop i vs ≡ v ∷ rest
+pub here : {text : List ℕ} {c : Columns} {vs : List ShownNode} → Shown text c vs → (i : ℕ) (v : ShownNode) (rest : List ShownNode) → drop i vs ≡ v ∷ rest
     → Here c i (shown-kind v) (shown-size v) (shown-depth v)
 here {vs = vs} s i v rest h =
     let l = node-inside vs rest i v h in

@@ -10,8 +10,8 @@ use Rattle.base.specs.Text.{bytes}
 use Rattle.base.proofs.Truth.{by-cases, clash}
 use Rattle.diagram.specs.Tree.{Flow}
 use Rattle.diagram.specs.Count.{flow-events}
-use Rattle.diagram.specs.TreeNodes.{flow-tree-nodes}
-use Rattle.diagram.specs.Replicators.{replicates, some-replicates}
+use Rattle.diagram.specs.TreeNodes.{shown, copying, nodes-by}
+use Rattle.diagram.specs.Replicators.{some-replicates}
 use Rattle.diagram.specs.declared.Diagram.{Diagram}
 use Rattle.diagram.specs.declared.Node.{Node}
 use Rattle.reading.specs.Shows.{shown-node, shown-nodes, Shows}
@@ -32,10 +32,10 @@ use Rattle.machines.specs.code.Drawn.{Drawn}
 copies-shown : (text : List ℕ) (ns : List Node) → some-copies ns ≡ some-replicates (map (shown-node text) ns)
 unfolding some-copies some-replicates shown-node
 copies-shown text [] = refl
-copies-shown text (n ∷ ns) = ap (λ (b : Bool). replicates (n .kind) || b) (copies-shown text ns)
+copies-shown text (n ∷ ns) = ap (λ (b : Bool). copying (n .kind) || b) (copies-shown text ns)
 
 module _ (text : List ℕ) (d : Flow) (g : Diagram) (s : Shows text d g) where
-  replicators-shown : some-replicates (flow-tree-nodes d false 1 []) ≡ some-copies (take (g .count) (g .nodes))
+  replicators-shown : some-replicates (nodes-by shown d) ≡ some-copies (take (g .count) (g .nodes))
   unfolding shown-nodes
   replicators-shown = sym (copies-shown text (take (g .count) (g .nodes)) ∙ ap some-replicates (s .nodes))
 

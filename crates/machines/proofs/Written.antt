@@ -8,7 +8,7 @@ use lib.ListN.{length, getD, take}
 use Rattle.base.specs.Text.{bytes}
 use Rattle.diagram.specs.Tree.{Name, Flow, flow}
 use Rattle.diagram.specs.Count.{flow-events}
-use Rattle.diagram.specs.TreeNodes.{TreeNode, tree-node, flow-tree-nodes}
+use Rattle.diagram.specs.TreeNodes.{ShownNode, shown-as, shown, nodes-by, flow-tree-nodes}
 use Rattle.diagram.specs.declared.Kind.the-variants.{Flow as FlowNode}
 use Rattle.diagram.specs.declared.Node.{Node}
 use Rattle.diagram.specs.declared.Diagram.{Diagram}
@@ -92,17 +92,17 @@ module _ (text : List ℕ) (g : Diagram) (k : Drawn text g) (v : Variables) (w :
         (all-lines e (guard-lines (spelled text v) 1 (conditions p e)) (action-lines (spelled text v) 1 (actions p (flow-events (k .tree)) e)) ∙ its-text e l)
 
   -- The root is the first node.
-  first-named : (ns : List Node) (count : ℕ) (z : Node) (b sw : Bool) (depth : ℕ) (n : Name) (more : List TreeNode)
-      → map (shown-node text) (take count ns) ≡ tree-node FlowNode b sw depth n ∷ more → word-at text (getD ns 0 z .name) ≡ n
+  first-named : (ns : List Node) (count : ℕ) (z : Node) (b sw : Bool) (depth : ℕ) (n : Name) (more : List ShownNode)
+      → map (shown-node text) (take count ns) ≡ shown-as FlowNode b sw depth n ∷ more → word-at text (getD ns 0 z .name) ≡ n
   unfolding shown-node
   first-named [] zero z b sw depth n more h = absurd (cons≢nil (sym h))
   first-named [] (suc count) z b sw depth n more h = absurd (cons≢nil (sym h))
   first-named (x ∷ ns) zero z b sw depth n more h = absurd (cons≢nil (sym h))
   first-named (x ∷ ns) (suc count) z b sw depth n more h =
       let q = head-eq-of-cons-eq h in
-      rw (ap (λ (t : TreeNode). t .kind) q) at (ap (λ (t : TreeNode). t .name) q)
+      rw (ap (λ (t : ShownNode). t .kind) q) at (ap (λ (t : ShownNode). t .name) q)
 
-  root-name : (z : Node) (d : Flow) → shown-nodes text g ≡ flow-tree-nodes d false 1 [] → word-at text (getD (g .nodes) 0 z .name) ≡ flow-name d
+  root-name : (z : Node) (d : Flow) → shown-nodes text g ≡ nodes-by shown d → word-at text (getD (g .nodes) 0 z .name) ≡ flow-name d
   unfolding shown-nodes flow-tree-nodes
   root-name z (flow n ps sw c r cs) h = first-named (g .nodes) (g .count) z false sw 1 n _ h
 

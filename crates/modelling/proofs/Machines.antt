@@ -9,7 +9,8 @@ use Rattle.base.proofs.Truth.{and-l, and-r}
 use Rattle.diagram.specs.Tree.{Flow, flow}
 use Rattle.diagram.specs.Count.{flow-events}
 use Rattle.tokens.specs.Classes.{worded}
-use Rattle.tokens.specs.Words.{lettered, every, short, named}
+use Rattle.tokens.specs.Words.{keywords, lettered, every, short}
+use Rattle.tokens.specs.Token.{named}
 use Rattle.grammar.specs.Named.{all-named, flow-named}
 use Rattle.reading.specs.Accepted.{Accepted}
 use Rattle.process.specs.Expand.{expand, flow-name}
@@ -27,10 +28,10 @@ use Rattle.modelling.proofs.Names.{short-names, proper-names}
 use Rattle.modelling.proofs.Guarded.{guards-right}
 
 -- The root's name is short.
-root-named : (d : Flow) → flow-named d ≡ true → length (flow-name d) ≤ 24
+root-named : (d : Flow) → flow-named keywords d ≡ true → length (flow-name d) ≤ 24
 unfolding flow-named named
 root-named (flow n ps sw c r cs) h =
-    let k = and-l (named n) (all-named ps) (and-l (named n && all-named ps) _ h) in
+    let k = and-l (named keywords n) (all-named keywords ps) (and-l (named keywords n && all-named keywords ps) _ h) in
     leb-true (length n) 24 (and-l (short n) _ (and-r (lettered n && every worded n) _ k))
 
 module _ (text : List ℕ) (d : Flow) (a : Accepted text d) (p : in-profile d ≡ true) where

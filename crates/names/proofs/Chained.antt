@@ -12,12 +12,12 @@ use Rattle.base.proofs.Truth.{and-l, and-r, and-i, is-false, by-cases, clash}
 use Rattle.diagram.specs.Tree.{Name}
 use Rattle.diagram.specs.Names.{same}
 use Rattle.tokens.specs.Words.{word-at}
-use Rattle.names.specs.code.Marks.{mark-on, mark-of, titled-at, name-at, unused-at, latest, Linked}
+use Rattle.names.specs.code.Marks.{mark-of, titled-at, title-at, unused-at, latest, Linked}
 
 module _ (text rows : List ℕ) (s : ℕ) where
   -- The node u is a leaf or a flow whose name has the mark s.
   abbrev marked : ℕ → Bool
-  marked u = titled-at rows u && eqb (mark-of (name-at text rows u)) s
+  marked u = titled-at rows u && eqb (mark-of (title-at text rows u)) s
 
   pub latest-within : (u : ℕ) → latest text rows s u ≤ u
   unfolding latest
@@ -38,12 +38,12 @@ module _ (text rows : List ℕ) (s : ℕ) where
 
 module _ (text rows : List ℕ) (m : Name) where
   -- A node that is not marked as the name is does not have it.
-  other : (u : ℕ) → marked text rows (mark-of m) u ≡ false → (titled-at rows u && same m (name-at text rows u)) ≡ false
+  other : (u : ℕ) → marked text rows (mark-of m) u ≡ false → (titled-at rows u && same m (title-at text rows u)) ≡ false
   other u e =
-      is-false (titled-at rows u && same m (name-at text rows u)) (λ q.
-      clash (and-i (and-l (titled-at rows u) (same m (name-at text rows u)) q)
-      (eq-eqb (mark-of (name-at text rows u)) (mark-of m)
-      (ap (mark-on 7) (sym (same-decides m (name-at text rows u) .0 (and-r (titled-at rows u) (same m (name-at text rows u)) q)))))) e)
+      is-false (titled-at rows u && same m (title-at text rows u)) (λ q.
+      clash (and-i (and-l (titled-at rows u) (same m (title-at text rows u)) q)
+      (eq-eqb (mark-of (title-at text rows u)) (mark-of m)
+      (ap mark-of (sym (same-decides m (title-at text rows u) .0 (and-r (titled-at rows u) (same m (title-at text rows u)) q)))))) e)
 
   unused-latest : (u : ℕ) → unused-at text rows m u ≡ unused-at text rows m (latest text rows (mark-of m) u)
   unfolding unused-at latest
@@ -53,7 +53,7 @@ module _ (text rows : List ℕ) (m : Name) where
       by-cases (marked text rows (mark-of m) u) (λ b. rw b) (λ b. rw (b, other u b) r)
 
   unused-cons : (j : ℕ) → 0 < j
-      → unused-at text rows m j ≡ (not (titled-at rows (j - 1) && same m (name-at text rows (j - 1))) && unused-at text rows m (j - 1))
+      → unused-at text rows m j ≡ (not (titled-at rows (j - 1) && same m (title-at text rows (j - 1))) && unused-at text rows m (j - 1))
   unfolding unused-at
   unused-cons zero h = let z : ⊥ = omega arith in absurd z
   unused-cons (suc j) h = let e : suc j - 1 ≡ j = omega arith in rw e
@@ -78,7 +78,7 @@ module _ {text rows : List ℕ} {m : Name} {i j : ℕ} (s : Chain text rows m i 
     its = latest-marked text rows (mark-of m) (s .upto) (j - 1) (sym (s .is) ∙ omega arith)
 
     titled : titled-at rows (j - 1) ≡ true
-    titled = and-l (titled-at rows (j - 1)) (eqb (mark-of (name-at text rows (j - 1))) (mark-of m)) (its .0)
+    titled = and-l (titled-at rows (j - 1)) (eqb (mark-of (title-at text rows (j - 1))) (mark-of m)) (its .0)
 
     pub chain-found : {x : ℕ} {b : Bool} → x ≡ getD rows ((j - 1) * 8 + 10) 0 → b ≡ same m (word-at text x) → b ≡ true → true ≡ not (unused-at text rows m i)
     chain-found q p e = rw (s .left, unused-cons text rows m j h, titled, ← q, ← p, e)
@@ -86,11 +86,11 @@ module _ {text rows : List ℕ} {m : Name} {i j : ℕ} (s : Chain text rows m i 
     pub chain-next : {x : ℕ} {b : Bool} {links : List ℕ} {k : ℕ} → x ≡ getD rows ((j - 1) * 8 + 10) 0 → b ≡ same m (word-at text x) → b ≡ false
         → Linked text rows links i → k ≡ getD links (j - 1) 0 → Chain text rows m i k
     chain-next {x} {b} {links} {k} q p e l n =
-        let mark : mark-of (name-at text rows (j - 1)) ≡ mark-of m =
-        eqb-true (mark-of (name-at text rows (j - 1))) (mark-of m)
-        (and-r (titled-at rows (j - 1)) (eqb (mark-of (name-at text rows (j - 1))) (mark-of m)) (its .0)) in
+        let mark : mark-of (title-at text rows (j - 1)) ≡ mark-of m =
+        eqb-true (mark-of (title-at text rows (j - 1))) (mark-of m)
+        (and-r (titled-at rows (j - 1)) (eqb (mark-of (title-at text rows (j - 1))) (mark-of m)) (its .0)) in
         let z : k ≡ latest text rows (mark-of m) (j - 1) = n ∙ l .each (j - 1) (omega (arith, its .1, s .within)) titled ∙ rw mark in
-        let other : same m (name-at text rows (j - 1)) ≡ false = rw (← q, ← p) e in
+        let other : same m (title-at text rows (j - 1)) ≡ false = rw (← q, ← p) e in
         record {
           upto = j - 1;
           within = omega (arith, its .1, s .within);

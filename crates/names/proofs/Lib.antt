@@ -1,8 +1,12 @@
+pub mod Coded
 pub mod Tables
 pub mod Numbered
 pub mod Searched
 pub mod Stack
 mod Marked
+mod Placed
+mod Agreed
+mod Fronts
 mod Chained
 mod Named
 mod Surrounding

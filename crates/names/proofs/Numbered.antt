@@ -5,10 +5,10 @@ use Prim.Native.Nat.{ℕ, _+_, _≤_, _<_}
 use native.Mathlib.Numerals.{add-one}
 use lib.ListN.{length, drop, drop-of-length-le}
 use lib.Seq.{drop-cons}
-use Rattle.rules.specs.TokenNodes.{TokenNode}
+use Rattle.diagram.specs.TreeNodes.{TextNode}
 use Rattle.names.specs.code.Told.{no-node, node, earlier, last-depth}
 
-module _ (hs : List TokenNode) where
+module _ (hs : List TextNode) where
   pub earlier-none : earlier hs 0 ≡ []
   unfolding earlier
   earlier-none = refl

@@ -6,19 +6,19 @@ use Prim.Native.Nat.{ℕ, _+_, _≤_, _<_}
 use native.Mathlib.Numerals.{add-one}
 use lib.ListN.{length, drop}
 use borrow.Author.Tests.{not-true, not-false}
-use Rattle.rules.specs.TokenNodes.{TokenNode}
+use Rattle.diagram.specs.TreeNodes.{TextNode}
 use Rattle.rules.specs.Kept.{fault}
 use Rattle.names.specs.code.Told.{node, earlier, found}
 use Rattle.names.proofs.Numbered.{earlier-none, earlier-more, from-here, from-past}
 
 -- The nodes before the number i keep the rule.
-pub record Searched (kept : List TokenNode → TokenNode → List TokenNode → Bool) (hs : List TokenNode) (i : ℕ) : Type 0 where
+pub record Searched (kept : List TextNode → TextNode → List TextNode → Bool) (hs : List TextNode) (i : ℕ) : Type 0 where
   pub is : fault kept [] hs ≡ fault kept (earlier hs i) (drop i hs)
 
-pub search-start : (kept : List TokenNode → TokenNode → List TokenNode → Bool) (hs : List TokenNode) → Searched kept hs 0
+pub search-start : (kept : List TextNode → TextNode → List TextNode → Bool) (hs : List TextNode) → Searched kept hs 0
 search-start kept hs = record { is = rw (earlier-none hs) }
 
-module _ {kept : List TokenNode → TokenNode → List TokenNode → Bool} {hs : List TokenNode} {i : ℕ} (s : Searched kept hs i) where
+module _ {kept : List TextNode → TextNode → List TextNode → Bool} {hs : List TextNode} {i : ℕ} (s : Searched kept hs i) where
   pub search-end : length hs ≤ i → fault kept [] hs ≡ found hs 0
   unfolding fault
   search-end h = s .is ∙ rw (from-past hs i h)

@@ -7,15 +7,15 @@ use native.Mathlib.Omega.{arith}
 use lib.Dec.{ltb}
 use borrow.Author.Tests.{ltb-true, ltb-false}
 use Rattle.base.proofs.Truth.{by-cases}
-use Rattle.rules.specs.TokenNodes.{TokenNode}
+use Rattle.diagram.specs.TreeNodes.{TextNode}
 use Rattle.names.specs.code.Told.{node, earlier, last-depth}
 use Rattle.names.proofs.Numbered.{earlier-none, last-none, earlier-more, last-more}
 
 -- F is what is around a node of a depth, S e says it of the depth e: of each at which the node i may be.
-pub record Stacked {A : Type 0} (F : ℕ → List TokenNode → A) (S : ℕ → A → Type 0) (hs : List TokenNode) (i : ℕ) : Type 0 where
+pub record Stacked {A : Type 0} (F : ℕ → List TextNode → A) (S : ℕ → A → Type 0) (hs : List TextNode) (i : ℕ) : Type 0 where
   pub each : (e : ℕ) → 0 < e → e ≤ suc (last-depth hs i) → S e (F e (earlier hs i))
 
-pub stack-start : {A : Type 0} (F : ℕ → List TokenNode → A) (S : ℕ → A → Type 0) (hs : List TokenNode) → S 1 (F 1 []) → Stacked F S hs 0
+pub stack-start : {A : Type 0} (F : ℕ → List TextNode → A) (S : ℕ → A → Type 0) (hs : List TextNode) → S 1 (F 1 []) → Stacked F S hs 0
 stack-start F S hs s =
     record {
       each = λ e low high.
@@ -24,9 +24,9 @@ stack-start F S hs s =
     }
 
 -- A node leaves `grow` of what is around it for those one deeper.
-module _ {A : Type 0} {F : ℕ → List TokenNode → A} (grow : TokenNode → A → A)
-    (more : (e : ℕ) (h : TokenNode) (before : List TokenNode) → F e (h ∷ before) ≡ cond (ltb (h .depth) e) (grow h (F (h .depth) before)) (F e before))
-    {S : ℕ → A → Type 0} {hs : List TokenNode} {i : ℕ} (s : Stacked F S hs i) (high : node hs i .depth ≤ suc (last-depth hs i)) where
+module _ {A : Type 0} {F : ℕ → List TextNode → A} (grow : TextNode → A → A)
+    (more : (e : ℕ) (h : TextNode) (before : List TextNode) → F e (h ∷ before) ≡ cond (ltb (h .depth) e) (grow h (F (h .depth) before)) (F e before))
+    {S : ℕ → A → Type 0} {hs : List TextNode} {i : ℕ} (s : Stacked F S hs i) (high : node hs i .depth ≤ suc (last-depth hs i)) where
   pub stack-next : (T : ℕ → A → Type 0) → ((e : ℕ) (a : A) → 0 < e → e ≤ node hs i .depth → S e a → T e a)
       → T (node hs i .depth + 1) (grow (node hs i) (F (node hs i .depth) (earlier hs i))) → Stacked F T hs (i + 1)
   stack-next T old new =

@@ -1,3 +1,4 @@
+pub mod Kinds
 pub mod Told
 pub mod Marks
 pub mod Pars

@@ -1,7 +1,8 @@
 -- The ways out of printing.
-use mathlib.Core.Path.{_≡_, refl, sym, ap, subst}
+use mathlib.Core.Path.{_≡_, refl, sym, ap, subst, _∙_}
 use mathlib.Core.List.{List}
 use Prim.Native.Nat.{ℕ, _≤_, _<_}
+use native.Mathlib.Omega.{arith}
 use lib.ListN.{length}
 use borrow.Author.Tests.{lt-ltb, le-ltb}
 use Rattle.base.specs.Fill.{fill}
@@ -10,6 +11,7 @@ use Rattle.reading.specs.Answers.{read-of}
 use Rattle.reading.specs.declared.Answer.{Answer}
 use Rattle.reading.specs.declared.Answer.the-variants.{Done, Refused as Unread}
 use Rattle.reading.specs.declared.ReadResult.{ReadResult}
+use Rattle.reading.proofs.Exact.{accepted-exactly}
 use Rattle.printer.specs.Prints.{print-answer, print-of, left-by}
 use Rattle.printer.specs.code.PassedOn.{passed-on}
 use Rattle.printer.specs.declared.Printed.{Printed}
@@ -36,3 +38,9 @@ pub long-answers : (text lent out : List ℕ) (o : ReadResult) (p : Printed) →
 unfolding print-of
 long-answers text lent out o p h e k =
     rw (le-ltb (length lent) 16384 h) (subst (λ (q : ReadResult). Answers text lent (print-answer text (q .answer)) out p) e k)
+
+-- A text that is read has room in a buffer that is long enough.
+pub read-fits : (text lent : List ℕ) (o : ReadResult) → 16384 ≤ length lent → o ≡ read-of text → o .answer ≡ Done → length text ≤ length lent
+read-fits text lent o h e d =
+    let a = accepted-exactly text .0 (sym (ap (λ (q : ReadResult). q .answer) e) ∙ d) in
+    omega (arith, h, a .1 .short)

@@ -1,20 +1,21 @@
 -- How far a text is printed. Assumes nothing.
 use mathlib.Core.Path.{_≡_, refl, sym, _∙_, ap}
-use mathlib.Core.List.{List, [], _∷_, _++_, map, flatten, append-assoc, append-nil}
+use mathlib.Core.List.{List, [], _∷_, _++_, append-assoc, append-nil}
 use Prim.Native.Nat.{ℕ, suc, _+_, _-_, _≤_, _<_}
 use native.Mathlib.Numerals.{add-one}
 use native.Mathlib.Omega.{arith}
-use lib.ListN.{length, getD, take, drop, set, length-append}
-use lib.Seq.{drop-cons}
+use lib.ListN.{length, getD, take, drop, set, length-append, length-drop, drop-of-length-le}
+use lib.Seq.{drop-cons, drop-drop}
 use Rattle.base.specs.Fill.{fill}
-use Rattle.base.proofs.Filled.{fill-none, fill-next}
-use Rattle.tokens.specs.Words.{blanks}
-use Rattle.tokens.specs.Spans.{Span, width, tokens}
-use Rattle.tokens.specs.Rest.{rest}
-use Rattle.tokens.proofs.Steps.{rest-start, rest-end, rest-skip, rest-token}
+use Rattle.base.proofs.Truth.{by-cases}
+use Rattle.base.proofs.Filled.{fill-none, fill-next, fill-length}
+use Rattle.tokens.specs.Classes.{blank, unbroken}
+use Rattle.tokens.specs.Words.{front, blanks}
+use Rattle.tokens.proofs.Front.{front-more, front-le, front-fails, front-again}
+use Rattle.tokens.proofs.Between.{run-goes-on, no-blank-in-run}
 use Rattle.tokens.proofs.WordCodes.{part-length}
-use Rattle.lexer.proofs.Ways.{end-after}
-use Rattle.grammar.specs.Printed.{printed}
+use Rattle.grammar.specs.Printed.{printed, unblanked}
+use Rattle.grammar.proofs.Printing.{unblanked-front, without-blanks}
 use Rattle.printer.specs.code.Over.{over}
 
 -- One byte of a part, and then the others.
@@ -46,9 +47,31 @@ over-fill lent ps (b ∷ bs) =
     let n : length ps + 1 ≡ length (ps ++ (b ∷ [])) = sym (length-append ps (b ∷ [])) in
     rw (fill-next lent ps b, n) (over-fill lent (ps ++ (b ∷ [])) bs ∙ ap (fill lent) (append-assoc ps (b ∷ []) bs))
 
--- The bytes of tokens, one after the other.
-abbrev joined : List Span → List ℕ
-joined ss = flatten (map (λ (s : Span). s .bytes) ss)
+-- Without its blanks a text is the tokens that stand side by side at its front, and then the rest of it without its blanks.
+unblanked-run : (bs : List ℕ) → unblanked bs ≡ take (front unbroken bs) bs ++ unblanked (drop (front unbroken bs) bs)
+unfolding unblanked front
+unblanked-run [] = refl
+unblanked-run (b ∷ bs) =
+    by-cases (unbroken b) (λ e. rw (e, no-blank-in-run b e) (ap (λ (l : List ℕ). b ∷ l) (unblanked-run bs))) (λ e. rw e)
+
+-- From a place on: past a gap, and past the end `e` of tokens side by side.
+module _ (text : List ℕ) (at : ℕ) where
+  past-gap : (i : ℕ) → i ≡ at + blanks (drop at text) → (blanks (drop i text) ≡ 0) × (unblanked (drop at text) ≡ unblanked (drop i text))
+  past-gap i I =
+      (rw I (front-again blank text at), rw (I, ← drop-drop (blanks (drop at text)) at text) (sym (unblanked-front (drop at text))))
+
+  module _ (e : ℕ) (E : e ≡ at + front unbroken (drop at text)) where
+    past-run : unblanked (drop at text) ≡ take (e - at) (drop at text) ++ unblanked (drop e text)
+    past-run =
+        let n : e - at ≡ front unbroken (drop at text) = omega arith in
+        rw (n, E, ← drop-drop (front unbroken (drop at text)) at text) (unblanked-run (drop at text))
+
+    -- Where no blank stands they have a byte at least, and they end within the text.
+    run-inside : at < length text → blanks (drop at text) ≡ 0 → (at < e) × (e ≤ length text)
+    run-inside h z =
+        let b = front-fails blank (getD text at 0) (drop (suc at) text) (rw (drop-cons text at 0 h) at z) in
+        let m = front-more unbroken text at h (run-goes-on (getD text at 0) b) in
+        (omega arith, omega (arith, front-le unbroken (drop at text), length-drop at text))
 
 -- The tokens before `at` are written, n bytes, and no blank stands there.
 pub record Copied (text lent out : List ℕ) (n at : ℕ) : Type 0 where
@@ -56,33 +79,36 @@ pub record Copied (text lent out : List ℕ) (n at : ℕ) : Type 0 where
   pub few : n ≤ at
   pub bytes : List ℕ
   pub count : n ≡ length bytes
-  pub whole : printed text ≡ bytes ++ joined (rest text at)
+  pub whole : printed text ≡ bytes ++ unblanked (drop at text)
   pub done : out ≡ fill lent bytes
 
 pub copied-start : (text lent : List ℕ) (at : ℕ) → at ≡ 0 + blanks (drop 0 text) → Copied text lent lent 0 at
-unfolding printed tokens
 copied-start text lent at e =
-    let s = rest-skip text 0 at e in
+    let s = past-gap text 0 at e in
     record {
       clear = s .0;
       few = omega arith;
       bytes = [];
       count = refl;
-      whole = ap joined (rest-start text ∙ s .1);
+      whole = without-blanks text ∙ s .1;
       done = sym (fill-none lent);
     }
 
 module _ (text lent out : List ℕ) (n at : ℕ) (w : Copied text lent out n at) where
-  module _ (e : ℕ) (l : at < length text) (E : e ≡ at + width (drop at text)) where
-    pub part-inside : (at ≤ e) × (e ≤ length text) × (n ≤ at)
-    part-inside = let a = end-after text at e l E in (omega arith, a .1, w .few)
+  module _ (e : ℕ) (l : at < length text) (E : e ≡ at + front unbroken (drop at text)) where
+    pub part-inside : length text ≤ length lent → (at ≤ e) × (e ≤ length text) × (n + (e - at) ≤ length out)
+    part-inside h =
+        let a = run-inside text at e E l (w .clear) in
+        (omega arith, a .1, omega (arith, a .0, a .1, w .few, ap length (w .done) ∙ fill-length lent (w .bytes)))
+
+    pub less-left : (i : ℕ) → i ≡ e + blanks (drop e text) → length text - i < length text - at
+    less-left i I = omega (arith, run-inside text at e E l (w .clear) .0)
 
     pub copied-more : (now : List ℕ) (m i : ℕ) → m ≡ n + (e - at) → now ≡ over out n (take (e - at) (drop at text)) → i ≡ e + blanks (drop e text)
         → Copied text lent now m i
-    unfolding flatten
     copied-more now m i M q I =
-        let a = end-after text at e l E in
-        let s = rest-skip text e i I in
+        let a = run-inside text at e E l (w .clear) in
+        let s = past-gap text e i I in
         let t = take (e - at) (drop at text) in
         let z : length t ≡ e - at = part-length text at e (a .1) in
         record {
@@ -91,15 +117,14 @@ module _ (text lent out : List ℕ) (n at : ℕ) (w : Copied text lent out n at)
           bytes = w .bytes ++ t;
           count = omega (arith, length-append (w .bytes) t, w .count);
           whole =
-              w .whole ∙ ap (λ (ss : List Span). w .bytes ++ joined ss) (rest-token text at e l (w .clear) E)
-              ∙ sym (append-assoc (w .bytes) t (joined (rest text e)))
-              ∙ ap (λ (ss : List Span). (w .bytes ++ t) ++ joined ss) (s .1);
+              w .whole ∙ ap (λ (r : List ℕ). w .bytes ++ r) (past-run text at e E ∙ ap (λ (r : List ℕ). t ++ r) (s .1))
+              ∙ sym (append-assoc (w .bytes) t (unblanked (drop i text)));
           done = q ∙ rw (w .done, w .count) (over-fill lent (w .bytes) t);
         }
 
   nothing-left : length text ≤ at → printed text ≡ w .bytes
-  unfolding flatten
-  nothing-left l = w .whole ∙ rw (rest-end text at l) (append-nil (w .bytes))
+  unfolding unblanked
+  nothing-left l = w .whole ∙ rw (drop-of-length-le text l) (append-nil (w .bytes))
 
   pub copied-all : length text ≤ at → n ≡ length (printed text)
   copied-all l = w .count ∙ sym (ap length (nothing-left l))

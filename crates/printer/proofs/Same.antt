@@ -7,11 +7,10 @@ use lib.ListN.{length, getD, drop, replicate}
 use Rattle.base.specs.Reports.{result}
 use Rattle.base.proofs.Filled.{fill-front}
 use Rattle.diagram.specs.Tree.{Flow}
+use Rattle.diagram.specs.TreeNodes.{TextNode}
 use Rattle.diagram.specs.Stored.{blank-node}
 use Rattle.diagram.specs.declared.Node.{Node}
 use Rattle.diagram.specs.declared.Diagram.{Diagram}
-use Rattle.tokens.specs.Spans.{places}
-use Rattle.rules.specs.TokenNodes.{TokenNode}
 use Rattle.grammar.specs.Printed.{printed}
 use Rattle.reading.specs.Nodes.{node-of, stored}
 use Rattle.reading.specs.Answers.{read-of}
@@ -26,19 +25,19 @@ use Rattle.printer.specs.declared.Printed.{Printed}
 use Rattle.printer.proofs.Alike.{printed-shorter, printed-accepted, print-alike}
 use Rattle.printer.proofs.Bounds.{accepted-prints}
 
--- "Places aside": but for its places a node does not depend on the places of the tokens.
-nodes-unplaced : (ps qs : List ℕ) (hs : List TokenNode) → map unplaced-node (map (node-of ps) hs) ≡ map unplaced-node (map (node-of qs) hs)
+-- "Places aside": but for its places a node does not depend on the text in which it stands.
+nodes-unplaced : (s t : List ℕ) (hs : List TextNode) → map unplaced-node (map (node-of s) hs) ≡ map unplaced-node (map (node-of t) hs)
 unfolding node-of
-nodes-unplaced ps qs [] = refl
-nodes-unplaced ps qs (h ∷ hs) = ap (λ (ns : List Node). unplaced-node (node-of ps h) ∷ ns) (nodes-unplaced ps qs hs)
+nodes-unplaced s t [] = refl
+nodes-unplaced s t (h ∷ hs) = ap (λ (ns : List Node). unplaced-node (node-of s h) ∷ ns) (nodes-unplaced s t hs)
 
-stored-unplaced : (ps qs : List ℕ) (hs : List TokenNode) (x y : ℕ) → unplaced (stored ps hs x y) ≡ unplaced (stored qs hs x y)
+stored-unplaced : (s t : List ℕ) (hs : List TextNode) (x y : ℕ) → unplaced (stored s hs x y) ≡ unplaced (stored t hs x y)
 unfolding unplaced stored
-stored-unplaced ps qs hs x y =
+stored-unplaced s t hs x y =
     rw (
-      map-append unplaced-node (map (node-of ps) hs) (replicate (256 - length hs) blank-node),
-      map-append unplaced-node (map (node-of qs) hs) (replicate (256 - length hs) blank-node),
-      nodes-unplaced ps qs hs,
+      map-append unplaced-node (map (node-of s) hs) (replicate (256 - length hs) blank-node),
+      map-append unplaced-node (map (node-of t) hs) (replicate (256 - length hs) blank-node),
+      nodes-unplaced s t hs,
     )
 
 -- It forgets nothing else: diagrams that are equal without their places, and have the same places, are equal.
@@ -73,7 +72,7 @@ pub same-diagram : (s t : List ℕ) (d : Flow) → Accepted s d → Accepted t d
 same-diagram s t d a b = record {
   nodes =
       ap (λ (o : ReadResult). unplaced (o .diagram)) (accepted-read s d a)
-      ∙ (stored-unplaced (places s) (places t) _ _ _ ∙ sym (ap (λ (o : ReadResult). unplaced (o .diagram)) (accepted-read t d b)));
+      ∙ (stored-unplaced s t _ _ _ ∙ sym (ap (λ (o : ReadResult). unplaced (o .diagram)) (accepted-read t d b)));
   names = accepted-shown s d a .nodes ∙ sym (accepted-shown t d b .nodes);
 }
 

@@ -9,7 +9,7 @@ use native.Mathlib.Omega.{arith}
 use lib.ListN.{length, getD, take, take-append-drop}
 use lib.Seq.{take-suc, take-take}
 use Rattle.base.proofs.Truth.{or-l, or-r}
-use Rattle.diagram.specs.Replicators.{replicates}
+use Rattle.diagram.specs.TreeNodes.{copying}
 use Rattle.diagram.specs.declared.Node.{Node}
 use Rattle.columns.proofs.Filled.{counted}
 use Rattle.profile.specs.code.Profiles.{some-copies}
@@ -17,21 +17,21 @@ use Rattle.profile.specs.code.Profiles.{some-copies}
 copies-append : (ms ns : List Node) → some-copies (ms ++ ns) ≡ (some-copies ms || some-copies ns)
 unfolding some-copies
 copies-append [] ns = refl
-copies-append (m ∷ ms) ns = ap (λ (b : Bool). replicates (m .kind) || b) (copies-append ms ns) ∙ sym (or-assoc (replicates (m .kind)) (some-copies ms) (some-copies ns))
+copies-append (m ∷ ms) ns = ap (λ (b : Bool). copying (m .kind) || b) (copies-append ms ns) ∙ sym (or-assoc (copying (m .kind)) (some-copies ms) (some-copies ns))
 
 module _ (ns : List Node) (n : ℕ) (z : Node) (here : n < length ns) where
   -- Those before it, and it.
-  with-next : some-copies (take (n + 1) ns) ≡ (some-copies (take n ns) || replicates (getD ns n z .kind))
+  with-next : some-copies (take (n + 1) ns) ≡ (some-copies (take n ns) || copying (getD ns n z .kind))
   unfolding some-copies
   with-next =
       rw (add-one n, take-suc ns n z here)
-      (copies-append (take n ns) (getD ns n z ∷ []) ∙ ap (λ (b : Bool). some-copies (take n ns) || b) (or-false (replicates (getD ns n z .kind))))
+      (copies-append (take n ns) (getD ns n z ∷ []) ∙ ap (λ (b : Bool). some-copies (take n ns) || b) (or-false (copying (getD ns n z .kind))))
 
-  pub one-more : some-copies (take n ns) ≡ false → replicates (getD ns n z .kind) ≡ false → some-copies (take (n + 1) ns) ≡ false
+  pub one-more : some-copies (take n ns) ≡ false → copying (getD ns n z .kind) ≡ false → some-copies (take (n + 1) ns) ≡ false
   one-more h k = with-next ∙ ap₂ _||_ h k
 
   -- A replicator among those that count.
-  pub found-copies : (count : ℕ) → n < count → replicates (getD ns n z .kind) ≡ true → true ≡ some-copies (take count ns)
+  pub found-copies : (count : ℕ) → n < count → copying (getD ns n z .kind) ≡ true → true ≡ some-copies (take count ns)
   found-copies count l h =
       let e = take-take (n + 1) count ns (omega arith) in
       let first : some-copies (take (n + 1) (take count ns)) ≡ true = rw e (with-next ∙ or-r (some-copies (take n ns)) h) in

@@ -1,7 +1,7 @@
 ghost use mathlib.Core.Path.{_≡_};
 ghost use mathlib.Core.Bool.{cond};
 ghost use lib.ListN.{take};
-ghost use Rattle.diagram.specs.Replicators.{replicates as replicates-of};
+ghost use Rattle.diagram.specs.TreeNodes.{copying};
 ghost use Rattle.profile.specs.code.Profiles.{some-copies, outside-of, Names};
 use diagram::Diagram;
 use diagram::Kind;
@@ -9,7 +9,7 @@ use labels::Spot;
 use variables::Variables;
 
 fn replicates(kind: Kind) -> bool
-    ensures { λ r. ⌜ r ≡ replicates-of kind ⌝ }
+    ensures { λ r. ⌜ r ≡ copying kind ⌝ }
 {
     match kind {
         Kind::Flow => false,

@@ -1,20 +1,19 @@
 -- The nodes as they are stored one after the other, over the blank ones.
 use mathlib.Core.Path.{_≡_, refl, sym, _∙_, ap, ap₂}
-use mathlib.Core.Bool.{Bool, true, false}
 use mathlib.Core.List.{List, [], _∷_, _++_, map}
 use Prim.Native.Nat.{ℕ, zero, suc, _+_, _-_, _%_, _≤_, _<_}
 use native.Mathlib.Nat.{le-of-suc-le-suc, mod-eq-of-lt}
 use native.Mathlib.Numerals.{add-one}
 use native.Mathlib.Omega.{arith}
-use lib.Dec.{eqb}
 use lib.ListN.{length, getD, take, set, replicate}
 use lib.Seq.{take-all, take-suc, set-at, length-take-le, append-snoc}
 use Rattle.diagram.specs.Stored.{blank-node, blank-diagram}
 use Rattle.diagram.specs.declared.Node.{Node}
 use Rattle.diagram.specs.declared.Diagram.{Diagram}
-use Rattle.rules.specs.TokenNodes.{TokenNode}
-use Rattle.reading.specs.Nodes.{node-of, stored}
-use Rattle.walked.specs.Rows.{mark, Row, Rowed, Sized}
+use Rattle.diagram.specs.TreeNodes.{TextNode, size-of}
+use Rattle.reading.specs.Nodes.{name-place, node-of, stored}
+use Rattle.walked.specs.Rows.{Row, Rowed, Sized}
+use Rattle.walked.proofs.Rebuilt.{kind-back, mark-back}
 use Rattle.reader.specs.code.Stages.{node-at}
 
 -- The nodes of the rows from the node i on, n of them.
@@ -54,23 +53,19 @@ pub record Storing (rows : List ℕ) (count : ℕ) (ns : List Node) (i : ℕ) : 
 pub storing-none : (rows : List ℕ) (count : ℕ) {d : Diagram} → d ≡ blank-diagram → Storing rows count (d .nodes) 0
 storing-none rows count e = record { inside = omega arith; is = ap (λ (d : Diagram). d .nodes) e }
 
--- A row's node is that of its token node. Its size fits a byte.
+-- A row's node by value is that of the node that it tells. Its size fits a byte.
 small-size : {n : ℕ} → n ≤ 16 → n % 256 ≡ n
 small-size {n} h = mod-eq-of-lt (omega arith)
 
-mark-marked : (b : Bool) → eqb (mark b) 1 ≡ b
-mark-marked true = refl
-mark-marked false = refl
+row-node : (text rows : List ℕ) (i : ℕ) (h : TextNode) → size-of (h .kind) ≤ 16 → Row text rows i h → node-at rows i ≡ node-of text h
+unfolding node-at node-of name-place
+row-node text rows i h b r =
+    rw (r .number, r .at, r .solid, r .name, r .code, r .size, r .depth, r .strong, mark-back (h .solid), mark-back (h .strong), small-size b, kind-back (h .kind))
 
-row-node : (text places rows : List ℕ) (i : ℕ) (h : TokenNode) → h .size ≤ 16 → Row text places rows i h → node-at rows i ≡ node-of places h
-unfolding node-at node-of
-row-node text places rows i h b r =
-    rw (r .at, r .solid, r .name, r .code, r .size, r .depth, r .strong, mark-marked (h .solid), mark-marked (h .strong), small-size b)
-
-rows-nodes : (text places rows : List ℕ) (i : ℕ) (hs : List TokenNode) → Sized hs → Rowed text places rows i hs → nodes-from rows i (length hs) ≡ map (node-of places) hs
+rows-nodes : (text rows : List ℕ) (i : ℕ) (hs : List TextNode) → Sized hs → Rowed text rows i hs → nodes-from rows i (length hs) ≡ map (node-of text) hs
 unfolding nodes-from
-rows-nodes text places rows i [] b r = refl
-rows-nodes text places rows i (h ∷ hs) b r = ap₂ (λ (n : Node) (l : List Node). n ∷ l) (row-node text places rows i h (b .0) (r .0)) (rows-nodes text places rows (suc i) hs (b .1) (r .1))
+rows-nodes text rows i [] b r = refl
+rows-nodes text rows i (h ∷ hs) b r = ap₂ (λ (n : Node) (l : List Node). n ∷ l) (row-node text rows i h (b .0) (r .0)) (rows-nodes text rows (suc i) hs (b .1) (r .1))
 
 module _ {rows : List ℕ} {count : ℕ} {ns : List Node} {i : ℕ} (s : Storing rows count ns i) where
   pub storing-more : {n : Node} → count ≤ 256 → i < count → n ≡ node-at rows i → Storing rows count (set ns i n) (i + 1)
@@ -83,11 +78,11 @@ module _ {rows : List ℕ} {count : ℕ} {ns : List Node} {i : ℕ} (s : Storing
             ∙ filled-more (nodes-from rows 0 count) i n (omega arith) (omega arith) (e ∙ sym (nodes-at rows 0 count i l ∙ ap (node-at rows) (omega arith)));
       }
 
-  pub storing-all : (text places : List ℕ) (hs : List TokenNode) (x y : ℕ) → count ≤ i → length hs ≡ count → Sized hs → Rowed text places rows 0 hs
-      → record { nodes = ns; count = count; copies = x; events = y } ≡ stored places hs x y
+  pub storing-all : (text : List ℕ) (hs : List TextNode) (x y : ℕ) → count ≤ i → length hs ≡ count → Sized hs → Rowed text rows 0 hs
+      → record { nodes = ns; count = count; copies = x; events = y } ≡ stored text hs x y
   unfolding stored
-  storing-all text places hs x y h l b r =
+  storing-all text hs x y h l b r =
       let e : i ≡ count = omega (arith, s .inside) in
       let t : take i (nodes-from rows 0 count) ≡ nodes-from rows 0 count = take-all i (nodes-from rows 0 count) (omega (arith, nodes-long rows 0 count)) in
-      let m : nodes-from rows 0 count ≡ map (node-of places) hs = rw (← l) (rows-nodes text places rows 0 hs b r) in
+      let m : nodes-from rows 0 count ≡ map (node-of text) hs = rw (← l) (rows-nodes text rows 0 hs b r) in
       rw (s .is, t, m, e, l)

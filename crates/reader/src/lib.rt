@@ -3,9 +3,9 @@ ghost use mathlib.Core.List.{List};
 ghost use Prim.Native.Nat.{ℕ, _≤_, _<_};
 ghost use lib.ListN.{length, getD};
 ghost use Rattle.lexer.specs.Lexicon.{Lexicon};
-ghost use Rattle.rules.specs.TokenNodes.{TokenNode};
-ghost use Rattle.walked.specs.Rows.{Rowed, Sized};
-ghost use Rattle.reading.specs.Nodes.{kind-of, stored};
+ghost use Rattle.diagram.specs.TreeNodes.{TextNode};
+ghost use Rattle.walked.specs.Rows.{kind-of, Rowed, Sized};
+ghost use Rattle.reading.specs.Nodes.{stored};
 ghost use Rattle.reading.specs.Answers.{no-diagram, read-of};
 ghost use Rattle.reader.specs.code.Stages.{turned-away, node-at, Walked};
 use diagram::Diagram;
@@ -85,7 +85,7 @@ fn node(rows: &[u16; 2056], i: usize) -> Node
 // The nodes of the rows, with the counts.
 fn store(rows: &[u16; 2056], count: usize, copies: usize, events: usize) -> Diagram
     requires { ⌜ count ≤ 256 ⌝ }
-    ensures { λ r. ⌜ ((text places : List ℕ) (hs : List TokenNode) → length hs ≡ count → Sized hs → Rowed text places (now (rows .entry)) 0 hs → r ≡ stored places hs copies events) ⌝ }
+    ensures { λ r. ⌜ ((text : List ℕ) (hs : List TextNode) → length hs ≡ count → Sized hs → Rowed text (now (rows .entry)) 0 hs → r ≡ stored text hs copies events) ⌝ }
 {
     let blank = diagram::empty();
     let mut nodes = blank.nodes;

@@ -12,11 +12,12 @@ use borrow.Author.Tests.{ltb-true, ltb-false}
 use Rattle.base.specs.Reports.{result as result-report}
 use Rattle.diagram.specs.Tree.{Flow}
 use Rattle.diagram.specs.Count.{flow-nodes, flow-copies, flow-events}
+use Rattle.diagram.specs.TreeNodes.{TreeNode}
 use Rattle.diagram.specs.declared.Diagram.{Diagram}
 use Rattle.base.proofs.Truth.{cases}
 use Rattle.tokens.specs.Spans.{places}
 use Rattle.tokens.proofs.Spans.{tokens-length, places-length, places-below}
-use Rattle.rules.specs.PlacedNodes.{PlacedNode}
+use Rattle.grammar.specs.Keys.{key-token, keyword-at, name-at}
 use Rattle.reading.specs.Accepted.{Accepted}
 use Rattle.reading.specs.Answers.{read-of}
 use Rattle.reading.specs.Reports.{report}
@@ -31,7 +32,7 @@ use Rattle.reading.proofs.Shown.{accepted-shown}
 use Rattle.reading.proofs.Placed.{accepted-placed, one-diagram}
 
 -- Inside a list it does not matter what stands for what is past its end.
-pub same-inside : (ps : List ℕ) (k none : ℕ) → k < length ps → getD ps k 0 ≡ getD ps k none
+same-inside : (ps : List ℕ) (k none : ℕ) → k < length ps → getD ps k 0 ≡ getD ps k none
 same-inside ps k none h = head-eq-of-cons-eq (sym (drop-cons ps k 0 h) ∙ drop-cons ps k none h)
 
 -- A token's place is in the text, and what stands for no place is at most the text's length.
@@ -56,11 +57,14 @@ pub record Near (text : List ℕ) (c at : ℕ) : Type 0 where
 near : (text : List ℕ) (c at : ℕ) (n : ℕ) → c ≡ n → 2 ≤ n → n ≤ 11 → at ≤ 16384 → Near text c at
 near text c at n e l h k = record { low = omega arith; high = omega arith; close = k }
 
-derived-near : (text : List ℕ) (d : Flow) (at k : ℕ) → Derived text d → at ≡ getD (places text) k 0 → at ≤ 16384
-derived-near text d at k g e = omega (arith, g .size, place-near text k 0 (omega arith))
+-- Where the nodes of a derived text stand.
+named-near : (text : List ℕ) (d : Flow) (at i : ℕ) → Derived text d → at ≡ name-at text i → at ≤ 16384
+unfolding name-at
+named-near text d at i g e = omega (arith, g .size, place-near text (key-token text i + 2) 0 (omega arith))
 
-broken-near : (text : List ℕ) (d : Flow) (at : ℕ) {kept : PlacedNode → Bool} → Breaks text at d kept → at ≤ 16384
-broken-near text d at b = derived-near text d at (b .token) (b .derived) (b .place)
+broken-near : (text : List ℕ) (d : Flow) (at : ℕ) {fit : TreeNode → Bool} → Breaks text at d fit → at ≤ 16384
+unfolding keyword-at
+broken-near text d at b = omega (arith, b .derived .size, b .place, place-near text (key-token text (b .node)) 0 (omega arith))
 
 pub refused-at-near : (text : List ℕ) (c at : ℕ) → RefusedAt text c at → Near text c at
 refused-at-near text c at (by-size e h) = near text c at 2 e (omega arith) (omega arith) (omega (arith, h .place))
@@ -71,7 +75,7 @@ refused-at-near text c at (by-token e h) =
     near text c at 5 e (omega arith) (omega arith) (omega (arith, h .place, h .clean .size, place-near text (h .token) (length text) (omega arith)))
 refused-at-near text c at (by-limit e h) =
     near text c at 6 e (omega arith) (omega arith) (omega (arith, h .place, h .clean .size, place-near text (h .token) (length text) (omega arith)))
-refused-at-near text c at (by-name e d h) = near text c at 7 e (omega arith) (omega arith) (derived-near text d at (h .token + 2) (h .derived) (h .place))
+refused-at-near text c at (by-name e d h) = near text c at 7 e (omega arith) (omega arith) (named-near text d at (h .node) (h .derived) (h .place))
 refused-at-near text c at (by-parameter e d h) = near text c at 8 e (omega arith) (omega arith) (broken-near text d at (h .broken))
 refused-at-near text c at (by-solid e d h) = near text c at 9 e (omega arith) (omega arith) (broken-near text d at (h .broken))
 refused-at-near text c at (by-strong e d h) = near text c at 10 e (omega arith) (omega arith) (broken-near text d at (h .broken))

@@ -2,46 +2,49 @@
 use mathlib.Core.Path.{_≡_, refl, sym, _∙_, ap, subst}
 use mathlib.Core.Logic.{_⊎_, inl, inr, ⊎-elim, _↔_}
 use mathlib.Core.Bool.{Bool, true, false, true≢false}
-use mathlib.Core.List.{List, [], _++_, map}
-use Prim.Native.Nat.{ℕ, suc, _+_, _≤_, _<_}
-use native.Mathlib.Nat.{add-zero}
+use mathlib.Core.List.{List, [], _++_}
+use Prim.Native.Nat.{ℕ, suc, _≤_, _<_}
 use native.Mathlib.Omega.{arith}
 use lib.Dec.{ltb}
-use lib.ListN.{length, getD, take}
+use lib.ListN.{length, take, replicate}
 use borrow.Author.Tests.{ltb-true, ltb-false}
-use Rattle.diagram.specs.Tree.{Name, Flow}
+use Rattle.diagram.specs.Tree.{Flow}
 use Rattle.diagram.specs.Count.{flow-copies, flow-events}
 use Rattle.diagram.specs.Names.{flow-names, differ}
 use Rattle.diagram.specs.Parameters.{flow-parameters}
 use Rattle.diagram.specs.Flows.{each-flow, solid, strong}
-use Rattle.tokens.specs.Words.{code}
-use Rattle.tokens.specs.Spans.{tokens, codes, places}
+use Rattle.diagram.specs.TreeNodes.{TreeNode, own, nodes-by}
+use Rattle.tokens.specs.Words.{keywords}
+use Rattle.tokens.specs.Spans.{spans-of, tokens}
+use Rattle.tokens.specs.Token.{Token, text-tokens, all-proper}
 use Rattle.tokens.specs.Scanned.{scan-of}
-use Rattle.tokens.specs.Spans.{spans-of}
 use Rattle.tokens.specs.declared.Scan.{Scan}
 use Rattle.tokens.specs.declared.Scan.the-variants.{Tokens, Refused as Unscanned}
-use Rattle.grammar.specs.Machine.{stop, outcome}
-use Rattle.grammar.proofs.Limits.{over-limit}
+use Rattle.tokens.proofs.Tokens.{text-proper, keywords-sound}
+use Rattle.grammar.specs.Machine as Machine
+use Rattle.grammar.specs.Machine.{outcome}
 use Rattle.grammar.specs.Derives.{Derives}
-use Rattle.grammar.proofs.Token.{all-tokens}
-use Rattle.grammar.proofs.Lexed.{text-tokens}
+use Rattle.grammar.specs.Keys.{keyword-at, name-at}
+use Rattle.grammar.proofs.Limits.{over-limit}
+use Rattle.grammar.proofs.Printing.{tokens-many}
 use Rattle.grammar.proofs.Grammar.{Answered, read, strayed, outgrown, answered, off-viable, off-token, off-end, off-only, big-viable, shorter, derived-once}
 use Rattle.grammar.proofs.LimitedFrom.{over-limit-begun}
 use Rattle.grammar.proofs.Limited.{big-over-limit, off-none-big, whole-none-big}
-use Rattle.rules.specs.PlacedNodes.{PlacedNode, flow-placed-nodes, too-big}
+use Rattle.walked.specs.Walk.{End, whole, stop, ending, unwritten, placed-by}
+use Rattle.walked.proofs.Located.{ends-as}
+use Rattle.rules.specs.Broken.{too-big, first-broken}
 use Rattle.rules.specs.Found.{Found, At, Nothing}
 use Rattle.rules.specs.declared.Verdict.{Verdict}
 use Rattle.rules.specs.declared.Verdict.the-variants.{Kept, Refused as Unkept}
-use Rattle.rules.proofs.Trees.{flow-token-nodes}
 use Rattle.rules.proofs.LimitsPlaced.{limits-placed}
 use Rattle.rules.proofs.NamesKept.{names-kept-iff}
 use Rattle.rules.proofs.ParametersKept.{parameters-kept-iff}
 use Rattle.rules.proofs.SolidsKept.{solids-kept-iff}
 use Rattle.rules.proofs.StrongsKept.{strongs-kept-iff}
 use Rattle.reading.specs.Nodes.{stored}
-use Rattle.reading.specs.Answers.{refused, place-of, judged, scanned, read-of}
+use Rattle.reading.specs.Answers.{refused, judged, parsed, scanned, read-of}
 use Rattle.reading.specs.Accepted.{Accepted}
-use Rattle.reading.specs.Refused.{Clean, Off, Big, Derived, Breaks, RefusedAt, by-size, by-byte, by-word, by-token, by-limit, by-name, by-parameter, by-solid, by-strong, by-count}
+use Rattle.reading.specs.Refused.{place-of, Clean, Off, Big, Derived, Breaks, RefusedAt, by-size, by-byte, by-word, by-token, by-limit, by-name, by-parameter, by-solid, by-strong, by-count}
 use Rattle.reading.specs.declared.Answer.{Answer}
 use Rattle.reading.specs.declared.Answer.the-variants.{Done, Refused}
 use Rattle.reading.specs.declared.ReadResult.{ReadResult}
@@ -51,14 +54,13 @@ use Rattle.reading.proofs.Derived.{whole-derived, derived-answer}
 
 -- What reading a derived text answers, by the rules' verdict.
 abbrev done : List ℕ → Flow → ReadResult
-done text d = record { answer = Done; diagram = stored (places text) (flow-token-nodes d false 1 0 []) (flow-copies d) (flow-events d) }
+done text d = record { answer = Done; diagram = stored text (nodes-by own d) (flow-copies d) (flow-events d) }
 
-by-verdict : (text : List ℕ) (d : Flow) (v : Verdict) → Derived text d → tree-verdict (places text) d ≡ v
-    → read-of text ≡ judged (places text) (flow-token-nodes d false 1 0 []) v
-by-verdict text d v g e = derived-answer text d g ∙ ap (judged (places text) (flow-token-nodes d false 1 0 [])) e
+by-verdict : (text : List ℕ) (d : Flow) (v : Verdict) → Derived text d → tree-verdict text d ≡ v → read-of text ≡ judged text (nodes-by own d) v
+by-verdict text d v g e = derived-answer text d g ∙ ap (judged text (nodes-by own d)) e
 
 -- The texts that are read.
-accepted-derived : (text : List ℕ) (d : Flow) → Accepted text d → Derived text d
+pub accepted-derived : (text : List ℕ) (d : Flow) → Accepted text d → Derived text d
 accepted-derived text d a = record { size = a .short; derives = a .derived; nodes = a .nodes; depth = a .depth }
 
 pub accepted-read : (text : List ℕ) (d : Flow) → Accepted text d → read-of text ≡ done text d
@@ -73,98 +75,96 @@ accepted-read text d a =
     ))
 
 -- The texts that are turned away.
-scanned-as : (text : List ℕ) (s : Scan) → scan-of text ≡ s → read-of text ≡ scanned text (codes text) (places text) s
+scanned-as : (text : List ℕ) (s : Scan) → scan-of text ≡ s → read-of text ≡ scanned text s
 unfolding read-of
-scanned-as text s e = ap (scanned text (codes text) (places text)) e
+scanned-as text s e = ap (scanned text) e
 
-stopped : (text : List ℕ) (c k : ℕ) → Clean text → outcome (codes text) ≡ stop c k → read-of text ≡ refused c (place-of text (places text) k)
-stopped text c k h e = scanned-as text (Tokens (length (spans-of text))) (clean-scan text h) ∙ rw e
+-- Where the walk stops, so does reading.
+parsed-stop : (text : List ℕ) (o : End) (c p : ℕ) → unwritten o ≡ Machine.stop c p → parsed text o ≡ refused c p
+parsed-stop text (whole n st) c p e = let z : _≡_ {A = ℕ} 0 1 = cc in let y : ⊥ = omega arith in absurd y
+parsed-stop text (stop a b) c p e = let x : a ≡ c = cc in let y : b ≡ p = cc in rw (x, y)
+
+stopped : (text : List ℕ) (c k : ℕ) → Clean text → outcome (text-tokens keywords text) ≡ Machine.stop c k → read-of text ≡ refused c (place-of text k)
+stopped text c k h e =
+    scanned-as text (Tokens (length (spans-of text))) (clean-scan text h)
+    ∙ parsed-stop text (ending text (replicate 2056 0)) c (place-of text k) (ends-as text (replicate 2056 0) ∙ ap (placed-by (place-of text)) e)
 
 -- Number 6 by the tokens and on a tree that derives the tokens before t with some rest.
-limits-alike : (ts rest : List Name) (d : Flow) (t j : ℕ) → Derives (take t ts ++ rest) d → t ≤ length ts → j < t
-    → over-limit (map code ts) j ≡ too-big 0 (flow-placed-nodes d [] 1 0 []) j
+limits-alike : (ts rest : List Token) (d : Flow) (t j : ℕ) → Derives keywords (take t ts ++ rest) d → t ≤ length ts → j < t → over-limit ts j ≡ too-big d j
 limits-alike ts rest d t j g h l =
-    over-limit-begun ts rest t j h l ∙ (ap (λ (us : List Name). over-limit (map code us) j) (g .tokens) ∙ limits-placed d (g .proper) j)
+    over-limit-begun ts rest t j h l ∙ (ap (λ (us : List Token). over-limit us j) (g .tokens) ∙ limits-placed d j)
 
-off-stops : (text : List ℕ) (at : ℕ) (o : Off text at) → outcome (codes text) ≡ stop 5 (o .token)
-unfolding codes
-off-stops text at o =
-    ⊎-elim (λ r. absurd (true≢false (sym (big-over-limit (map code (tokens text)) (r .0) (r .1) .1) ∙ small (r .0) (r .2)))) (λ r. r)
-    (off-only (tokens text) (text-tokens text) (o .token) (o .tree, o .rest, o .before) (o .here) (o .early) (o .inside))
-  where
-    small : (j : ℕ) → j < o .token → over-limit (map code (tokens text)) j ≡ false
-    small j l = limits-alike (tokens text) (o .rest) (o .tree) (o .token) j (o .before) (o .inside) l ∙ o .small j l
+module _ (text : List ℕ) where
+  abbrev ts : List Token
+  ts = text-tokens keywords text
 
-big-stops : (text : List ℕ) (at : ℕ) (b : Big text at) → outcome (codes text) ≡ stop 6 (b .token)
-unfolding codes
-big-stops text at b = go (answered ts tk)
-  where
-    ts : List Name
-    ts = tokens text
+  many : length ts ≡ length (tokens text)
+  many = tokens-many keywords text
 
-    tk : all-tokens (tokens text) ≡ true
-    tk = text-tokens text
+  off-stops : (at : ℕ) (o : Off text at) → outcome ts ≡ Machine.stop 5 (o .token)
+  off-stops at o =
+      ⊎-elim (λ r. absurd (true≢false (sym (big-over-limit ts (r .0) (r .1) .1) ∙ small (r .0) (r .2)))) (λ r. r)
+      (off-only keywords keywords-sound ts (text-proper keywords text) (o .token) (o .tree, o .rest, o .before) (λ l. o .here (omega (arith, many)))
+      (λ e. o .early (e ∙ many)) (omega (arith, many, o .inside)))
+    where
+      small : (j : ℕ) → j < o .token → over-limit ts j ≡ false
+      small j l = limits-alike ts (o .rest) (o .tree) (o .token) j (o .before) (omega (arith, many, o .inside)) l ∙ o .small j l
 
-    cs : List ℕ
-    cs = map code (tokens text)
+  big-stops : (at : ℕ) (b : Big text at) → outcome ts ≡ Machine.stop 6 (b .token)
+  big-stops at b = go (answered keywords keywords-sound ts (text-proper keywords text))
+    where
+      alike : (j : ℕ) → j < suc (b .token) → over-limit ts j ≡ too-big (b .tree) j
+      alike j l = limits-alike ts (b .rest) (b .tree) (suc (b .token)) j (b .viable) (omega (arith, many, b .inside)) l
 
-    alike : (j : ℕ) → j < suc (b .token) → over-limit cs j ≡ too-big 0 (flow-placed-nodes (b .tree) [] 1 0 []) j
-    alike j l = limits-alike ts (b .rest) (b .tree) (suc (b .token)) j (b .viable) (b .inside) l
+      clash : {A : Type 0} → over-limit ts (b .token) ≡ false → A
+      clash q = absurd (true≢false (sym (alike (b .token) (omega arith) ∙ b .here) ∙ q))
 
-    clash : {A : Type 0} → over-limit cs (b .token) ≡ false → A
-    clash q = absurd (true≢false (sym (alike (b .token) (omega arith) ∙ b .here) ∙ q))
+      strays : (k : ℕ) → outcome ts ≡ Machine.stop 5 k → (x : Bool) → ltb (b .token) k ≡ x → outcome ts ≡ Machine.stop 6 (b .token)
+      strays k e true q = clash (off-none-big ts k e (b .token) (ltb-true (b .token) k q))
+      strays k e false q =
+          let l : k ≤ b .token = ltb-false (b .token) k q in
+          absurd
+          (off-token keywords keywords-sound ts (text-proper keywords text) k e (omega (arith, many, b .inside))
+          (shorter keywords (suc k) (suc (b .token)) ts (omega arith) (b .tree, b .rest, b .viable)))
 
-    strays : (k : ℕ) → outcome cs ≡ stop 5 k → (x : Bool) → ltb (b .token) k ≡ x → outcome cs ≡ stop 6 (b .token)
-    strays k e true q = clash (off-none-big cs k e (b .token) (ltb-true (b .token) k q))
-    strays k e false q =
-        let l : k ≤ b .token = ltb-false (b .token) k q in
-        absurd (off-token ts tk k e (omega (arith, b .inside)) (shorter (suc k) (suc (b .token)) ts (omega arith) (b .tree, b .rest, b .viable)))
+      meets : (k : ℕ) → outcome ts ≡ Machine.stop 6 k → (x y : Bool) → ltb (b .token) k ≡ x → ltb k (b .token) ≡ y → outcome ts ≡ Machine.stop 6 (b .token)
+      meets k e true y p q = clash (big-over-limit ts k e .2 (b .token) (ltb-true (b .token) k p))
+      meets k e false true p q =
+          let l = ltb-true k (b .token) q in
+          absurd (true≢false (sym (big-over-limit ts k e .1) ∙ (alike k (omega arith) ∙ b .first k l)))
+      meets k e false false p q =
+          let z : k ≡ b .token = omega (arith, ltb-false (b .token) k p, ltb-false k (b .token) q) in
+          e ∙ ap (Machine.stop 6) z
 
-    meets : (k : ℕ) → outcome cs ≡ stop 6 k → (x y : Bool) → ltb (b .token) k ≡ x → ltb k (b .token) ≡ y → outcome cs ≡ stop 6 (b .token)
-    meets k e true y p q = clash (big-over-limit cs k e .2 (b .token) (ltb-true (b .token) k p))
-    meets k e false true p q =
-        let l = ltb-true k (b .token) q in
-        absurd (true≢false (sym (big-over-limit cs k e .1) ∙ (alike k (omega arith) ∙ b .first k l)))
-    meets k e false false p q = let z : k ≡ b .token = omega (arith, ltb-false (b .token) k p, ltb-false k (b .token) q) in e ∙ ap (stop 6) z
-
-    go : Answered ts → outcome cs ≡ stop 6 (b .token)
-    go (read n e) = clash (whole-none-big cs n e .1 (b .token))
-    go (strayed k e) = strays k e (ltb (b .token) k) refl
-    go (outgrown k e) = meets k e (ltb (b .token) k) (ltb k (b .token)) refl refl
+      go : Answered ts → outcome ts ≡ Machine.stop 6 (b .token)
+      go (read n e) = clash (whole-none-big ts n e .1 (b .token))
+      go (strayed k e) = strays k e (ltb (b .token) k) refl
+      go (outgrown k e) = meets k e (ltb (b .token) k) (ltb k (b .token)) refl refl
 
 numbered : (text : List ℕ) {c at : ℕ} (n p : ℕ) → c ≡ n → at ≡ p → read-of text ≡ refused n p → read-of text ≡ refused c at
 numbered text n p e q r = rw (e, q) r
 
-broken-read : (text : List ℕ) (c at n : ℕ) (d : Flow) {kept : PlacedNode → Bool} (b : Breaks text at d kept) → c ≡ n
-    → tree-verdict (places text) d ≡ Unkept n (getD (places text) (b .token) 0) → read-of text ≡ refused c at
+broken-read : (text : List ℕ) (c at n : ℕ) (d : Flow) {fit : TreeNode → Bool} (b : Breaks text at d fit) → c ≡ n
+    → tree-verdict text d ≡ Unkept n (keyword-at text (b .node)) → read-of text ≡ refused c at
 broken-read text c at n d b e v =
-    numbered text n (getD (places text) (b .token) 0) e (b .place) (by-verdict text d (Unkept n (getD (places text) (b .token) 0)) (b .derived) v)
+    numbered text n (keyword-at text (b .node)) e (b .place) (by-verdict text d (Unkept n (keyword-at text (b .node))) (b .derived) v)
 
 pub refused-at-read : (text : List ℕ) (c at : ℕ) → RefusedAt text c at → read-of text ≡ refused c at
 refused-at-read text c at (by-size e h) = numbered text 2 at e refl (scanned-as text (Unscanned 2 at) (long-scan text at h))
 refused-at-read text c at (by-byte e h) = numbered text 3 at e refl (scanned-as text (Unscanned 3 at) (foreign-scan text at h))
 refused-at-read text c at (by-word e h) = numbered text 4 at e refl (scanned-as text (Unscanned 4 at) (wordy-scan text at h))
 refused-at-read text c at (by-token e h) =
-    numbered text 5 (place-of text (places text) (h .token)) e (h .place) (stopped text 5 (h .token) (h .clean) (off-stops text at h))
+    numbered text 5 (place-of text (h .token)) e (h .place) (stopped text 5 (h .token) (h .clean) (off-stops text at h))
 refused-at-read text c at (by-limit e h) =
-    numbered text 6 (place-of text (places text) (h .token)) e (h .place) (stopped text 6 (h .token) (h .clean) (big-stops text at h))
+    numbered text 6 (place-of text (h .token)) e (h .place) (stopped text 6 (h .token) (h .clean) (big-stops text at h))
 refused-at-read text c at (by-name e d h) =
-    numbered text 7 (getD (places text) (h .token + 2) 0) e (h .place)
-    (by-verdict text d (Unkept 7 (getD (places text) (h .token + 2) 0)) (h .derived) (rw (h .here)))
-refused-at-read text c at (by-parameter e d h) =
-    broken-read text c at 8 d (h .broken) e (rw (names-kept-iff d .1 (h .names), h .broken .here, add-zero (h .broken .token)))
+    numbered text 7 (name-at text (h .node)) e (h .place) (by-verdict text d (Unkept 7 (name-at text (h .node))) (h .derived) (rw (h .here)))
+refused-at-read text c at (by-parameter e d h) = broken-read text c at 8 d (h .broken) e (rw (names-kept-iff d .1 (h .names), h .broken .here))
 refused-at-read text c at (by-solid e d h) =
-    broken-read text c at 9 d (h .broken) e
-    (rw (names-kept-iff d .1 (h .names), parameters-kept-iff d .1 (h .parameters), h .broken .here, add-zero (h .broken .token)))
+    broken-read text c at 9 d (h .broken) e (rw (names-kept-iff d .1 (h .names), parameters-kept-iff d .1 (h .parameters), h .broken .here))
 refused-at-read text c at (by-strong e d h) =
     broken-read text c at 10 d (h .broken) e
-    (rw (
-      names-kept-iff d .1 (h .names),
-      parameters-kept-iff d .1 (h .parameters),
-      solids-kept-iff d .1 (h .solids),
-      h .broken .here,
-      add-zero (h .broken .token),
-    ))
+    (rw (names-kept-iff d .1 (h .names), parameters-kept-iff d .1 (h .parameters), solids-kept-iff d .1 (h .solids), h .broken .here))
 refused-at-read text c at (by-count e d h) =
     numbered text 11 0 e (h .place)
     (by-verdict text d (Unkept 11 0) (h .derived)
@@ -185,8 +185,8 @@ pub data Fate (text : List ℕ) : Type 0 where
 derived-fate : (text : List ℕ) (d : Flow) → Derived text d → Fate text
 derived-fate text d g = names (twice d) refl
   where
-    ps : List ℕ
-    ps = places text
+    broken : {fit : TreeNode → Bool} (k : ℕ) → first-broken fit (nodes-by (λ h. h) d) ≡ At k → Breaks text (keyword-at text k) d fit
+    broken k e = record { derived = g; node = k; here = e; place = refl }
 
     counts : differ (flow-names d []) ≡ true → flow-parameters d [] ≡ true → each-flow d solid ≡ true → each-flow d strong ≡ true
         → ((flow-copies d ≤ 768) × (flow-events d ≤ 512)) ⊎ ((768 < flow-copies d) ⊎ (512 < flow-events d)) → Fate text
@@ -201,59 +201,61 @@ derived-fate text d g = names (twice d) refl
           copies = q .0;
           events = q .1;
         }
-    counts a b c e (inr q) = refused-at 11 0 (by-count refl d record { derived = g; names = a; parameters = b; solids = c; strongs = e; over = q; place = refl })
+    counts a b c e (inr q) =
+        refused-at 11 0 (by-count refl d record { derived = g; names = a; parameters = b; solids = c; strongs = e; over = q; place = refl })
 
     strongs : differ (flow-names d []) ≡ true → flow-parameters d [] ≡ true → each-flow d solid ≡ true → (f : Found) → weak d ≡ f → Fate text
     strongs a b c (At k) e =
-        refused-at 10 (getD ps k 0) (by-strong refl d record { names = a; parameters = b; solids = c; broken = record { derived = g; token = k; here = e; place = refl } })
+        refused-at 10 (keyword-at text k) (by-strong refl d record { names = a; parameters = b; solids = c; broken = broken k e })
     strongs a b c Nothing e = counts a b c (strongs-kept-iff d .0 e) (few-or-many (flow-copies d) (flow-events d))
 
     solids : differ (flow-names d []) ≡ true → flow-parameters d [] ≡ true → (f : Found) → unsolid d ≡ f → Fate text
-    solids a b (At k) e = refused-at 9 (getD ps k 0) (by-solid refl d record { names = a; parameters = b; broken = record { derived = g; token = k; here = e; place = refl } })
+    solids a b (At k) e = refused-at 9 (keyword-at text k) (by-solid refl d record { names = a; parameters = b; broken = broken k e })
     solids a b Nothing e = strongs a b (solids-kept-iff d .0 e) (weak d) refl
 
     parameters : differ (flow-names d []) ≡ true → (f : Found) → misplaced d ≡ f → Fate text
-    parameters a (At k) e = refused-at 8 (getD ps k 0) (by-parameter refl d record { names = a; broken = record { derived = g; token = k; here = e; place = refl } })
+    parameters a (At k) e = refused-at 8 (keyword-at text k) (by-parameter refl d record { names = a; broken = broken k e })
     parameters a Nothing e = solids a (parameters-kept-iff d .0 e) (unsolid d) refl
 
     names : (f : Found) → twice d ≡ f → Fate text
-    names (At k) e = refused-at 7 (getD ps (k + 2) 0) (by-name refl d record { derived = g; token = k; here = e; place = refl })
+    names (At k) e = refused-at 7 (name-at text k) (by-name refl d record { derived = g; node = k; here = e; place = refl })
     names Nothing e = parameters (names-kept-iff d .0 e) (misplaced d) refl
 
 clean-fate : (text : List ℕ) → Clean text → Fate text
-unfolding codes
-clean-fate text h = go (answered (tokens text) (text-tokens text))
+clean-fate text h = go (answered keywords keywords-sound (ts text) proper)
   where
-    go : Answered (tokens text) → Fate text
+    proper : all-proper keywords (ts text) ≡ true
+    proper = text-proper keywords text
+
+    go : Answered (ts text) → Fate text
     go (read n e) = let r = whole-derived text n (h .size) e in derived-fate text (r .0) (r .1)
     go (strayed k e) =
-        let v = off-viable (tokens text) (text-tokens text) k e in
-        refused-at 5 (place-of text (places text) k)
+        let v = off-viable keywords keywords-sound (ts text) proper k e in
+        refused-at 5 (place-of text k)
         (by-token refl
         record {
           clean = h;
           token = k;
-          inside = v .0;
+          inside = omega (arith, many text, v .0);
           tree = v .1 .0;
           rest = v .1 .1;
           before = v .1 .2;
-          here = off-token (tokens text) (text-tokens text) k e;
-          early = off-end (tokens text) (text-tokens text) k e;
-          small = λ j l.
-              sym (limits-alike (tokens text) (v .1 .1) (v .1 .0) k j (v .1 .2) (v .0) l) ∙ off-none-big (map code (tokens text)) k e j l;
+          here = λ l. off-token keywords keywords-sound (ts text) proper k e (omega (arith, many text));
+          early = λ q. off-end keywords keywords-sound (ts text) proper k e (q ∙ sym (many text));
+          small = λ j l. sym (limits-alike (ts text) (v .1 .1) (v .1 .0) k j (v .1 .2) (v .0) l) ∙ off-none-big (ts text) k e j l;
           place = refl;
         })
     go (outgrown k e) =
-        let v = big-viable (tokens text) (text-tokens text) k e in
-        let b = big-over-limit (map code (tokens text)) k e in
-        let alike : (j : ℕ) → j < suc k → too-big 0 (flow-placed-nodes (v .1 .0) [] 1 0 []) j ≡ over-limit (map code (tokens text)) j =
-        λ j l. sym (limits-alike (tokens text) (v .1 .1) (v .1 .0) (suc k) j (v .1 .2) (v .0) l) in
-        refused-at 6 (place-of text (places text) k)
+        let v = big-viable keywords keywords-sound (ts text) proper k e in
+        let b = big-over-limit (ts text) k e in
+        let alike : (j : ℕ) → j < suc k → too-big (v .1 .0) j ≡ over-limit (ts text) j =
+        λ j l. sym (limits-alike (ts text) (v .1 .1) (v .1 .0) (suc k) j (v .1 .2) (v .0) l) in
+        refused-at 6 (place-of text k)
         (by-limit refl
         record {
           clean = h;
           token = k;
-          inside = v .0;
+          inside = omega (arith, many text, v .0);
           tree = v .1 .0;
           rest = v .1 .1;
           viable = v .1 .2;
@@ -300,7 +302,7 @@ refused-exactly text c at = (λ e. go (fate text) e, λ t. ap (λ (o : ReadResul
 
 -- "its diagram is the one derived": there is no other.
 pub accepted-once : (text : List ℕ) (d e : Flow) → Accepted text d → Accepted text e → d ≡ e
-accepted-once text d e a b = derived-once (tokens text) d e (a .derived) (b .derived)
+accepted-once text d e a b = derived-once keywords (text-tokens keywords text) d e (a .derived) (b .derived)
 
 -- A text is turned away with one number at one place,
 pub refused-at-once : (text : List ℕ) (n p m q : ℕ) → RefusedAt text n p → RefusedAt text m q → (n ≡ m) × (p ≡ q)

@@ -15,9 +15,8 @@ use Rattle.tokens.specs.Spans.{Span, spans-of, tokens, places}
 use Rattle.tokens.specs.Scanned.{first-foreign, first-long, scan-of}
 use Rattle.tokens.specs.declared.Scan.{Scan}
 use Rattle.tokens.specs.declared.Scan.the-variants.{Tokens, Refused}
-use Rattle.tokens.proofs.Foreign.{foreign-along}
+use Rattle.tokens.proofs.Foreign.{usual, foreign-along}
 use Rattle.tokens.proofs.Spans.{no-span, tokens-length, token-at, place-at, places-below}
-use Rattle.grammar.proofs.Rendered.{usual}
 use Rattle.reading.specs.Refused.{Long, Foreign, Usual, Wordy, Clean}
 
 -- The first number of a list that fails a test.

@@ -1,7 +1,7 @@
 -- What the rules answer for the nodes of a tree, by the tree.
 use mathlib.Core.Path.{_≡_, sym, _∙_}
 use mathlib.Core.Logic.{_⊎_, inl, inr, ⊎-elim}
-use mathlib.Core.Bool.{or-true, false, _||_, cond}
+use mathlib.Core.Bool.{or-true, _||_, cond}
 use mathlib.Core.List.{List, []}
 use Prim.Native.Nat.{ℕ, _≤_, _<_}
 use native.Mathlib.Omega.{arith}
@@ -9,14 +9,15 @@ use lib.Dec.{ltb}
 use borrow.Author.Tests.{lt-ltb, le-ltb, ltb-true, ltb-false}
 use Rattle.diagram.specs.Tree.{Flow}
 use Rattle.diagram.specs.Count.{flow-copies, flow-events}
+use Rattle.diagram.specs.TreeNodes.{own, nodes-by}
 use Rattle.base.proofs.Truth.{cases}
+use Rattle.grammar.specs.Keys.{keyword-at, name-at}
 use Rattle.rules.specs.Counted.{capped}
 use Rattle.rules.specs.Judged.{refuse, counted, verdict}
-use Rattle.rules.specs.PlacedNodes.{PlacedNode, flow-placed-nodes, first-twice, first-broken}
+use Rattle.rules.specs.Broken.{first-twice, parameters-fit, solids-fit, strongs-fit, first-broken}
 use Rattle.rules.specs.Found.{Found}
 use Rattle.rules.specs.declared.Verdict.{Verdict}
 use Rattle.rules.specs.declared.Verdict.the-variants.{Kept, Refused}
-use Rattle.rules.proofs.Trees.{flow-token-nodes}
 use Rattle.rules.proofs.NamesPlaced.{names-placed}
 use Rattle.rules.proofs.ParametersPlaced.{parameters-placed}
 use Rattle.rules.proofs.SolidsPlaced.{solids-placed}
@@ -24,31 +25,28 @@ use Rattle.rules.proofs.StrongsPlaced.{strongs-placed}
 use Rattle.rules.proofs.Totals.{copies-counted, events-counted}
 
 -- Where each rule is broken first.
-abbrev pub placed-nodes : Flow → List PlacedNode
-placed-nodes d = flow-placed-nodes d [] 1 0 []
-
 abbrev pub twice : Flow → Found
-twice d = first-twice [] (placed-nodes d)
+twice d = first-twice [] (nodes-by (λ h. h) d)
 
 abbrev pub misplaced : Flow → Found
-misplaced d = first-broken (λ s. s .parameters) (placed-nodes d)
+misplaced d = first-broken parameters-fit (nodes-by (λ h. h) d)
 
 abbrev pub unsolid : Flow → Found
-unsolid d = first-broken (λ s. s .solids) (placed-nodes d)
+unsolid d = first-broken solids-fit (nodes-by (λ h. h) d)
 
 abbrev pub weak : Flow → Found
-weak d = first-broken (λ s. s .strongs) (placed-nodes d)
+weak d = first-broken strongs-fit (nodes-by (λ h. h) d)
 
 abbrev pub tree-verdict : List ℕ → Flow → Verdict
-tree-verdict places d =
-    refuse 7 2 places (twice d)
-    (refuse 8 0 places (misplaced d)
-    (refuse 9 0 places (unsolid d)
-    (refuse 10 0 places (weak d) (counted (capped (flow-copies d)) (capped (flow-events d))))))
+tree-verdict text d =
+    refuse 7 (name-at text) (twice d)
+    (refuse 8 (keyword-at text) (misplaced d)
+    (refuse 9 (keyword-at text) (unsolid d)
+    (refuse 10 (keyword-at text) (weak d) (counted (capped (flow-copies d)) (capped (flow-events d))))))
 
-pub tree-judged : (places : List ℕ) (d : Flow) → verdict places (flow-token-nodes d false 1 0 []) ≡ tree-verdict places d
+pub tree-judged : (text : List ℕ) (d : Flow) → verdict text (nodes-by own d) ≡ tree-verdict text d
 unfolding verdict
-tree-judged places d =
+tree-judged text d =
     rw (names-placed d, parameters-placed d, solids-placed d, strongs-placed d, copies-counted d, events-counted d)
 
 -- A count over the cap is over every limit up to it.

@@ -4,14 +4,14 @@
 -- `reading.proofs.Exact.accepted-exactly` and `reading.proofs.Exact.refused-exactly`.
 use mathlib.Core.List.{List}
 use Prim.Native.Nat.{ℕ}
-use lib.ListN.{length, getD}
+use lib.ListN.{replicate}
 use Rattle.diagram.specs.Stored.{blank-diagram}
-use Rattle.tokens.specs.Spans.{codes, places}
+use Rattle.diagram.specs.TreeNodes.{TextNode}
 use Rattle.tokens.specs.Scanned.{scan-of}
 use Rattle.tokens.specs.declared.Scan.{Scan}
 use Rattle.tokens.specs.declared.Scan.the-variants.{Tokens, Refused as Unscanned}
-use Rattle.grammar.specs.Machine.{Outcome, whole, stop, outcome}
-use Rattle.rules.specs.TokenNodes.{TokenNode, token-nodes, name-in}
+use Rattle.walked.specs.Walk.{End, whole, stop, ending}
+use Rattle.walked.specs.Rows.{row-nodes}
 use Rattle.rules.specs.Judged.{verdict}
 use Rattle.rules.specs.declared.Verdict.{Verdict}
 use Rattle.rules.specs.declared.Verdict.the-variants.{Kept, Refused as Unkept}
@@ -27,25 +27,25 @@ no-diagram a = record { answer = a; diagram = blank-diagram }
 abbrev pub refused : ℕ → ℕ → ReadResult
 refused number place = no-diagram (Refused number place)
 
--- The place of a token, or the text's length where the text ends.
-abbrev pub place-of : List ℕ → List ℕ → ℕ → ℕ
-place-of text places k = getD places k (length text)
-
 -- Numbers 7 to 11, and the diagram.
-abbrev pub judged : List ℕ → List TokenNode → Verdict → ReadResult
-judged places hs (Unkept number place) = refused number place
-judged places hs (Kept copies events) = record { answer = Done; diagram = stored places hs copies events }
+abbrev pub judged : List ℕ → List TextNode → Verdict → ReadResult
+judged text hs (Unkept number place) = refused number place
+judged text hs (Kept copies events) = record { answer = Done; diagram = stored text hs copies events }
+
+-- The nodes by the rows that the walk leaves.
+abbrev pub judged-nodes : List ℕ → List TextNode → ReadResult
+judged-nodes text hs = judged text hs (verdict text hs)
 
 -- Numbers 5 and 6, and those after them.
-abbrev pub parsed : List ℕ → List ℕ → List TokenNode → Outcome → ReadResult
-parsed text places hs (stop number k) = refused number (place-of text places k)
-parsed text places hs (whole n) = judged places hs (verdict places hs)
+abbrev pub parsed : List ℕ → End → ReadResult
+parsed text (stop number place) = refused number place
+parsed text (whole n st) = judged-nodes text (row-nodes text (st .rows) 0 n)
 
--- Numbers 2 to 4, and those after them.
-abbrev pub scanned : List ℕ → List ℕ → List ℕ → Scan → ReadResult
-scanned text codes places (Unscanned number place) = refused number place
-scanned text codes places (Tokens n) = parsed text places (token-nodes (name-in text places) 0 0 codes) (outcome codes)
+-- Numbers 2 to 4, and those after them. The walk begins with rows that are all zero.
+abbrev pub scanned : List ℕ → Scan → ReadResult
+scanned text (Unscanned number place) = refused number place
+scanned text (Tokens n) = parsed text (ending text (replicate 2056 0))
 
 -- What reading a text answers.
 unfoldable pub read-of : List ℕ → ReadResult
-read-of text = scanned text (codes text) (places text) (scan-of text)
+read-of text = scanned text (scan-of text)

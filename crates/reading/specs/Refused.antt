@@ -3,20 +3,27 @@ use mathlib.Core.Path.{_≡_}
 use mathlib.Core.Logic.{_⊎_}
 use mathlib.Core.Bool.{Bool, true, false}
 use mathlib.Core.List.{List, [], _++_}
-use Prim.Native.Nat.{ℕ, suc, _+_, _≤_, _<_}
+use Prim.Native.Nat.{ℕ, suc, _≤_, _<_}
 use lib.ListN.{length, getD, take}
-use Rattle.diagram.specs.Tree.{Name, Flow}
+use Rattle.diagram.specs.Tree.{Flow}
 use Rattle.diagram.specs.Count.{flow-nodes, flow-copies, flow-events}
 use Rattle.diagram.specs.Depth.{flow-depth}
 use Rattle.diagram.specs.Names.{flow-names, differ}
 use Rattle.diagram.specs.Parameters.{flow-parameters}
 use Rattle.diagram.specs.Flows.{each-flow, solid, strong}
 use Rattle.tokens.specs.Classes.{foreign}
+use Rattle.diagram.specs.TreeNodes.{TreeNode, nodes-by}
+use Rattle.tokens.specs.Words.{keywords}
 use Rattle.tokens.specs.Spans.{tokens, places}
+use Rattle.tokens.specs.Token.{Token, text-tokens}
 use Rattle.grammar.specs.Derives.{Derives, Viable}
-use Rattle.rules.specs.PlacedNodes.{PlacedNode, flow-placed-nodes, too-big, first-twice, first-broken}
+use Rattle.grammar.specs.Keys.{keyword-at, name-at}
+use Rattle.rules.specs.Broken.{too-big, first-twice, parameters-fit, solids-fit, strongs-fit, first-broken}
 use Rattle.rules.specs.Found.{At}
-use Rattle.reading.specs.Answers.{place-of}
+
+-- The place of a token, or the text's length where the text ends.
+abbrev pub place-of : List ℕ → ℕ → ℕ
+place-of text k = getD (places text) k (length text)
 
 -- 2: "text over 16,384 bytes", at 16,384.
 pub record Long (text : List ℕ) (at : ℕ) : Type 0 where
@@ -57,12 +64,12 @@ pub record Off (text : List ℕ) (at : ℕ) : Type 0 where
   pub token : ℕ
   pub inside : token ≤ length (tokens text)
   pub tree : Flow
-  pub rest : List Name
-  pub before : Derives (take token (tokens text) ++ rest) tree
-  pub here : token < length (tokens text) → Viable (take (suc token) (tokens text)) → ⊥
-  pub early : token ≡ length (tokens text) → (d : Flow) → Derives (tokens text) d → ⊥
-  pub small : (j : ℕ) → j < token → too-big 0 (flow-placed-nodes tree [] 1 0 []) j ≡ false
-  pub place : at ≡ place-of text (places text) token
+  pub rest : List Token
+  pub before : Derives keywords (take token (text-tokens keywords text) ++ rest) tree
+  pub here : token < length (tokens text) → Viable keywords (take (suc token) (text-tokens keywords text)) → ⊥
+  pub early : token ≡ length (tokens text) → (d : Flow) → Derives keywords (text-tokens keywords text) d → ⊥
+  pub small : (j : ℕ) → j < token → too-big tree j ≡ false
+  pub place : at ≡ place-of text token
 
 -- 6: "node 257, or a node at depth 13", at "its keyword": that of a node of a tree which derives the tokens up to here, with some rest. They
 -- are not off grammar, then, and it is the first such token.
@@ -71,50 +78,50 @@ pub record Big (text : List ℕ) (at : ℕ) : Type 0 where
   pub token : ℕ
   pub inside : token < length (tokens text)
   pub tree : Flow
-  pub rest : List Name
-  pub viable : Derives (take (suc token) (tokens text) ++ rest) tree
-  pub here : too-big 0 (flow-placed-nodes tree [] 1 0 []) token ≡ true
-  pub first : (j : ℕ) → j < token → too-big 0 (flow-placed-nodes tree [] 1 0 []) j ≡ false
-  pub place : at ≡ place-of text (places text) token
+  pub rest : List Token
+  pub viable : Derives keywords (take (suc token) (text-tokens keywords text) ++ rest) tree
+  pub here : too-big tree token ≡ true
+  pub first : (j : ℕ) → j < token → too-big tree j ≡ false
+  pub place : at ≡ place-of text token
 
 -- The text is not refused for its tokens: a diagram of at most 256 nodes and 12 depths derives it.
 pub record Derived (text : List ℕ) (d : Flow) : Type 0 where
   pub size : length text ≤ 16384
-  pub derives : Derives (tokens text) d
+  pub derives : Derives keywords (text-tokens keywords text) d
   pub nodes : flow-nodes d ≤ 256
   pub depth : flow-depth d ≤ 12
 
--- 7: a name that "equals an earlier leaf or flow name", at "the first such name", two tokens after its node's keyword.
+-- 7: a name that "equals an earlier leaf or flow name", at "the first such name".
 pub record Twice (text : List ℕ) (at : ℕ) (d : Flow) : Type 0 where
   pub derived : Derived text d
-  pub token : ℕ
-  pub here : first-twice [] (flow-placed-nodes d [] 1 0 []) ≡ At token
-  pub place : at ≡ getD (places text) (token + 2) 0
+  pub node : ℕ
+  pub here : first-twice [] (nodes-by (λ h. h) d) ≡ At node
+  pub place : at ≡ name-at text node
 
 -- The first node that does not pass stands at this place, that of its keyword.
-pub record Breaks (text : List ℕ) (at : ℕ) (d : Flow) (kept : PlacedNode → Bool) : Type 0 where
+pub record Breaks (text : List ℕ) (at : ℕ) (d : Flow) (fit : TreeNode → Bool) : Type 0 where
   pub derived : Derived text d
-  pub token : ℕ
-  pub here : first-broken kept (flow-placed-nodes d [] 1 0 []) ≡ At token
-  pub place : at ≡ getD (places text) token 0
+  pub node : ℕ
+  pub here : first-broken fit (nodes-by (λ h. h) d) ≡ At node
+  pub place : at ≡ keyword-at text node
 
 -- 8: "a parameter rule broken", at the "keyword of the first such node".
 pub record Misplaced (text : List ℕ) (at : ℕ) (d : Flow) : Type 0 where
   pub names : differ (flow-names d []) ≡ true
-  pub broken : Breaks text at d (λ s. s .parameters)
+  pub broken : Breaks text at d parameters-fit
 
 -- 9: "solid child rule broken", at the "keyword of the first such flow".
 pub record Unsolid (text : List ℕ) (at : ℕ) (d : Flow) : Type 0 where
   pub names : differ (flow-names d []) ≡ true
   pub parameters : flow-parameters d [] ≡ true
-  pub broken : Breaks text at d (λ s. s .solids)
+  pub broken : Breaks text at d solids-fit
 
 -- 10: "sw 0", at the "keyword of the first such flow".
 pub record Weak (text : List ℕ) (at : ℕ) (d : Flow) : Type 0 where
   pub names : differ (flow-names d []) ≡ true
   pub parameters : flow-parameters d [] ≡ true
   pub solids : each-flow d solid ≡ true
-  pub broken : Breaks text at d (λ s. s .strongs)
+  pub broken : Breaks text at d strongs-fit
 
 -- 11: "over 768 node copies or 512 events", at 0.
 pub record Many (text : List ℕ) (at : ℕ) (d : Flow) : Type 0 where

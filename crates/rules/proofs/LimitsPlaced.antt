@@ -1,124 +1,160 @@
 -- Number 6 by the tokens is number 6 on the tree: it holds at the keyword of a node that is number 257 or later, or at depth 13 or more, and at
 -- no other token.
-use mathlib.Core.Path.{_≡_, refl, sym, _∙_, ap}
-use mathlib.Core.Logic.{⊎-elim}
-use mathlib.Core.Bool.{Bool, true, false, _||_, cond}
-use mathlib.Core.List.{List, [], _∷_, map}
-use Prim.Native.Nat.{ℕ, zero, suc, _+_, _<_}
+use mathlib.Core.Path.{_≡_, refl, _∙_, ap}
+use mathlib.Core.Bool.{Bool, true, false, _&&_, _||_, cond}
+use mathlib.Core.List.{List, [], _∷_, _++_}
+use Prim.Native.Nat.{ℕ, zero, suc, _+_}
 use native.Mathlib.Nat.{add-zero, zero-add}
-use native.Mathlib.Numerals.{add-one}
 use native.Mathlib.Omega.{arith}
-use lib.Dec.{eqb, leb}
-use lib.ListN.{getD}
-use borrow.Author.Tests.{eq-eqb, ne-eqb, eqb-true}
-use Rattle.diagram.specs.Tree.{Name, Flow, flow}
-use Rattle.base.proofs.Truth.{cases}
-use Rattle.tokens.specs.Words.{code}
-use Rattle.grammar.specs.Tokens.{flow-tokens}
-use Rattle.grammar.specs.Derives.{Grammatical}
-use Rattle.grammar.proofs.Limits.{over-limit}
-use Rattle.grammar.specs.Machine.{keyed}
-use Rattle.grammar.proofs.LimitedFrom.{keys, opens, closes, flat, keyed-at-least, Balanced, big-in, big-here, big-later, big-nil, over-limit-in}
+use lib.Dec.{leb}
+use lib.ListN.{length, getD, take}
+use Rattle.diagram.specs.Tree.{Name, Flow, flow, Children, none, next, Child, plain, loop, group, replicator, Member, leaf, inner, Members, end, also}
+use Rattle.diagram.specs.TreeNodes.{TreeNode, flow-tree-nodes, children-tree-nodes, child-tree-nodes, member-tree-nodes, members-tree-nodes}
+use Rattle.tokens.specs.Token.{opening, closing, comma, Keyword, Token, sign, key, name, other}
+use Rattle.grammar.specs.Tokens.{bit, pars-tokens, ref-tokens, flow-tokens, children-tokens, child-tokens, member-tokens, members-tokens}
+use Rattle.grammar.specs.Machine.{is-sign, is-key}
+use Rattle.grammar.specs.Keys.{keys-from}
+use Rattle.grammar.proofs.Limits.{count-of, nodes-in, over-limit}
+use Rattle.grammar.proofs.LimitedFrom.{keys, opens, closes, Balanced, big-in, big-here, big-later, big-nil, over-limit-in}
 use Rattle.grammar.proofs.LimitedTrees.{tree-level}
-use Rattle.rules.specs.TokenNodes.{TokenNode, token-node, token-nodes, opened}
-use Rattle.rules.specs.PlacedNodes.{PlacedNode, too-big, flow-placed-nodes, flow-placed-node}
-use Rattle.rules.proofs.NodesRead.{tree-token-nodes}
-use Rattle.rules.proofs.NamesAlong.{flow-token-node, flow-key, Kinds, along}
+use Rattle.rules.specs.Broken.{depths-of, node-over, too-big}
 
--- The same along the nodes as the tokens tell them.
-abbrev big-token-node : ℕ → List TokenNode → ℕ → Bool
-big-token-node n [] t = false
-big-token-node n (h ∷ hs) t = cond (eqb (h .key) t) (leb 257 (suc n) || leb 13 (h .depth)) (big-token-node (suc n) hs t)
+-- The parentheses open after a token, where p are open before it.
+abbrev one-less : ℕ → ℕ
+one-less zero = zero
+one-less (suc p) = p
 
--- The parentheses open after a token.
-opened-as : (c p r : ℕ) → r + closes c ≡ p + opens c → r ≡ opened p c
-opened-as c p r e = ⊎-elim opening (λ q. ⊎-elim (closing q) (neither q) (cases (eqb c 2))) (cases (eqb c 1))
+abbrev more-open : ℕ → Token → ℕ
+more-open p t = cond (is-sign opening t) (suc p) p
+
+abbrev open-after : ℕ → Token → ℕ
+open-after p t = cond (is-sign closing t) (one-less (more-open p t)) (more-open p t)
+
+open-as : (t : Token) (p r : ℕ) → r + closes t ≡ p + opens t → r ≡ open-after p t
+open-as t p r = go (is-sign opening t) (is-sign closing t)
   where
-    opening : eqb c 1 ≡ true → r ≡ opened p c
-    opening q =
-        let z = eqb-true c 1 q in
-        let h : r + 0 ≡ p + 1 = rw (q, ne-eqb c 2 (λ y. omega arith)) at e in
-        rw q (omega arith)
+    go : (o z : Bool) → r + cond z 1 0 ≡ p + cond o 1 0 → r ≡ cond z (one-less (cond o (suc p) p)) (cond o (suc p) p)
+    go true true e = omega arith
+    go true false e = omega arith
+    go false true e = let z : p ≡ suc r = omega arith in rw z
+    go false false e = omega arith
 
-    closing : eqb c 1 ≡ false → eqb c 2 ≡ true → r ≡ opened p c
-    closing q y = let h : r + 1 ≡ p + 0 = rw (q, y) at e in rw (q, y) (omega arith)
+-- The depths of the nodes that begin among these tokens, where p parentheses are open before them.
+abbrev key-depths : ℕ → List Token → List ℕ
+key-depths p [] = []
+key-depths p (t ∷ ts) = cond (is-key t) (suc p ∷ []) [] ++ key-depths (open-after p t) ts
 
-    neither : eqb c 1 ≡ false → eqb c 2 ≡ false → r ≡ opened p c
-    neither q y = let h : r + 0 ≡ p + 0 = rw (q, y) at e in rw (q, y) (omega arith)
+-- Number 6 at the token k: whether it is a keyword, how many nodes stand before it, and how deep its node is.
+abbrev big : Bool → ℕ → ℕ → Bool
+big x n d = x && (leb 257 (suc n) || leb 13 d)
 
-module _ (nm : ℕ → Name) where
-  -- A token before these is none of their keywords.
-  earlier : (cs : List ℕ) (n p k t : ℕ) → t < k → big-token-node n (token-nodes nm p k cs) t ≡ false
-  unfolding token-nodes token-node
-  earlier [] n p k t l = refl
-  earlier (c ∷ cs) n p k t l =
-      ⊎-elim (λ q. rw (q, ne-eqb k t (λ e. omega arith)) (earlier cs (suc n) p (suc k) t (omega arith)))
-      (λ q. rw q (earlier cs n (opened p c) (suc k) t (omega arith)))
-      (cases (keyed c))
+abbrev big-by : ℕ → List ℕ → List Token → ℕ → Bool
+big-by n ds ts k = big (is-key (getD ts k other)) (n + nodes-in (take k ts)) (getD ds (nodes-in (take k ts)) 0)
 
-  -- A keyword, and any other token, in front of the tokens cs, of which the law is known.
-  module _ (c : ℕ) (cs : List ℕ) (n p k r : ℕ) (e : r + closes c ≡ p + opens c) where
-    abbrev Law : ℕ → Type 0
-    Law j = big-in n p (c ∷ cs) j ≡ big-token-node n (token-nodes nm p k (c ∷ cs)) (k + j)
+by-depths : (ts : List Token) (n p : ℕ) → Balanced p ts → (k : ℕ) → big-in n p ts k ≡ big-by n (key-depths p ts) ts k
+unfolding count-of
+by-depths [] n p b k = big-nil n p k
+by-depths (t ∷ ts) n p b zero = big-here n p t ts ∙ go (is-key t) (key-depths (open-after p t) ts)
+  where
+    go : (x : Bool) (ds : List ℕ) → big x n (suc p) ≡ big x (n + 0) (getD (cond x (suc p ∷ []) [] ++ ds) 0 0)
+    go true ds = rw (add-zero n)
+    go false ds = refl
+by-depths (t ∷ ts) n p b (suc k) =
+    big-later n p (b .0) t ts k (b .1)
+    ∙ (by-depths ts (n + keys t) (b .0) (b .2) k ∙ rw (← open-as t p (b .0) (b .1)) (go (is-key t) (nodes-in (take k ts)) (key-depths (b .0) ts)))
+  where
+    go : (x : Bool) (j : ℕ) (ds : List ℕ) → big (is-key (getD ts k other)) (n + cond x 1 0 + j) (getD ds j 0)
+        ≡ big (is-key (getD ts k other)) (n + cond x (suc j) j) (getD (cond x (suc p ∷ []) [] ++ ds) (cond x (suc j) j) 0)
+    go true j ds = let e : n + 1 + j ≡ n + suc j = omega arith in rw e
+    go false j ds = rw (add-zero n)
 
-    keyword : keyed c ≡ true → ((j : ℕ) → big-in (suc n) p cs j ≡ big-token-node (suc n) (token-nodes nm p (suc k) cs) (suc k + j)) → (j : ℕ) → Law j
-    unfolding token-nodes token-node
-    keyword q on zero = big-here n p c cs ∙ rw (q, eq-eqb k (k + 0) (omega arith))
-    keyword q on (suc j) =
-        let l = keyed-at-least c q in
-        let f = flat c p (omega arith) in
-        let z : n + keys c ≡ suc n = rw q (add-one n) in
-        let m : suc k + j ≡ k + suc j = omega arith in
-        big-later n p p c cs j f ∙ rw (z, q, ne-eqb k (k + suc j) (λ y. omega arith), ← m) (on j)
+-- The keywords, counted.
+keys-counted : (ts : List Token) (k : ℕ) → length (keys-from k ts) ≡ nodes-in ts
+unfolding keys-from count-of
+keys-counted [] k = refl
+keys-counted (t ∷ ts) k = rw (← keys-counted ts (suc k)) (go (is-key t) (keys-from (suc k) ts))
+  where
+    go : (x : Bool) (js : List ℕ) → length (cond x (k ∷ js) js) ≡ cond x (suc (length js)) (length js)
+    go true js = refl
+    go false js = refl
 
-    other : keyed c ≡ false → ((j : ℕ) → big-in n r cs j ≡ big-token-node n (token-nodes nm r (suc k) cs) (suc k + j)) → (j : ℕ) → Law j
-    unfolding token-nodes
-    other q on zero = big-here n p c cs ∙ rw q (sym (earlier cs n (opened p c) (suc k) (k + 0) (omega arith)))
-    other q on (suc j) =
-        let z : n + keys c ≡ n = rw q (add-zero n) in
-        let m : suc k + j ≡ k + suc j = omega arith in
-        big-later n p r c cs j e ∙ rw (z, q, ← opened-as c p r e, ← m) (on j)
+-- These tokens, before which p parentheses are open, begin nodes at these depths.
+record Deep (p : ℕ) (ts : List Token) (ns : List ℕ) : Type 0 where
+  law : key-depths p ts ≡ ns
 
-  walked : (cs : List ℕ) (n p k : ℕ) → Balanced p cs → (j : ℕ) → big-in n p cs j ≡ big-token-node n (token-nodes nm p k cs) (k + j)
-  unfolding token-nodes
-  walked [] n p k b j = big-nil n p j
-  walked (c ∷ cs) n p k b j =
-      ⊎-elim (λ q. keyword c cs n p k (b .0) (b .1) q (walked cs (suc n) p (suc k) (same-level q)) j)
-      (λ q. other c cs n p k (b .0) (b .1) q (walked cs n (b .0) (suc k) (b .2)) j)
-      (cases (keyed c))
-    where
-      same-level : keyed c ≡ true → Balanced p cs
-      same-level q = let l = keyed-at-least c q in let f = flat c p (omega arith) in let z : b .0 ≡ p = omega arith in rw z at (b .2)
+module _ {p : ℕ} {ts : List Token} {ns : List ℕ} where
+  deep-node : (k : Keyword) → Deep (suc p) ts ns → Deep p (key k ∷ sign opening ∷ ts) (suc p ∷ ns)
+  deep-node k s = record { law = ap (λ (l : List ℕ). suc p ∷ l) (s .law) }
 
--- The nodes of a tree by its tokens and its placed nodes stand at the same tokens and depths.
-Placed : List TokenNode → List PlacedNode → Type 0
-Placed hs ss = (n t : ℕ) → big-token-node n hs t ≡ too-big n ss t
+  deep-close : Deep p ts ns → Deep (suc p) (sign closing ∷ ts) ns
+  deep-close s = record { law = s .law }
 
-placed-none : Placed [] []
-unfolding Placed too-big
-placed-none n t = refl
+  deep-bit : (b : Bool) → Deep p ts ns → Deep p (bit b ∷ ts) ns
+  deep-bit false s = record { law = s .law }
+  deep-bit true s = record { law = s .law }
 
-placed-node : (h : TokenNode) (s : PlacedNode) (hs : List TokenNode) (ss : List PlacedNode) → h .key ≡ s .key → h .depth ≡ s .depth → Placed hs ss
-    → Placed (h ∷ hs) (s ∷ ss)
-unfolding Placed too-big
-placed-node h s hs ss e i p n t = rw (e, i, p (suc n) t)
+  deep-pars : (ps : List Name) → Deep p ts ns → Deep p (pars-tokens ps ts) ns
+  deep-pars [] s = s
+  deep-pars (q ∷ ps) s = record { law = deep-pars ps s .law }
 
-flow-level : (f : Flow) (b : Bool) (d k : ℕ) (around : List Name) → flow-token-node f b d k .depth ≡ flow-placed-node f around d k .depth
-flow-level (flow n ps sw c r cs) b d k around = refl
+deep-ref : (r : Bool) {p : ℕ} {ts : List Token} {ns : List ℕ} → Deep p ts ns → Deep p (ref-tokens r ts) ns
+deep-ref r s = record { law = deep-bit r (deep-close s) .law }
 
-placed-kinds : Kinds Placed
-placed-kinds = record {
-  empty = placed-none;
-  at-leaf = λ n b ok d k hs ss. placed-node _ _ hs ss refl refl;
-  at-untitled = λ h ok hs ss t. placed-node h _ hs ss refl refl;
-  at-flow = λ f b d k around hs ss e. placed-node _ _ _ ss (flow-key f b d k around) (flow-level f b d k around);
-}
+-- A flow up to its first child.
+deep-flow : (n : Name) (ps : List Name) (sw : Bool) {p : ℕ} {ts : List Token} {ns : List ℕ} → Deep (suc p) ts ns
+    → Deep p (key Keyword.flow ∷ sign opening ∷ name n ∷ pars-tokens ps (sign comma ∷ bit sw ∷ sign closing ∷ sign opening ∷ ts)) (suc p ∷ ns)
+deep-flow n ps sw {p} {ts} {ns} s =
+    let a : Deep (suc p) (sign closing ∷ sign opening ∷ ts) ns = record { law = s .law } in
+    let b : Deep (suc p) (sign comma ∷ bit sw ∷ sign closing ∷ sign opening ∷ ts) ns = record { law = deep-bit sw a .law } in
+    deep-node Keyword.flow (record { law = deep-pars ps b .law })
 
-pub limits-placed : (d : Flow) → Grammatical d → (t : ℕ) → over-limit (map code (flow-tokens d [])) t ≡ too-big 0 (flow-placed-nodes d [] 1 0 []) t
-unfolding Placed
-limits-placed d g t =
-    let ts = flow-tokens d [] in
-    let nm : ℕ → Name = λ j. getD ts j [] in
-    let h = tree-token-nodes d g nm (λ j e. ap nm (zero-add j)) in
-    over-limit-in (map code ts) t
-    ∙ (walked nm (map code ts) 0 0 0 (tree-level d g) t ∙ (rw (h, zero-add t) (along Placed placed-kinds d 0 t)))
+abbrev depth-of : TreeNode → ℕ
+depth-of h = h .own .depth
+
+mutual
+  unfolding flow-tokens flow-tree-nodes
+
+  flow-deep : (f : Flow) (around : List Name) (b : Bool) (p i : ℕ) {ts : List Token} {ns : List ℕ} → Deep p ts ns
+      → Deep p (flow-tokens f ts) (flow-tree-nodes depth-of f around b (suc p) i ns)
+  flow-deep (flow n ps sw c r cs) around b p i s =
+      deep-flow n ps sw (child-deep c around r (suc p) _ (deep-ref r (children-deep cs around (suc p) _ (deep-close s))))
+
+  children-deep : (cs : Children) (around : List Name) (p i : ℕ) {ts : List Token} {ns : List ℕ} → Deep p ts ns
+      → Deep p (children-tokens cs ts) (children-tree-nodes depth-of cs around (suc p) i ns)
+  children-deep none around p i s = s
+  children-deep (next c r cs) around p i s = child-deep c around r p i (deep-ref r (children-deep cs around p _ s))
+
+  child-deep : (c : Child) (around : List Name) (b : Bool) (p i : ℕ) {ts : List Token} {ns : List ℕ} → Deep p ts ns
+      → Deep p (child-tokens c ts) (child-tree-nodes depth-of c around b (suc p) i ns)
+  child-deep (plain m) around b p i s = member-deep m around b p i s
+  child-deep (loop m) around b p i s = deep-node Keyword.loop (member-deep m around false (suc p) _ (deep-close s))
+  child-deep (group y a e ms) around b p i s =
+      deep-node (Keyword.group y)
+      (member-deep a around false (suc p) _ (member-deep e around false (suc p) _ (members-deep ms around (suc p) _ (deep-close s))))
+  child-deep (replicator y par size m) around b p i s =
+      let inside = member-deep m (around ++ (par ∷ [])) false (suc p) (suc i) (deep-close s) in
+      deep-node (Keyword.replicator y) (record { law = inside .law })
+
+  member-deep : (m : Member) (around : List Name) (b : Bool) (p i : ℕ) {ts : List Token} {ns : List ℕ} → Deep p ts ns
+      → Deep p (member-tokens m ts) (member-tree-nodes depth-of m around b (suc p) i ns)
+  member-deep (leaf n) around b p i s = deep-node Keyword.leaf (record { law = s .law })
+  member-deep (inner f) around b p i s = flow-deep f around b p i s
+
+  members-deep : (ms : Members) (around : List Name) (p i : ℕ) {ts : List Token} {ns : List ℕ} → Deep p ts ns
+      → Deep p (members-tokens ms ts) (members-tree-nodes depth-of ms around (suc p) i ns)
+  members-deep end around p i s = s
+  members-deep (also m ms) around p i s = member-deep m around false p i (members-deep ms around p _ s)
+
+tree-depths : (d : Flow) → key-depths 0 (flow-tokens d []) ≡ depths-of d
+tree-depths d = flow-deep d [] false 0 0 (record { law = refl }) .law
+
+by-nodes : (d : Flow) (t : ℕ)
+    → big-by 0 (key-depths 0 (flow-tokens d [])) (flow-tokens d []) t
+    ≡ (is-key (getD (flow-tokens d []) t other) && node-over d (length (keys-from 0 (take t (flow-tokens d [])))))
+by-nodes d t =
+    let us = take t (flow-tokens d []) in
+    rw (zero-add (nodes-in us), tree-depths d, keys-counted us 0)
+
+pub limits-placed : (d : Flow) (t : ℕ) → over-limit (flow-tokens d []) t ≡ too-big d t
+unfolding too-big
+limits-placed d t = over-limit-in (flow-tokens d []) t ∙ (by-depths (flow-tokens d []) 0 0 (tree-level d) t ∙ by-nodes d t)

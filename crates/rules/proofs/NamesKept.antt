@@ -1,36 +1,20 @@
 -- Number 7 stands nowhere just where the names all differ.
-use mathlib.Core.Path.{_≡_, refl, sym, ap, _∙_}
+use mathlib.Core.Path.{_≡_, refl, sym}
 use mathlib.Core.Logic.{_↔_}
-use mathlib.Core.Bool.{Bool, true, false, not, _&&_, cond, and-true, and-assoc, and-comm, false≢true}
+use mathlib.Core.Bool.{Bool, true, false, not, _&&_, cond, and-true, and-assoc, and-comm}
 use mathlib.Core.List.{List, [], _∷_, _++_}
 use Prim.Native.Nat.{ℕ, suc}
 use Rattle.diagram.specs.Tree.{Name, Flow, flow, Children, none, next, Child, plain, loop, group, replicator, Member, leaf, inner, Members, end, also}
 use Rattle.diagram.specs.Names.{same, new, differ, flow-names, children-names, child-names, member-names, members-names}
+use Rattle.diagram.specs.TreeNodes.{TextNode, own, titled, nodes-by, flow-tree-nodes, children-tree-nodes, child-tree-nodes, member-tree-nodes, members-tree-nodes}
 use Rattle.base.proofs.Truth.{agree}
 use Rattle.base.proofs.Decided.{same-decides}
-use Rattle.rules.specs.TokenNodes.{TokenNode}
-use Rattle.rules.specs.Kept.{titled, names-kept, fault}
-use Rattle.rules.specs.PlacedNodes.{all-new, first-twice, flow-placed-nodes}
-use Rattle.rules.specs.Found.{Found, At, Nothing}
-use Rattle.rules.proofs.Trees.{group-code, simple, flow-token-nodes, children-token-nodes, child-token-nodes, member-token-nodes, members-token-nodes}
-use Rattle.rules.proofs.NamesAlong.{flow-token-node, group-untitled, replicator-token-node, replicator-untitled}
+use Rattle.rules.specs.Kept.{names-kept, fault}
+use Rattle.rules.specs.Broken.{all-new, first-twice}
+use Rattle.rules.specs.Found.{Nothing}
+use Rattle.rules.proofs.GroupKinds.{group-titled, replicator-titled}
+use Rattle.rules.proofs.Clean.{clean, clean-cond, clean-iff}
 use Rattle.rules.proofs.NamesPlaced.{used, passes, names-placed}
-
--- Whether no node breaks a rule, as a test.
-abbrev clean : Found → Bool
-clean (At k) = false
-clean Nothing = true
-
-clean-cond : (t : Bool) (x : Found) (k : ℕ) → clean (cond t x (At k)) ≡ (t && clean x)
-clean-cond true x k = refl
-clean-cond false x k = refl
-
-clean-nothing : (x : Found) → clean x ≡ true → x ≡ Nothing
-clean-nothing (At k) e = absurd (false≢true e)
-clean-nothing Nothing e = refl
-
-clean-iff : (x : Found) (b : Bool) → clean x ≡ b → (x ≡ Nothing) ↔ (b ≡ true)
-clean-iff x b e = (λ h. sym e ∙ ap clean h, λ h. clean-nothing x (e ∙ h))
 
 -- The test of names does not mind their order.
 same-turned : (m n : Name) → same m n ≡ same n m
@@ -63,55 +47,58 @@ clean-step true n ns seen =
     (sym (and-assoc (new n seen) (all-new ns seen) (new n ns && differ ns)))
 clean-step false n ns seen = refl
 
-clean-names : (hs before : List TokenNode) → clean (fault names-kept before hs) ≡ (all-new (used hs) (used before) && differ (used hs))
+clean-names : (hs before : List TextNode) → clean (fault names-kept before hs) ≡ (all-new (used hs) (used before) && differ (used hs))
 unfolding fault
 clean-names [] before = refl
 clean-names (h ∷ hs) before =
-    rw (clean-cond (names-kept before h hs) (fault names-kept (h ∷ before) hs) (h .key), passes (h .name) (titled h) before, clean-names hs (h ∷ before))
-    (clean-step (titled h) (h .name) (used hs) (used before))
+    let t = titled (h .kind) in
+    rw (clean-cond (names-kept before h hs) (fault names-kept (h ∷ before) hs) (h .number), passes (h .name) t before, clean-names hs (h ∷ before))
+    (clean-step t (h .name) (used hs) (used before))
 
 -- The nodes' names are the tree's.
-record Says (hs : List TokenNode) (ns : List Name) : Type 0 where
+record Says (hs : List TextNode) (ns : List Name) : Type 0 where
   same-names : used hs ≡ ns
 
-says-own : (h : TokenNode) {hs : List TokenNode} {ns : List Name} → titled h ≡ true → Says hs ns → Says (h ∷ hs) (h .name ∷ ns)
-says-own h e s = record { same-names = rw (e, s .same-names) }
+says-titled : (h : TextNode) {hs : List TextNode} {ns : List Name} → titled (h .kind) ≡ true → Says hs ns → Says (h ∷ hs) (h .name ∷ ns)
+says-titled h e s = record { same-names = rw (e, s .same-names) }
 
-says-untitled : (h : TokenNode) {hs : List TokenNode} {ns : List Name} → titled h ≡ false → Says hs ns → Says (h ∷ hs) ns
+says-untitled : (h : TextNode) {hs : List TextNode} {ns : List Name} → titled (h .kind) ≡ false → Says hs ns → Says (h ∷ hs) ns
 says-untitled h e s = record { same-names = rw (e, s .same-names) }
 
 mutual
-  unfolding flow-token-nodes flow-names
+  unfolding flow-tree-nodes flow-names
 
-  flow-says : (f : Flow) (b : Bool) (d k : ℕ) {hs : List TokenNode} {ns : List Name} → Says hs ns → Says (flow-token-nodes f b d k hs) (flow-names f ns)
-  flow-says (flow n ps sw c r cs) b d k s =
-      says-own (flow-token-node (flow n ps sw c r cs) b d k) refl (child-says c r (suc d) _ (children-says cs (suc d) _ s))
+  flow-says : (f : Flow) (A : List Name) (b : Bool) (d i : ℕ) {hs : List TextNode} {ns : List Name} → Says hs ns
+      → Says (flow-tree-nodes own f A b d i hs) (flow-names f ns)
+  flow-says (flow n ps sw c r cs) A b d i s = says-titled _ refl (child-says c A r (suc d) _ (children-says cs A (suc d) _ s))
 
-  children-says : (cs : Children) (d k : ℕ) {hs : List TokenNode} {ns : List Name} → Says hs ns → Says (children-token-nodes cs d k hs) (children-names cs ns)
-  children-says none d k s = s
-  children-says (next c r cs) d k s = child-says c r d k (children-says cs d _ s)
+  children-says : (cs : Children) (A : List Name) (d i : ℕ) {hs : List TextNode} {ns : List Name} → Says hs ns
+      → Says (children-tree-nodes own cs A d i hs) (children-names cs ns)
+  children-says none A d i s = s
+  children-says (next c r cs) A d i s = child-says c A r d i (children-says cs A d _ s)
 
-  child-says : (c : Child) (b : Bool) (d k : ℕ) {hs : List TokenNode} {ns : List Name} → Says hs ns → Says (child-token-nodes c b d k hs) (child-names c ns)
-  child-says (plain m) b d k s = member-says m b d k s
-  child-says (loop m) b d k s = says-untitled (simple k d 15 [] b) refl (member-says m false (suc d) _ s)
-  child-says (group y a e ms) b d k s =
-      says-untitled (simple k d (group-code y) [] b) (group-untitled y k d b)
-      (member-says a false (suc d) _ (member-says e false (suc d) _ (members-says ms (suc d) _ s)))
-  child-says (replicator y par size m) b d k s =
-      says-untitled (replicator-token-node y par size b d k) (replicator-untitled y par size b d k) (member-says m false (suc d) _ s)
+  child-says : (c : Child) (A : List Name) (b : Bool) (d i : ℕ) {hs : List TextNode} {ns : List Name} → Says hs ns
+      → Says (child-tree-nodes own c A b d i hs) (child-names c ns)
+  child-says (plain m) A b d i s = member-says m A b d i s
+  child-says (loop m) A b d i s = says-untitled _ refl (member-says m A false (suc d) _ s)
+  child-says (group y a e ms) A b d i s =
+      says-untitled _ (group-titled y) (member-says a A false (suc d) _ (member-says e A false (suc d) _ (members-says ms A (suc d) _ s)))
+  child-says (replicator y par size m) A b d i s = says-untitled _ (replicator-titled y size) (member-says m (A ++ (par ∷ [])) false (suc d) _ s)
 
-  member-says : (m : Member) (b : Bool) (d k : ℕ) {hs : List TokenNode} {ns : List Name} → Says hs ns → Says (member-token-nodes m b d k hs) (member-names m ns)
-  member-says (leaf n) b d k s = says-own (simple k d 8 n b) refl s
-  member-says (inner f) b d k s = flow-says f b d k s
+  member-says : (m : Member) (A : List Name) (b : Bool) (d i : ℕ) {hs : List TextNode} {ns : List Name} → Says hs ns
+      → Says (member-tree-nodes own m A b d i hs) (member-names m ns)
+  member-says (leaf n) A b d i s = says-titled _ refl s
+  member-says (inner f) A b d i s = flow-says f A b d i s
 
-  members-says : (ms : Members) (d k : ℕ) {hs : List TokenNode} {ns : List Name} → Says hs ns → Says (members-token-nodes ms d k hs) (members-names ms ns)
-  members-says end d k s = s
-  members-says (also m ms) d k s = member-says m false d k (members-says ms d _ s)
+  members-says : (ms : Members) (A : List Name) (d i : ℕ) {hs : List TextNode} {ns : List Name} → Says hs ns
+      → Says (members-tree-nodes own ms A d i hs) (members-names ms ns)
+  members-says end A d i s = s
+  members-says (also m ms) A d i s = member-says m A false d i (members-says ms A d _ s)
 
-clean-flow : (d : Flow) → clean (fault names-kept [] (flow-token-nodes d false 1 0 [])) ≡ differ (flow-names d [])
+clean-flow : (d : Flow) → clean (fault names-kept [] (nodes-by own d)) ≡ differ (flow-names d [])
 clean-flow d =
-    let s : used (flow-token-nodes d false 1 0 []) ≡ flow-names d [] = flow-says d false 1 0 (record { same-names = refl }) .same-names in
-    rw (clean-names (flow-token-nodes d false 1 0 []) [], s, all-new-first (flow-names d []))
+    let s : used (nodes-by own d) ≡ flow-names d [] = flow-says d [] false 1 0 (record { same-names = refl }) .same-names in
+    rw (clean-names (nodes-by own d) [], s, all-new-first (flow-names d []))
 
-pub names-kept-iff : (d : Flow) → (first-twice [] (flow-placed-nodes d [] 1 0 []) ≡ Nothing) ↔ (differ (flow-names d []) ≡ true)
-names-kept-iff d = clean-iff (first-twice [] (flow-placed-nodes d [] 1 0 [])) (differ (flow-names d [])) (rw (names-placed d) at (clean-flow d))
+pub names-kept-iff : (d : Flow) → (first-twice [] (nodes-by (λ h. h) d) ≡ Nothing) ↔ (differ (flow-names d []) ≡ true)
+names-kept-iff d = clean-iff (first-twice [] (nodes-by (λ h. h) d)) (differ (flow-names d [])) (rw (names-placed d) at (clean-flow d))

@@ -1,84 +1,60 @@
 -- The parameter rules are kept just where no node breaks one.
-use mathlib.Core.Path.{_≡_, refl, sym, _∙_, ap}
+use mathlib.Core.Path.{_≡_, refl}
 use mathlib.Core.Logic.{_↔_}
-use mathlib.Core.Bool.{Bool, true, false, false≢true, _&&_, and-true, and-assoc, cond}
+use mathlib.Core.Bool.{Bool, true, false, _&&_, and-true}
 use mathlib.Core.List.{List, [], _∷_, _++_}
 use Prim.Native.Nat.{ℕ, suc}
 use Rattle.diagram.specs.Tree.{Name, Flow, flow, Children, none, next, Child, plain, loop, group, replicator, Member, leaf, inner, Members, end, also}
-use Rattle.diagram.specs.Parameters.{flow-parameters, children-parameters, child-parameters, member-parameters, members-parameters}
-use Rattle.rules.specs.PlacedNodes.{PlacedNode, flow-placed-nodes, children-placed-nodes, child-placed-nodes, member-placed-nodes, members-placed-nodes, first-broken}
-use Rattle.rules.specs.Found.{Found, At, Nothing}
+use Rattle.diagram.specs.Names.{new}
+use Rattle.diagram.specs.Parameters.{surrounded, flow-parameters, children-parameters, child-parameters, member-parameters, members-parameters}
+use Rattle.diagram.specs.TreeNodes.{TreeNode, copying, flowing, nodes-by, flow-tree-nodes, children-tree-nodes, child-tree-nodes, member-tree-nodes, members-tree-nodes}
+use Rattle.rules.specs.Broken.{parameters-fit, first-broken}
+use Rattle.rules.specs.Found.{Nothing}
+use Rattle.rules.proofs.Clean.{Passes, passes-none, passes-then, passes-node, passes-iff}
+use Rattle.rules.proofs.GroupKinds.{group-copies, replicator-copies, group-flows, replicator-flows}
 
--- Every node passes.
-abbrev pub every : (PlacedNode → Bool) → List PlacedNode → Bool
-every pass [] = true
-every pass (s ∷ ss) = pass s && every pass ss
+abbrev Fits : (List TreeNode → List TreeNode) → Bool → Type 0
+Fits = Passes parameters-fit
 
-at-nothing : {k : ℕ} → At k ≡ Nothing → ⊥
-at-nothing e = false≢true (ap placeless e)
-  where
-    placeless : Found → Bool
-    placeless (At k) = false
-    placeless Nothing = true
+-- What a node is asked by its kind, besides how many replicators surround it.
+module _ (h : TreeNode) where
+  fits-plain : copying (h .own .kind) ≡ false → flowing (h .own .kind) ≡ false → Fits (λ vs. h ∷ vs) (surrounded (h .around))
+  fits-plain p q = passes-node parameters-fit h (rw (p, q) (and-true (surrounded (h .around))))
 
--- one node and those after it
-one-and-rest : (b c : Bool) (x : Found) (k : ℕ) → (x ≡ Nothing) ↔ (c ≡ true) → (cond b x (At k) ≡ Nothing) ↔ ((b && c) ≡ true)
-one-and-rest true c x k i = i
-one-and-rest false c x k i = (λ h. absurd (at-nothing h), λ h. absurd (false≢true h))
+  fits-copying : copying (h .own .kind) ≡ true → flowing (h .own .kind) ≡ false → Fits (λ vs. h ∷ vs) (surrounded (h .around) && new (h .own .name) (h .around))
+  fits-copying p q = passes-node parameters-fit h (rw (p, q, and-true (new (h .own .name) (h .around))))
 
-pub none-broken : (pass : PlacedNode → Bool) (ss : List PlacedNode) → (first-broken pass ss ≡ Nothing) ↔ (every pass ss ≡ true)
-unfolding first-broken
-none-broken pass [] = (λ h. refl, λ h. refl)
-none-broken pass (s ∷ ss) = one-and-rest (pass s) (every pass ss) (first-broken pass ss) (s .key) (none-broken pass ss)
-
--- The placed nodes all pass just where `ok` is true, whatever comes after them.
-pub record Passes (pass : PlacedNode → Bool) (ss : List PlacedNode → List PlacedNode) (ok : Bool) : Type 0 where
-  pub law : (rest : List PlacedNode) → every pass (ss rest) ≡ (ok && every pass rest)
-
-module _ (pass : PlacedNode → Bool) where
-  pub passes-none : Passes pass (λ rest. rest) true
-  passes-none = record { law = λ rest. refl }
-
-  pub passes-one : (s : PlacedNode) → Passes pass (λ rest. s ∷ rest) (pass s)
-  passes-one s = record { law = λ rest. refl }
-
-  pub passes-then : {ss ts : List PlacedNode → List PlacedNode} {p q : Bool} → Passes pass ss p → Passes pass ts q → Passes pass (λ rest. ss (ts rest)) (p && q)
-  passes-then {ss} {ts} {p} {q} P Q = record {
-    law = λ rest. P .law (ts rest) ∙ ap (λ (b : Bool). p && b) (Q .law rest) ∙ sym (and-assoc p q (every pass rest));
-  }
-
-abbrev whole : PlacedNode → Bool
-whole s = s .parameters
+both : {p q : List TreeNode → List TreeNode} {a b : Bool} → Fits p a → Fits q b → Fits (λ vs. p (q vs)) (a && b)
+both = passes-then parameters-fit
 
 mutual
-  unfolding flow-placed-nodes flow-parameters
+  unfolding flow-tree-nodes flow-parameters
 
-  flow-passes : (f : Flow) (A : List Name) (d k : ℕ) → Passes whole (flow-placed-nodes f A d k) (flow-parameters f A)
-  flow-passes (flow n ps sw c r cs) A d k =
-      passes-then whole (passes-one whole _) (passes-then whole (child-passes c A (suc d) _) (children-passes cs A (suc d) _))
+  flow-fits : (f : Flow) (A : List Name) (b : Bool) (d i : ℕ) → Fits (flow-tree-nodes (λ h. h) f A b d i) (flow-parameters f A)
+  flow-fits (flow n ps sw c r cs) A b d i =
+      both (passes-node parameters-fit _ refl) (both (child-fits c A r (suc d) _) (children-fits cs A (suc d) _))
 
-  children-passes : (cs : Children) (A : List Name) (d k : ℕ) → Passes whole (children-placed-nodes cs A d k) (children-parameters cs A)
-  children-passes none A d k = passes-none whole
-  children-passes (next c r cs) A d k = passes-then whole (child-passes c A d k) (children-passes cs A d _)
+  children-fits : (cs : Children) (A : List Name) (d i : ℕ) → Fits (children-tree-nodes (λ h. h) cs A d i) (children-parameters cs A)
+  children-fits none A d i = passes-none parameters-fit
+  children-fits (next c r cs) A d i = both (child-fits c A r d i) (children-fits cs A d _)
 
-  child-passes : (c : Child) (A : List Name) (d k : ℕ) → Passes whole (child-placed-nodes c A d k) (child-parameters c A)
-  child-passes (plain m) A d k = member-passes m A d k
-  child-passes (loop m) A d k = passes-then whole (passes-one whole _) (member-passes m A (suc d) _)
-  child-passes (group y a b ms) A d k =
-      passes-then whole (passes-one whole _)
-      (passes-then whole (member-passes a A (suc d) _) (passes-then whole (member-passes b A (suc d) _) (members-passes ms A (suc d) _)))
-  child-passes (replicator y par size m) A d k = passes-then whole (passes-one whole _) (member-passes m (A ++ (par ∷ [])) (suc d) _)
+  child-fits : (c : Child) (A : List Name) (b : Bool) (d i : ℕ) → Fits (child-tree-nodes (λ h. h) c A b d i) (child-parameters c A)
+  child-fits (plain m) A b d i = member-fits m A b d i
+  child-fits (loop m) A b d i = both (fits-plain _ refl refl) (member-fits m A false (suc d) _)
+  child-fits (group y a e ms) A b d i =
+      both (fits-plain _ (group-copies y) (group-flows y))
+      (both (member-fits a A false (suc d) _) (both (member-fits e A false (suc d) _) (members-fits ms A (suc d) _)))
+  child-fits (replicator y par size m) A b d i =
+      both (fits-copying _ (replicator-copies y size) (replicator-flows y size))
+      (member-fits m (A ++ (par ∷ [])) false (suc d) _)
 
-  member-passes : (m : Member) (A : List Name) (d k : ℕ) → Passes whole (member-placed-nodes m A d k) (member-parameters m A)
-  member-passes (leaf n) A d k = passes-one whole _
-  member-passes (inner f) A d k = flow-passes f A d k
+  member-fits : (m : Member) (A : List Name) (b : Bool) (d i : ℕ) → Fits (member-tree-nodes (λ h. h) m A b d i) (member-parameters m A)
+  member-fits (leaf n) A b d i = fits-plain _ refl refl
+  member-fits (inner f) A b d i = flow-fits f A b d i
 
-  members-passes : (ms : Members) (A : List Name) (d k : ℕ) → Passes whole (members-placed-nodes ms A d k) (members-parameters ms A)
-  members-passes end A d k = passes-none whole
-  members-passes (also m ms) A d k = passes-then whole (member-passes m A d k) (members-passes ms A d _)
+  members-fits : (ms : Members) (A : List Name) (d i : ℕ) → Fits (members-tree-nodes (λ h. h) ms A d i) (members-parameters ms A)
+  members-fits end A d i = passes-none parameters-fit
+  members-fits (also m ms) A d i = both (member-fits m A false d i) (members-fits ms A d _)
 
-pub parameters-kept-iff : (d : Flow) → (first-broken (λ s. s .parameters) (flow-placed-nodes d [] 1 0 []) ≡ Nothing) ↔ (flow-parameters d [] ≡ true)
-parameters-kept-iff d =
-    let i = none-broken whole (flow-placed-nodes d [] 1 0 []) in
-    let e = flow-passes d [] 1 0 .law [] ∙ and-true (flow-parameters d []) in
-    (λ h. sym e ∙ i .0 h, λ h. i .1 (e ∙ h))
+pub parameters-kept-iff : (d : Flow) → (first-broken parameters-fit (nodes-by (λ h. h) d) ≡ Nothing) ↔ (flow-parameters d [] ≡ true)
+parameters-kept-iff d = passes-iff parameters-fit (flow-fits d [] false 1 0)

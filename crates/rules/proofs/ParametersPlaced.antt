@@ -2,31 +2,20 @@
 use mathlib.Core.Path.{_≡_, refl, sym, _∙_, ap}
 use mathlib.Core.Bool.{Bool, true, false, not, _&&_, and-true}
 use mathlib.Core.List.{List, [], _∷_, _++_, reverse, reverseAux, reverse-append, reverse-reverse}
-use Prim.Native.Nat.{ℕ, suc, _+_}
-use native.Mathlib.Omega.{arith}
-use lib.ListN.{length}
+use Prim.Native.Nat.{ℕ, suc}
+use lib.ListN.{length-reverse}
 use Rattle.diagram.specs.Tree.{Name, Flow, flow, Children, none, next, Child, plain, loop, group, replicator, Member, leaf, inner, Members, end, also}
 use Rattle.diagram.specs.Names.{equal, same, new}
-use Rattle.diagram.specs.Parameters.{surrounded}
-use Rattle.diagram.specs.Flows.{solid}
+use Rattle.diagram.specs.TreeNodes.{TextNode, TreeNode, own, nodes-by, flow-tree-nodes, children-tree-nodes, child-tree-nodes, member-tree-nodes, members-tree-nodes}
 use Rattle.base.proofs.Truth.{agree}
 use Rattle.base.proofs.Decided.{all-same-decides}
-use Rattle.rules.specs.TokenNodes.{TokenNode, flowing, copying}
 use Rattle.rules.specs.Kept.{around, parameters-kept, fault}
-use Rattle.rules.specs.PlacedNodes.{PlacedNode, placed-node, flow-placed-nodes, children-placed-nodes, child-placed-nodes, member-placed-nodes, members-placed-nodes, first-broken}
-use Rattle.rules.specs.Found.{Found}
-use Rattle.rules.proofs.Trees.{simple, group-code, replicator-code, flow-token-nodes, children-token-nodes, child-token-nodes, member-token-nodes, members-token-nodes}
-use Rattle.rules.proofs.Around.{pars-nest, group-copies, group-flows, replicator-copies, replicator-flows}
-use Rattle.rules.proofs.AroundWalk.{Walk, Walked, Own, walked-none, walked-then, walked-alone, walked-under, walked-copies}
+use Rattle.rules.specs.Broken.{parameters-fit, first-broken}
+use Rattle.rules.proofs.Faults.{Agree, agree-none, agree-node, by-owns}
+use Rattle.rules.proofs.GroupKinds.{group-copies, replicator-copies}
+use Rattle.rules.proofs.Around.{inside, Walked, walked-none, walked-then, walked-node}
 
 -- The pars around, nearest first or outermost first.
-length-onto : (l r : List Name) → length (reverseAux l r) ≡ length l + length r
-length-onto [] r = omega arith
-length-onto (x ∷ l) r = rw (length-onto l (x ∷ r)) (omega arith)
-
-length-back : (l : List Name) → length (reverse l) ≡ length l
-length-back l = rw (length-onto l []) (omega arith)
-
 swap : (a b c : Bool) → (a && (b && c)) ≡ ((b && a) && c)
 swap true true c = refl
 swap true false c = refl
@@ -46,92 +35,56 @@ equal-back l m =
     (λ h. all-same-decides l m .1 (sym (reverse-reverse l) ∙ ap reverse (all-same-decides (reverse l) (reverse m) .0 h) ∙ reverse-reverse m))
     (λ h. all-same-decides (reverse l) (reverse m) .1 (ap reverse (all-same-decides l m .0 h)))
 
--- The test of a node by its tokens is that of the placed node, for each kind of node. It does not look at the nodes after.
-module _ (before : List TokenNode) (h : TokenNode) (A : List Name) (e : around (h .depth) before ≡ reverse A) where
-  kept-simple : copying (h .code) ≡ false → flowing (h .code) ≡ false → parameters-kept before h [] ≡ surrounded A
-  kept-simple p q = rw (e, p, q, length-back A) (and-true (surrounded A))
+-- A node passes by its own words where it does on the tree. It is not asked what comes after.
+kept-fits : (before : List TextNode) (h : TreeNode) → around (h .own .depth) before ≡ reverse (h .around) → parameters-kept before (own h) [] ≡ parameters-fit h
+kept-fits before h e = rw (e, length-reverse (h .around), new-back (h .own .name) (h .around), equal-back (h .own .pars) (h .around))
 
-  kept-copies : copying (h .code) ≡ true → flowing (h .code) ≡ false → parameters-kept before h [] ≡ (surrounded A && new (h .name) A)
-  kept-copies p q = rw (e, p, q, length-back A, new-back (h .name) A, and-true (new (h .name) A))
+-- Nodes of depth d or deeper, with these pars around them, nearest first.
+abbrev nearer : TextNode → List Name → List Name
+nearer h a = h .name ∷ a
 
-  kept-flow : (ps : List Name) → copying (h .code) ≡ false → flowing (h .code) ≡ true → h .pars ≡ reverse ps
-      → parameters-kept before h [] ≡ (surrounded A && equal same ps A)
-  kept-flow ps p q r = rw (e, p, q, r, length-back A, equal-back ps A)
+abbrev Placed : ℕ → List Name → (List TreeNode → List TreeNode) → Type 0
+Placed d a p = Walked around nearer d a p (Agree parameters-kept parameters-fit) (Agree parameters-kept parameters-fit)
 
--- A node by its tokens and the placed node.
-pub step : (kept : List TokenNode → TokenNode → List TokenNode → Bool) (pass : PlacedNode → Bool) (before : List TokenNode) (h : TokenNode) (after : List TokenNode) (s : PlacedNode) (rest : List PlacedNode)
-    → h .key ≡ s .key → kept before h after ≡ pass s → fault kept (h ∷ before) after ≡ first-broken pass rest
-    → fault kept before (h ∷ after) ≡ first-broken pass (s ∷ rest)
-unfolding fault first-broken
-step kept pass before h after s rest p q r = rw (q, r, p)
+placed-none : {d : ℕ} {a : List Name} → Placed d a (λ vs. vs)
+placed-none = walked-none around nearer
 
-abbrev whole : PlacedNode → Bool
-whole s = s .parameters
+placed-then : {d : ℕ} {a : List Name} {p q : List TreeNode → List TreeNode} → Placed d a p → Placed d a q → Placed d a (λ vs. p (q vs))
+placed-then = walked-then around nearer
 
-abbrev W : Walk
-W = record {
-  X = List Name;
-  Given = List Name;
-  Rest = List PlacedNode;
-  ReadResult = Found;
-  g = around;
-  add = λ h a. h .name ∷ a;
-  nests = pars-nest;
-  seen = reverse;
-  walk = fault parameters-kept;
-  answer = first-broken whole;
-}
-
--- A node by its tokens with the placed node, for each kind of node.
-module _ (h : TokenNode) (after : List TokenNode) where
-  own-simple : (ns : List Name) → copying (h .code) ≡ false → flowing (h .code) ≡ false
-      → Own W h (λ A rest. placed-node (h .key) (h .depth) ns (surrounded A) ∷ rest) after
-  own-simple ns p q before A e rest r = step parameters-kept whole before h after _ rest refl (kept-simple before h A e p q) r
-
-  own-copies : copying (h .code) ≡ true → flowing (h .code) ≡ false
-      → Own W h (λ A rest. placed-node (h .key) (h .depth) [] (surrounded A && new (h .name) A) ∷ rest) after
-  own-copies p q before A e rest r = step parameters-kept whole before h after _ rest refl (kept-copies before h A e p q) r
-
-  own-flow : (ns ps : List Name) (o w : Bool) → copying (h .code) ≡ false → flowing (h .code) ≡ true → h .pars ≡ reverse ps
-      → Own W h (λ A rest. record { key = h .key; depth = h .depth; names = ns; parameters = surrounded A && equal same ps A; solids = o; strongs = w } ∷ rest) after
-  own-flow ns ps o w p q z before A e rest r = step parameters-kept whole before h after _ rest refl (kept-flow before h A e ps p q z) r
+placed-node : (h : TreeNode) {a : List Name} {p : List TreeNode → List TreeNode} → inside around nearer (own h) (reverse (h .around)) ≡ a
+    → Placed (suc (h .own .depth)) a p → Placed (h .own .depth) (reverse (h .around)) (λ vs. h ∷ p vs)
+placed-node h {a} {p} i =
+    walked-node around nearer (λ d h before. refl) h i
+    (λ before vs e on. agree-node parameters-kept parameters-fit before h (p vs) (kept-fits before h e) on)
 
 mutual
-  unfolding flow-token-nodes flow-placed-nodes
+  unfolding flow-tree-nodes
 
-  flow-placed : (f : Flow) (b : Bool) (d k : ℕ) → Walked W d (flow-token-nodes f b d k) (λ A. flow-placed-nodes f A d k)
-  flow-placed (flow n ps sw c r cs) b d k =
-      let h : TokenNode = record { key = k; depth = d; code = 7; name = n; size = 0; pars = reverse ps; strong = sw; solid = b } in
-      walked-under W h _ _ _ (λ more. own-flow h _ (n ∷ []) ps (solid (flow n ps sw c r cs)) sw refl refl refl)
-      (walked-then W (suc d) _ _ _ _ (child-placed c r (suc d) _) (children-placed cs (suc d) _)) refl
+  flow-placed : (f : Flow) (A : List Name) (b : Bool) (d i : ℕ) → Placed d (reverse A) (flow-tree-nodes (λ h. h) f A b d i)
+  flow-placed (flow n ps sw c r cs) A b d i = placed-node _ refl (placed-then (child-placed c A r (suc d) _) (children-placed cs A (suc d) _))
 
-  children-placed : (cs : Children) (d k : ℕ) → Walked W d (children-token-nodes cs d k) (λ A. children-placed-nodes cs A d k)
-  children-placed none d k = walked-none W d
-  children-placed (next c r cs) d k = walked-then W d _ _ _ _ (child-placed c r d k) (children-placed cs d _)
+  children-placed : (cs : Children) (A : List Name) (d i : ℕ) → Placed d (reverse A) (children-tree-nodes (λ h. h) cs A d i)
+  children-placed none A d i = placed-none
+  children-placed (next c r cs) A d i = placed-then (child-placed c A r d i) (children-placed cs A d _)
 
-  child-placed : (c : Child) (b : Bool) (d k : ℕ) → Walked W d (child-token-nodes c b d k) (λ A. child-placed-nodes c A d k)
-  child-placed (plain m) b d k = member-placed m b d k
-  child-placed (loop m) b d k =
-      let h = simple k d 15 [] b in
-      walked-under W h _ _ _ (λ more. own-simple h _ [] refl refl) (member-placed m false (suc d) _) refl
-  child-placed (group y a e ms) b d k =
-      let h = simple k d (group-code y) [] b in
-      walked-under W h _ _ _ (λ more. own-simple h _ [] (group-copies y) (group-flows y))
-      (walked-then W (suc d) _ _ _ _ (member-placed a false (suc d) _)
-      (walked-then W (suc d) _ _ _ _ (member-placed e false (suc d) _) (members-placed ms (suc d) _))) (group-copies y)
-  child-placed (replicator y par size m) b d k =
-      let h : TokenNode = record { key = k; depth = d; code = replicator-code y; name = par; size = size; pars = []; strong = false; solid = b } in
-      walked-copies W h _ _ _ (λ more. own-copies h _ (replicator-copies y) (replicator-flows y)) (member-placed m false (suc d) _)
-      (replicator-copies y) (λ A. A ++ (par ∷ [])) (λ A. sym (reverse-append A (par ∷ [])))
+  child-placed : (c : Child) (A : List Name) (b : Bool) (d i : ℕ) → Placed d (reverse A) (child-tree-nodes (λ h. h) c A b d i)
+  child-placed (plain m) A b d i = member-placed m A b d i
+  child-placed (loop m) A b d i = placed-node _ refl (member-placed m A false (suc d) _)
+  child-placed (group y a e ms) A b d i =
+      placed-node _ (rw (group-copies y))
+      (placed-then (member-placed a A false (suc d) _) (placed-then (member-placed e A false (suc d) _) (members-placed ms A (suc d) _)))
+  child-placed (replicator y par size m) A b d i =
+      placed-node _ (rw (replicator-copies y size) (sym (reverse-append A (par ∷ [])))) (member-placed m (A ++ (par ∷ [])) false (suc d) _)
 
-  member-placed : (m : Member) (b : Bool) (d k : ℕ) → Walked W d (member-token-nodes m b d k) (λ A. member-placed-nodes m A d k)
-  member-placed (leaf n) b d k = let h = simple k d 8 n b in walked-alone W h _ (λ more. own-simple h more (n ∷ []) refl refl)
-  member-placed (inner f) b d k = flow-placed f b d k
+  member-placed : (m : Member) (A : List Name) (b : Bool) (d i : ℕ) → Placed d (reverse A) (member-tree-nodes (λ h. h) m A b d i)
+  member-placed (leaf n) A b d i = placed-node _ refl placed-none
+  member-placed (inner f) A b d i = flow-placed f A b d i
 
-  members-placed : (ms : Members) (d k : ℕ) → Walked W d (members-token-nodes ms d k) (λ A. members-placed-nodes ms A d k)
-  members-placed end d k = walked-none W d
-  members-placed (also m ms) d k = walked-then W d _ _ _ _ (member-placed m false d k) (members-placed ms d _)
+  members-placed : (ms : Members) (A : List Name) (d i : ℕ) → Placed d (reverse A) (members-tree-nodes (λ h. h) ms A d i)
+  members-placed end A d i = placed-none
+  members-placed (also m ms) A d i = placed-then (member-placed m A false d i) (members-placed ms A d _)
 
-pub parameters-placed : (d : Flow) → fault parameters-kept [] (flow-token-nodes d false 1 0 []) ≡ first-broken (λ s. s .parameters) (flow-placed-nodes d [] 1 0 [])
-unfolding fault first-broken
-parameters-placed d = flow-placed d false 1 0 [] [] refl [] [] (λ now s. refl)
+pub parameters-placed : (d : Flow) → fault parameters-kept [] (nodes-by own d) ≡ first-broken parameters-fit (nodes-by (λ h. h) d)
+parameters-placed d =
+    by-owns (fault parameters-kept []) d _ (flow-placed d [] false 1 0 .go [] refl [] (λ now s. agree-none parameters-kept parameters-fit now))

@@ -1,149 +1,100 @@
--- Number 9 stands at the same token by the nodes' own words and by the tree.
+-- Number 9 stands at the same node by the nodes' own words and by the tree.
 use mathlib.Core.Path.{_≡_, refl, sym, _∙_}
-use mathlib.Core.Bool.{Bool, true, false, _&&_, cond, and-true, and-false}
-use mathlib.Core.List.{List, [], _∷_}
-use Prim.Native.Nat.{ℕ, suc, _<_}
+use mathlib.Core.Bool.{Bool, true, false, _&&_, cond}
+use mathlib.Core.List.{List, [], _∷_, _++_, append-assoc, append-nil}
+use Prim.Native.Nat.{ℕ, suc, _≤_, _<_}
 use native.Mathlib.Omega.{arith}
-use borrow.Author.Tests.{eq-eqb, ne-eqb, lt-leb}
-use Rattle.diagram.specs.Tree.{Name, all, some, one, Flow, flow, Children, none, next, Child, plain, loop, group, replicator, Member, leaf, inner, Members, end, also}
-use Rattle.diagram.specs.Flows as flows
-use Rattle.rules.specs.TokenNodes.{TokenNode}
-use Rattle.rules.specs.Kept.{may-be-solid, solids, one-of, solids-kept, fault}
-use Rattle.rules.specs.PlacedNodes.{first-broken, flow-placed-nodes, flow-placed-node}
-use Rattle.rules.proofs.Trees.{group-code, replicator-code, simple, flow-token-nodes, children-token-nodes, child-token-nodes, member-token-nodes, members-token-nodes}
-use Rattle.rules.proofs.NamesAlong.{flow-token-node, token-nodes-inside, replicator-token-node, shallow}
-use Rattle.rules.proofs.SolidsStrongs.{Rule, placed}
+use lib.Dec.{eqb}
+use borrow.Author.Tests.{eq-eqb, ne-eqb, lt-leb, le-leb}
+use Rattle.diagram.specs.Tree.{Name, Flow, flow, Children, none, next, Child, plain, loop, group, replicator, Member, leaf, inner, Members, end, also}
+use Rattle.diagram.specs.TreeNodes.{TextNode, TreeNode, own, child-kind, solid-kinds, nodes-by, flow-tree-nodes, children-tree-nodes, child-tree-nodes, member-tree-nodes, members-tree-nodes}
+use Rattle.diagram.specs.declared.Kind.{Kind}
+use Rattle.diagram.specs.declared.Kind.the-variants.{Flow as FlowNode}
+use Rattle.rules.specs.Kept.{solids, solids-kept, fault}
+use Rattle.rules.specs.Broken.{solids-fit, first-broken}
+use Rattle.rules.proofs.Faults.{owns, Agree, agree-none, agree-node, by-owns}
 
--- What a child's keyword is, and those of the solid children.
-child-code : Child → ℕ
-child-code (plain (leaf n)) = 8
-child-code (plain (inner f)) = 7
-child-code (loop m) = 15
-child-code (group y a b ms) = group-code y
-child-code (replicator y par size m) = replicator-code y
+-- The nodes that p puts first are of depth d or deeper, and ks are the kinds of the solid ones of depth d. For a flow of less depth they are skipped but
+-- for these if they are its children; for a flow as deep the first of them is the end. The rule says the same on both sides.
+record Part (d : ℕ) (ks : List Kind) (p : List TreeNode → List TreeNode) : Type 0 where
+  skips : (e : ℕ) → e < d → (vs : List TreeNode) → solids e (owns (p vs)) ≡ cond (eqb d (suc e)) ks [] ++ solids e (owns vs)
+  ends : (e : ℕ) → d ≤ e → (vs : List TreeNode) → solids e (owns vs) ≡ [] → solids e (owns (p vs)) ≡ []
+  agrees : (vs : List TreeNode) → ((e : ℕ) → d ≤ e → solids e (owns vs) ≡ []) → ((before : List TextNode) → Agree solids-kept solids-fit before vs)
+      → (before : List TextNode) → Agree solids-kept solids-fit before (p vs)
 
-solid-codes : Children → List ℕ
-solid-codes none = []
-solid-codes (next c r cs) = cond r (child-code c ∷ solid-codes cs) (solid-codes cs)
+part-none : {d : ℕ} → Part d [] (λ vs. vs)
+part-none {d} = record { skips = λ e l vs. go (eqb d (suc e)) (solids e (owns vs)); ends = λ e l vs z. z; agrees = λ vs over on. on }
+  where
+    go : (t : Bool) (ls : List Kind) → ls ≡ cond t [] [] ++ ls
+    go true ls = refl
+    go false ls = refl
 
--- The rule by the keywords is the rule by the children.
-code-may-be : (c : Child) → may-be-solid (child-code c) ≡ flows.may-be-solid c
-unfolding child-code
-code-may-be (plain (leaf n)) = refl
-code-may-be (plain (inner f)) = refl
-code-may-be (loop m) = refl
-code-may-be (group all a b ms) = refl
-code-may-be (group some a b ms) = refl
-code-may-be (group one a b ms) = refl
-code-may-be (replicator all par size m) = refl
-code-may-be (replicator some par size m) = refl
-code-may-be (replicator one par size m) = refl
+part-then : {d : ℕ} {ks ls : List Kind} {p q : List TreeNode → List TreeNode} → Part d ks p → Part d ls q → Part d (ks ++ ls) (λ vs. p (q vs))
+part-then {d} {ks} {ls} {p} {q} x y = record {
+  skips = λ e l vs. x .skips e l (q vs) ∙ rw (y .skips e l vs) (go (eqb d (suc e)) (solids e (owns vs)));
+  ends = λ e l vs z. x .ends e l (q vs) (y .ends e l vs z);
+  agrees = λ vs over on. x .agrees (q vs) (λ e l. y .ends e l vs (over e l)) (y .agrees vs over on);
+}
+  where
+    go : (t : Bool) (ms : List Kind) → cond t ks [] ++ (cond t ls [] ++ ms) ≡ cond t (ks ++ ls) [] ++ ms
+    go true ms = sym (append-assoc ks ls ms)
+    go false ms = refl
 
-abbrev empty : List ℕ → Bool
-empty [] = true
-empty (c ∷ cs) = false
+-- A node, and those under it.
+part-node : (h : TreeNode) {ks : List Kind} {p : List TreeNode → List TreeNode} → ks ≡ h .solids → Part (suc (h .own .depth)) ks p
+    → Part (h .own .depth) (cond (h .own .solid) (h .own .kind ∷ []) []) (λ vs. h ∷ p vs)
+part-node h {ks} {p} same x =
+    let d = h .own .depth in record {
+      skips = λ e l vs.
+          rw (lt-leb d e l, x .skips e (omega arith) vs, ne-eqb (suc d) (suc e) (λ z. omega arith))
+          (first (eqb d (suc e)) (h .own .solid) (solids e (owns vs)));
+      ends = λ e l vs z. rw (le-leb d e l);
+      agrees = λ vs over on before.
+          agree-node solids-kept solids-fit before h (p vs) (rw (inside vs (over d (omega arith))))
+          (x .agrees vs (λ e l. over e (omega arith)) on (own h ∷ before));
+    }
+  where
+    first : (t s : Bool) (ms : List Kind) → cond (t && s) (h .own .kind ∷ ms) ms ≡ cond t (cond s (h .own .kind ∷ []) []) [] ++ ms
+    first true true ms = refl
+    first true false ms = refl
+    first false s ms = refl
 
-one-first : (c : ℕ) (cs : List ℕ) → one-of (c ∷ cs) ≡ (may-be-solid c && empty cs)
-one-first c [] = sym (and-true (may-be-solid c))
-one-first c (e ∷ cs) = sym (and-false (may-be-solid c))
+    inside : (vs : List TreeNode) → solids (h .own .depth) (owns vs) ≡ [] → solids (h .own .depth) (owns (p vs)) ≡ h .solids
+    inside vs z =
+        x .skips (h .own .depth) (omega arith) vs
+        ∙ rw (eq-eqb (suc (h .own .depth)) (suc (h .own .depth)) refl, z) (append-nil ks ∙ same)
 
-none-codes : (cs : Children) → empty (solid-codes cs) ≡ flows.none-solid cs
-unfolding solid-codes
-none-codes none = refl
-none-codes (next c true cs) = refl
-none-codes (next c false cs) = none-codes cs
-
-one-codes : (cs : Children) → one-of (solid-codes cs) ≡ flows.one-solid cs
-unfolding solid-codes
-one-codes none = refl
-one-codes (next c true cs) = rw (one-first (child-code c) (solid-codes cs), code-may-be c, none-codes cs)
-one-codes (next c false cs) = one-codes cs
-
--- The solid children of a flow of depth d, past what is deeper than a child, at a child, and at the flow's end.
-past : (d : ℕ) (h : TokenNode) (hs : List TokenNode) → suc d < h .depth → solids d (h ∷ hs) ≡ solids d hs
-past d h hs l = rw (lt-leb (h .depth) d (omega arith), ne-eqb (h .depth) (suc d) (λ e. omega arith))
-
-meets : (d : ℕ) (h : TokenNode) (hs : List TokenNode) → h .depth ≡ suc d → solids d (h ∷ hs) ≡ cond (h .solid) (h .code ∷ solids d hs) (solids d hs)
-meets d h hs e = rw (lt-leb (h .depth) d (omega arith), eq-eqb (h .depth) (suc d) e)
-
-ends : (d : ℕ) (hs : List TokenNode) → shallow d hs ≡ true → solids d hs ≡ []
-ends d [] e = refl
-ends d (h ∷ hs) e = rw e
-
--- From `hs` on the solid children are those of `gs`.
-record Same (d : ℕ) (hs gs : List TokenNode) : Type 0 where
-  same-solids : solids d hs ≡ solids d gs
-
-same-here : (d : ℕ) (hs : List TokenNode) → Same d hs hs
-same-here d hs = record { same-solids = refl }
-
-same-past : (d : ℕ) (h : TokenNode) {hs gs : List TokenNode} → suc d < h .depth → Same d hs gs → Same d (h ∷ hs) gs
-same-past d h {hs} l s = record { same-solids = past d h hs l ∙ s .same-solids }
+-- A child with its ref, before others.
+part-child : (k : Kind) (r : Bool) {d : ℕ} {ks : List Kind} {p q : List TreeNode → List TreeNode} → Part d (cond r (k ∷ []) []) p → Part d ks q
+    → Part d (cond r (k ∷ ks) ks) (λ vs. p (q vs))
+part-child k true x y = part-then x y
+part-child k false x y = part-then x y
 
 mutual
-  unfolding flow-token-nodes
+  unfolding flow-tree-nodes
 
-  flow-deep : (f : Flow) (b : Bool) (d e k : ℕ) {hs gs : List TokenNode} → suc d < e → Same d hs gs → Same d (flow-token-nodes f b e k hs) gs
-  flow-deep (flow n ps sw c r cs) b d e k l s =
-      same-past d (flow-token-node (flow n ps sw c r cs) b e k) l
-      (child-deep c r d (suc e) _ (omega arith) (children-deep cs d (suc e) _ (omega arith) s))
+  flow-part : (f : Flow) (A : List Name) (b : Bool) (d i : ℕ) → Part d (cond b (FlowNode ∷ []) []) (flow-tree-nodes (λ h. h) f A b d i)
+  flow-part (flow n ps sw c r cs) A b d i = part-node _ refl (part-child (child-kind c) r (child-part c A r (suc d) _) (children-part cs A (suc d) _))
 
-  children-deep : (cs : Children) (d e k : ℕ) {hs gs : List TokenNode} → suc d < e → Same d hs gs → Same d (children-token-nodes cs e k hs) gs
-  children-deep none d e k l s = s
-  children-deep (next c r cs) d e k l s = child-deep c r d e k l (children-deep cs d e _ l s)
+  children-part : (cs : Children) (A : List Name) (d i : ℕ) → Part d (solid-kinds cs) (children-tree-nodes (λ h. h) cs A d i)
+  children-part none A d i = part-none
+  children-part (next c r cs) A d i = part-child (child-kind c) r (child-part c A r d i) (children-part cs A d _)
 
-  child-deep : (c : Child) (b : Bool) (d e k : ℕ) {hs gs : List TokenNode} → suc d < e → Same d hs gs → Same d (child-token-nodes c b e k hs) gs
-  child-deep (plain m) b d e k l s = member-deep m b d e k l s
-  child-deep (loop m) b d e k l s = same-past d (simple k e 15 [] b) l (member-deep m false d (suc e) _ (omega arith) s)
-  child-deep (group y a x ms) b d e k l s =
-      let i : suc d < suc e = omega arith in
-      same-past d (simple k e (group-code y) [] b) l
-      (member-deep a false d (suc e) _ i (member-deep x false d (suc e) _ i (members-deep ms d (suc e) _ i s)))
-  child-deep (replicator y par size m) b d e k l s =
-      same-past d (replicator-token-node y par size b e k) l (member-deep m false d (suc e) _ (omega arith) s)
+  child-part : (c : Child) (A : List Name) (b : Bool) (d i : ℕ) → Part d (cond b (child-kind c ∷ []) []) (child-tree-nodes (λ h. h) c A b d i)
+  child-part (plain m) A b d i = member-part m A b d i
+  child-part (loop m) A b d i = part-node _ refl (member-part m A false (suc d) _)
+  child-part (group y a e ms) A b d i =
+      part-node _ refl (part-then (member-part a A false (suc d) _) (part-then (member-part e A false (suc d) _) (members-part ms A (suc d) _)))
+  child-part (replicator y par size m) A b d i = part-node _ refl (member-part m (A ++ (par ∷ [])) false (suc d) _)
 
-  member-deep : (m : Member) (b : Bool) (d e k : ℕ) {hs gs : List TokenNode} → suc d < e → Same d hs gs → Same d (member-token-nodes m b e k hs) gs
-  member-deep (leaf n) b d e k l s = same-past d (simple k e 8 n b) l s
-  member-deep (inner f) b d e k l s = flow-deep f b d e k l s
+  member-part : (m : Member) (A : List Name) (b : Bool) (d i : ℕ) → Part d (cond b (child-kind (plain m) ∷ []) []) (member-tree-nodes (λ h. h) m A b d i)
+  member-part (leaf n) A b d i = part-node _ refl part-none
+  member-part (inner f) A b d i = flow-part f A b d i
 
-  members-deep : (ms : Members) (d e k : ℕ) {hs gs : List TokenNode} → suc d < e → Same d hs gs → Same d (members-token-nodes ms e k hs) gs
-  members-deep end d e k l s = s
-  members-deep (also m ms) d e k l s = member-deep m false d e k l (members-deep ms d e _ l s)
+  members-part : (ms : Members) (A : List Name) (d i : ℕ) → Part d [] (members-tree-nodes (λ h. h) ms A d i)
+  members-part end A d i = part-none
+  members-part (also m ms) A d i = part-then (member-part m A false d i) (members-part ms A d _)
 
-meets-first : (d : ℕ) (h : TokenNode) (hs gs : List TokenNode) → h .depth ≡ suc d → Same d hs gs
-    → solids d (h ∷ hs) ≡ cond (h .solid) (h .code ∷ solids d gs) (solids d gs)
-meets-first d h hs gs e s = rw (← s .same-solids) (meets d h hs e)
-
-child-solids : (c : Child) (b : Bool) (d k : ℕ) (hs : List TokenNode)
-    → solids d (child-token-nodes c b (suc d) k hs) ≡ cond b (child-code c ∷ solids d hs) (solids d hs)
-unfolding child-token-nodes child-code
-child-solids (plain (leaf n)) b d k hs = meets d (simple k (suc d) 8 n b) hs refl
-child-solids (plain (inner (flow n ps sw c r cs))) b d k hs =
-    meets-first d (flow-token-node (flow n ps sw c r cs) b (suc d) k) _ hs refl
-    (child-deep c r d (suc (suc d)) _ (omega arith) (children-deep cs d (suc (suc d)) _ (omega arith) (same-here d hs)))
-child-solids (loop m) b d k hs =
-    meets-first d (simple k (suc d) 15 [] b) _ hs refl (member-deep m false d (suc (suc d)) _ (omega arith) (same-here d hs))
-child-solids (group y a x ms) b d k hs =
-    let i : suc d < suc (suc d) = omega arith in
-    meets-first d (simple k (suc d) (group-code y) [] b) _ hs refl
-    (member-deep a false d (suc (suc d)) _ i (member-deep x false d (suc (suc d)) _ i (members-deep ms d (suc (suc d)) _ i (same-here d hs))))
-child-solids (replicator y par size m) b d k hs =
-    meets-first d (replicator-token-node y par size b (suc d) k) _ hs refl (member-deep m false d (suc (suc d)) _ (omega arith) (same-here d hs))
-
-children-solids : (cs : Children) (d k : ℕ) (hs : List TokenNode) → shallow d hs ≡ true → solids d (children-token-nodes cs (suc d) k hs) ≡ solid-codes cs
-unfolding children-token-nodes solid-codes
-children-solids none d k hs e = ends d hs e
-children-solids (next c r cs) d k hs e = rw (child-solids c r d k _, children-solids cs d _ hs e)
-
-solid-token-nodes : (f : Flow) (b : Bool) (d k : ℕ) (hs : List TokenNode) → shallow d hs ≡ true
-    → one-of (solids (flow-token-node f b d k .depth) (token-nodes-inside f d k hs)) ≡ flows.solid f
-solid-token-nodes (flow n ps sw c r cs) b d k hs e = rw (children-solids (next c r cs) d _ hs e) (one-codes (next c r cs))
-
-solid-placed-node : (f : Flow) (around : List Name) (d k : ℕ) → flow-placed-node f around d k .solids ≡ flows.solid f
-solid-placed-node (flow n ps sw c r cs) around d k = refl
-
-pub solid-rule : Rule (λ h after. one-of (solids (h .depth) after)) (λ s. s .solids) flows.solid
-solid-rule = record { by-token-nodes = solid-token-nodes; by-placed-node = solid-placed-node; others = λ k d ns b. refl }
-
-pub solids-placed : (d : Flow) → fault solids-kept [] (flow-token-nodes d false 1 0 []) ≡ first-broken (λ s. s .solids) (flow-placed-nodes d [] 1 0 [])
-solids-placed = placed _ _ flows.solid solid-rule
+pub solids-placed : (d : Flow) → fault solids-kept [] (nodes-by own d) ≡ first-broken solids-fit (nodes-by (λ h. h) d)
+solids-placed d =
+    by-owns (fault solids-kept []) d _ (flow-part d [] false 1 0 .agrees [] (λ e l. refl) (agree-none solids-kept solids-fit) [])

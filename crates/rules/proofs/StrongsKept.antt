@@ -1,14 +1,13 @@
 -- Number 10 stands nowhere just where each flow's sw is 1.
-use mathlib.Core.Path.{_≡_}
+use mathlib.Core.Path.{_≡_, refl}
 use mathlib.Core.Logic.{_↔_}
 use mathlib.Core.Bool.{true}
-use mathlib.Core.List.{[]}
 use Rattle.diagram.specs.Tree.{Flow}
 use Rattle.diagram.specs.Flows.{each-flow, strong}
-use Rattle.rules.specs.PlacedNodes.{first-broken, flow-placed-nodes}
+use Rattle.diagram.specs.TreeNodes.{nodes-by}
+use Rattle.rules.specs.Broken.{strongs-fit, first-broken}
 use Rattle.rules.specs.Found.{Nothing}
-use Rattle.rules.proofs.SolidsStrongs.{kept-iff}
-use Rattle.rules.proofs.StrongsPlaced.{strong-rule}
+use Rattle.rules.proofs.FlowsKept.{kept-iff}
 
-pub strongs-kept-iff : (d : Flow) → (first-broken (λ s. s .strongs) (flow-placed-nodes d [] 1 0 []) ≡ Nothing) ↔ (each-flow d strong ≡ true)
-strongs-kept-iff = kept-iff _ _ strong strong-rule
+pub strongs-kept-iff : (d : Flow) → (first-broken strongs-fit (nodes-by (λ h. h) d) ≡ Nothing) ↔ (each-flow d strong ≡ true)
+strongs-kept-iff = kept-iff (λ h. h .own .strong) strong (λ n ps sw c r cs A b d i. refl)

@@ -1,168 +1,127 @@
 -- Node copies and events, counted along the nodes as on the tree.
 use mathlib.Core.Path.{_≡_, refl, _∙_}
-use mathlib.Core.Bool.{Bool, true, false, _||_, or-false, or-true, cond}
-use mathlib.Core.List.{List, [], _∷_, reverse}
+use mathlib.Core.Bool.{Bool, true, false, cond}
+use mathlib.Core.List.{List, [], _∷_, _++_}
 use Prim.Native.Nat.{ℕ, suc, _+_, _*_}
 use native.Mathlib.Omega.{arith}
-use Rattle.diagram.specs.Tree.{Name, Way, all, some, one, Flow, flow, Children, none, next, Child, plain, loop, group, replicator, Member, leaf, inner, Members, end, also}
+use Rattle.diagram.specs.Tree.{Name, Way, Flow, flow, Children, none, next, Child, plain, loop, group, replicator, Member, leaf, inner, Members, end, also}
 use Rattle.diagram.specs.Count.{flow-copies, children-copies, child-copies, member-copies, members-copies, flow-events, children-events, child-events, loop-events, member-events, members-events}
-use Rattle.rules.specs.TokenNodes.{TokenNode, leafy, copying}
-use Rattle.rules.specs.Counted.{times, eventful, any-node, total}
-use Rattle.rules.proofs.Trees.{simple, group-code, replicator-code, flow-token-nodes, children-token-nodes, child-token-nodes, member-token-nodes, members-token-nodes}
-use Rattle.rules.proofs.Around.{copies-nest, group-copies, replicator-copies}
-use Rattle.rules.proofs.AroundWalk.{Walk, Walked, Own, walked-none, walked-then, walked-as, walked-alone, walked-under, walked-copies}
+use Rattle.diagram.specs.TreeNodes.{TextNode, TreeNode, own, size-of, group-kind, replicator-kind, text-node, nodes-by, flow-tree-nodes, children-tree-nodes, child-tree-nodes, member-tree-nodes, members-tree-nodes}
+use Rattle.diagram.proofs.Ways.{by-way}
+use Rattle.rules.specs.Counted.{times, over-flow, eventful, any-node, total}
+use Rattle.rules.proofs.Faults.{owns, by-owns}
+use Rattle.rules.proofs.GroupKinds.{group-copies, replicator-copies}
+use Rattle.rules.proofs.Around.{Nests, inside, Walked, walked-none, walked-then, walked-as, walked-node}
 
--- One node more, counted or not.
-count-step : (counted : TokenNode → List TokenNode → Bool) (before : List TokenNode) (h : TokenNode) (after : List TokenNode) (b : Bool) (m rest : ℕ)
-    → counted h after ≡ b → times (h .depth) before ≡ m → total counted (h ∷ before) after ≡ rest
-    → total counted before (h ∷ after) ≡ cond b m 0 + rest
+abbrev more-copies : TextNode → ℕ → ℕ
+more-copies h m = size-of (h .kind) * m
+
+copies-nest : Nests times more-copies
+unfolding times
+copies-nest d h before = refl
+
+-- These nodes come to so many node copies and events.
+record Come (n k : ℕ) (before : List TextNode) (hs : List TreeNode) : Type 0 where
+  copies : total any-node before (owns hs) ≡ n
+  events : total eventful before (owns hs) ≡ k
+
+come-as : {n n′ k k′ : ℕ} {before : List TextNode} {hs : List TreeNode} → n ≡ n′ → k ≡ k′ → Come n k before hs → Come n′ k′ before hs
+come-as p q c = record { copies = c .copies ∙ p; events = c .events ∙ q }
+
+come-node : (h : TreeNode) (b : Bool) {n k : ℕ} {before : List TextNode} {hs : List TreeNode} (m : ℕ) → times (h .own .depth) before ≡ m
+    → eventful (own h) (owns hs) ≡ b → Come n k (own h ∷ before) hs → Come (m + n) (cond b m 0 + k) before (h ∷ hs)
 unfolding total
-count-step counted before h after b m rest p q r = rw (p, q, r)
+come-node h b m e q c = record { copies = rw (e, c .copies); events = rw (q, e, c .events) }
 
--- Both counts are one: every node is counted, or those only that are events.
-module _ (every : Bool) where
-  abbrev counts : TokenNode → List TokenNode → Bool
-  counts h after = every || eventful h after
+-- Nodes inside m copies, of which one copy has x node copies and u events.
+record Sum (d m : ℕ) (p : List TreeNode → List TreeNode) (x u : ℕ) : Type 0 where
+  law : (n k : ℕ) → Walked times more-copies d m p (Come n k) (Come (m * x + n) (m * u + k))
 
-  abbrev W : Walk
-  W = record {
-    X = ℕ;
-    Given = ℕ;
-    Rest = ℕ;
-    ReadResult = ℕ;
-    g = times;
-    add = λ h n. h .size * n;
-    nests = copies-nest;
-    seen = λ m. m;
-    walk = total counts;
-    answer = λ n. n;
-  }
+sum-none : {d m : ℕ} → Sum d m (λ vs. vs) 0 0
+sum-none = record { law = λ n k. walked-as times more-copies (λ before vs. come-as (omega arith) (omega arith)) (walked-none times more-copies) }
 
-  -- Nodes inside m copies, of which one copy has x node copies and u events.
-  abbrev Sum : ℕ → (List TokenNode → List TokenNode) → ℕ → ℕ → Type 0
-  Sum d hs x u = Walked W d hs (λ m rest. m * cond every x u + rest)
+sum-then : {d m : ℕ} {p q : List TreeNode → List TreeNode} {x u y v : ℕ} → Sum d m p x u → Sum d m q y v → Sum d m (λ vs. p (q vs)) (x + y) (u + v)
+sum-then {m = m} {y = y} {v = v} P Q = record {
+  law = λ n k.
+      walked-as times more-copies (λ before vs. come-as (omega arith) (omega arith))
+      (walked-then times more-copies (P .law (m * y + n) (m * v + k)) (Q .law n k));
+}
 
-  sum-none : (d : ℕ) → Sum d (λ more. more) 0 0
-  sum-none d = walked-as W d (λ more. more) _ _ (λ m rest. nothing every m rest) (walked-none W d)
-    where
-      nothing : (e : Bool) (m rest : ℕ) → rest ≡ m * cond e 0 0 + rest
-      nothing true m rest = omega arith
-      nothing false m rest = omega arith
+-- A node that is an event or is none, and those under it.
+sum-node : (h : TreeNode) (b : Bool) {m l x u y v : ℕ} {p : List TreeNode → List TreeNode} → inside times more-copies (own h) m ≡ l
+    → ((vs : List TreeNode) → eventful (own h) (owns (p vs)) ≡ b) → m + l * x ≡ m * y → cond b m 0 + l * u ≡ m * v
+    → Sum (suc (h .own .depth)) l p x u → Sum (h .own .depth) m (λ vs. h ∷ p vs) y v
+sum-node h b {m} e q z w P = record {
+  law = λ n k.
+      walked-node times more-copies copies-nest h e
+      (λ before vs t c. come-as (omega arith) (omega arith) (come-node h b m t (q vs) c)) (P .law n k);
+}
 
-  sum-then : (d : ℕ) (hs ks : List TokenNode → List TokenNode) (x u y v : ℕ) → Sum d hs x u → Sum d ks y v → Sum d (λ more. hs (ks more)) (x + y) (u + v)
-  sum-then d hs ks x u y v P Q = walked-as W d (λ more. hs (ks more)) _ _ (λ m rest. both every m rest) (walked-then W d hs ks _ _ P Q)
-    where
-      both : (e : Bool) (m rest : ℕ) → m * cond e x u + (m * cond e y v + rest) ≡ m * cond e (x + y) (u + v) + rest
-      both true m rest = omega arith
-      both false m rest = omega arith
+-- One that is none, whatever comes after it.
+sum-quiet : (h : TreeNode) {m l x u y v : ℕ} {p : List TreeNode → List TreeNode} → inside times more-copies (own h) m ≡ l
+    → ((after : List TextNode) → eventful (own h) after ≡ false) → m + l * x ≡ m * y → l * u ≡ m * v → Sum (suc (h .own .depth)) l p x u
+    → Sum (h .own .depth) m (λ vs. h ∷ p vs) y v
+sum-quiet h {p = p} e q z w = sum-node h false e (λ vs. q (owns (p vs))) z (omega arith)
 
-  -- A node that is an event, or is none.
-  own : (h : TokenNode) (after : List TokenNode) (b : Bool) → counts h after ≡ b → Own W h (λ m rest. cond b m 0 + rest) after
-  own h after b p before m e rest r = count-step counts before h after b m rest p e r
+-- Neither a group nor a replicator is an event.
+group-quiet : (y : Way) (i d : ℕ) (b : Bool) (after : List TextNode) → eventful (text-node i (group-kind y) b d []) after ≡ false
+group-quiet y i d b after = by-way (λ y. eventful (text-node i (group-kind y) b d []) after) (λ y. false) refl refl refl y
 
-  sum-leaf : (h : TokenNode) → leafy (h .code) ≡ true → Sum (h .depth) (λ more. h ∷ more) 1 1
-  sum-leaf h p =
-      walked-as W (h .depth) (λ more. h ∷ more) _ _ (λ m rest. alone every m rest)
-      (walked-alone W h (λ m rest. cond true m 0 + rest) (λ after. own h after true (rw p (or-true every))))
-    where
-      alone : (e : Bool) (m rest : ℕ) → m + rest ≡ m * cond e 1 1 + rest
-      alone true m rest = omega arith
-      alone false m rest = omega arith
+replicator-quiet : (y : Way) (size i d : ℕ) (b : Bool) (n : Name) (after : List TextNode) → eventful (text-node i (replicator-kind y size) b d n) after ≡ false
+replicator-quiet y size i d b n after = by-way (λ y. eventful (text-node i (replicator-kind y size) b d n) after) (λ y. false) refl refl refl y
 
-  module _ (h : TokenNode) (ks : List TokenNode → List TokenNode) (x u : ℕ) (P : Sum (suc (h .depth)) ks x u) where
-    sum-under : copying (h .code) ≡ false → ((more : List TokenNode) → eventful h (ks more) ≡ false) → Sum (h .depth) (λ more. h ∷ ks more) (1 + x) u
-    sum-under q f =
-        walked-as W (h .depth) (λ more. h ∷ ks more) _ _ (λ m rest. more-by every m rest)
-        (walked-under W h (λ m rest. cond every m 0 + rest) ks _ (λ more. own h (ks more) every (rw (f more) (or-false every))) P q)
-      where
-        more-by : (e : Bool) (m rest : ℕ) → cond e m 0 + (m * cond e x u + rest) ≡ m * cond e (1 + x) u + rest
-        more-by true m rest = omega arith
-        more-by false m rest = omega arith
+replicator-size : (y : Way) (size : ℕ) → size-of (replicator-kind y size) ≡ size
+replicator-size y size = by-way (λ y. size-of (replicator-kind y size)) (λ y. size) refl refl refl y
 
-    sum-quiet : copying (h .code) ≡ false → ((after : List TokenNode) → eventful h after ≡ false) → Sum (h .depth) (λ more. h ∷ ks more) (1 + x) u
-    sum-quiet q f = sum-under q (λ more. f (ks more))
+-- A leaf, and a flow as a loop's member.
+sum-leaf : (n : Name) (A : List Name) (b : Bool) (d i m : ℕ) → Sum d m (member-tree-nodes (λ h. h) (leaf n) A b d i) 1 1
+unfolding member-tree-nodes
+sum-leaf n A b d i m = sum-node _ true refl (λ vs. refl) (omega arith) (omega arith) sum-none
 
-    -- a loop over a flow has its reset
-    sum-reset : copying (h .code) ≡ false → ((more : List TokenNode) → eventful h (ks more) ≡ true) → Sum (h .depth) (λ more. h ∷ ks more) (1 + x) (u + 1)
-    sum-reset q f =
-        walked-as W (h .depth) (λ more. h ∷ ks more) _ _ (λ m rest. more-by every m rest)
-        (walked-under W h (λ m rest. cond true m 0 + rest) ks _ (λ more. own h (ks more) true (rw (f more) (or-true every))) P q)
-      where
-        more-by : (e : Bool) (m rest : ℕ) → m + (m * cond e x u + rest) ≡ m * cond e (1 + x) (u + 1) + rest
-        more-by true m rest = omega arith
-        more-by false m rest = omega arith
-
-    sum-copies : copying (h .code) ≡ true → ((after : List TokenNode) → eventful h after ≡ false)
-        → Sum (h .depth) (λ more. h ∷ ks more) (1 + h .size * x) (h .size * u)
-    sum-copies q f =
-        walked-as W (h .depth) (λ more. h ∷ ks more) _ _ (λ m rest. more-by every m rest)
-        (walked-copies W h (λ m rest. cond every m 0 + rest) ks _ (λ more. own h (ks more) every (rw (f (ks more)) (or-false every))) P q
-        (λ m. h .size * m) (λ m. refl))
-      where
-        more-by : (e : Bool) (m rest : ℕ)
-            → cond e m 0 + (h .size * m * cond e x u + rest) ≡ m * cond e (1 + h .size * x) (h .size * u) + rest
-        more-by true m rest = omega arith
-        more-by false m rest = omega arith
-
--- Which nodes are events.
-group-no-event : (y : Way) (k d : ℕ) (b : Bool) (after : List TokenNode) → eventful (simple k d (group-code y) [] b) after ≡ false
-group-no-event all k d b after = refl
-group-no-event some k d b after = refl
-group-no-event one k d b after = refl
-
-replicator-no-event : (y : Way) (k d : ℕ) (par : Name) (size : ℕ) (b : Bool) (after : List TokenNode)
-    → eventful (record { key = k; depth = d; code = replicator-code y; name = par; size = size; pars = []; strong = false; solid = b }) after ≡ false
-replicator-no-event all k d par size b after = refl
-replicator-no-event some k d par size b after = refl
-replicator-no-event one k d par size b after = refl
-
-reset-event : (f : Flow) (k d : ℕ) (b : Bool) (i j : ℕ) (more : List TokenNode) → eventful (simple k d 15 [] b) (flow-token-nodes f false i j more) ≡ true
-unfolding flow-token-nodes
-reset-event (flow n ps sw c r cs) k d b i j more = refl
+inner-flow : (f : Flow) (A : List Name) (d i : ℕ) (vs : List TreeNode) → over-flow (owns (flow-tree-nodes (λ h. h) f A false d i vs)) ≡ true
+unfolding flow-tree-nodes
+inner-flow (flow n ps sw c r cs) A d i vs = refl
 
 mutual
-  unfolding flow-token-nodes flow-copies flow-events
+  unfolding flow-tree-nodes flow-copies flow-events
 
-  flow-sum : (e : Bool) (f : Flow) (b : Bool) (d k : ℕ) → Sum e d (flow-token-nodes f b d k) (flow-copies f) (flow-events f)
-  flow-sum e (flow n ps sw c r cs) b d k =
-      let h : TokenNode = record { key = k; depth = d; code = 7; name = n; size = 0; pars = reverse ps; strong = sw; solid = b } in
-      sum-quiet e h _ _ _ (sum-then e (suc d) _ _ _ _ _ _ (child-sum e c r (suc d) _) (children-sum e cs (suc d) _)) refl (λ after. refl)
+  flow-sum : (f : Flow) (A : List Name) (b : Bool) (d i m : ℕ) → Sum d m (flow-tree-nodes (λ h. h) f A b d i) (flow-copies f) (flow-events f)
+  flow-sum (flow n ps sw c r cs) A b d i m =
+      sum-quiet _ refl (λ after. refl) (omega arith) (omega arith) (sum-then (child-sum c A r (suc d) _ m) (children-sum cs A (suc d) _ m))
 
-  children-sum : (e : Bool) (cs : Children) (d k : ℕ) → Sum e d (children-token-nodes cs d k) (children-copies cs) (children-events cs)
-  children-sum e none d k = sum-none e d
-  children-sum e (next c r cs) d k = sum-then e d _ _ _ _ _ _ (child-sum e c r d k) (children-sum e cs d _)
+  children-sum : (cs : Children) (A : List Name) (d i m : ℕ) → Sum d m (children-tree-nodes (λ h. h) cs A d i) (children-copies cs) (children-events cs)
+  children-sum none A d i m = sum-none
+  children-sum (next c r cs) A d i m = sum-then (child-sum c A r d i m) (children-sum cs A d _ m)
 
-  child-sum : (e : Bool) (c : Child) (b : Bool) (d k : ℕ) → Sum e d (child-token-nodes c b d k) (child-copies c) (child-events c)
-  child-sum e (plain m) b d k = member-sum e m b d k
-  child-sum e (loop m) b d k = loop-sum e m b d k
-  child-sum e (group y a o ms) b d k =
-      sum-quiet e (simple k d (group-code y) [] b) _ _ _
-      (sum-then e (suc d) _ _ _ _ _ _ (member-sum e a false (suc d) _)
-      (sum-then e (suc d) _ _ _ _ _ _ (member-sum e o false (suc d) _) (members-sum e ms (suc d) _)))
-      (group-copies y) (group-no-event y k d b)
-  child-sum e (replicator y par size m) b d k =
-      let h : TokenNode = record { key = k; depth = d; code = replicator-code y; name = par; size = size; pars = []; strong = false; solid = b } in
-      sum-copies e h _ _ _ (member-sum e m false (suc d) _) (replicator-copies y) (replicator-no-event y k d par size b)
+  child-sum : (c : Child) (A : List Name) (b : Bool) (d i m : ℕ) → Sum d m (child-tree-nodes (λ h. h) c A b d i) (child-copies c) (child-events c)
+  child-sum (plain k) A b d i m = member-sum k A b d i m
+  child-sum (loop k) A b d i m = loop-sum k A b d i m
+  child-sum (group y a e ms) A b d i m =
+      sum-quiet _ (rw (group-copies y)) (group-quiet y i d b) (omega arith) (omega arith)
+      (sum-then (member-sum a A false (suc d) _ m) (sum-then (member-sum e A false (suc d) _ m) (members-sum ms A (suc d) _ m)))
+  child-sum (replicator y par size k) A b d i m =
+      sum-quiet _ (rw (replicator-copies y size, replicator-size y size)) (replicator-quiet y size i d b par) (omega arith) (omega arith)
+      (member-sum k (A ++ (par ∷ [])) false (suc d) _ (size * m))
 
-  loop-sum : (e : Bool) (m : Member) (b : Bool) (d k : ℕ) → Sum e d (child-token-nodes (loop m) b d k) (1 + member-copies m) (loop-events m)
-  loop-sum e (leaf n) b d k = sum-under e (simple k d 15 [] b) _ _ _ (sum-leaf e (simple (k + 2) (suc d) 8 n false) refl) refl (λ more. refl)
-  loop-sum e (inner f) b d k =
-      sum-reset e (simple k d 15 [] b) _ _ _ (flow-sum e f false (suc d) (k + 2)) refl (reset-event f k d b (suc d) (k + 2))
+  loop-sum : (k : Member) (A : List Name) (b : Bool) (d i m : ℕ) → Sum d m (child-tree-nodes (λ h. h) (loop k) A b d i) (1 + member-copies k) (loop-events k)
+  loop-sum (leaf n) A b d i m = sum-node _ false refl (λ vs. refl) (omega arith) (omega arith) (sum-leaf n A false (suc d) _ m)
+  loop-sum (inner f) A b d i m =
+      sum-node _ true refl (λ vs. inner-flow f A (suc d) _ vs) (omega arith) (omega arith) (flow-sum f A false (suc d) _ m)
 
-  member-sum : (e : Bool) (m : Member) (b : Bool) (d k : ℕ) → Sum e d (member-token-nodes m b d k) (member-copies m) (member-events m)
-  member-sum e (leaf n) b d k = sum-leaf e (simple k d 8 n b) refl
-  member-sum e (inner f) b d k = flow-sum e f b d k
+  member-sum : (k : Member) (A : List Name) (b : Bool) (d i m : ℕ) → Sum d m (member-tree-nodes (λ h. h) k A b d i) (member-copies k) (member-events k)
+  member-sum (leaf n) A b d i m = sum-leaf n A b d i m
+  member-sum (inner f) A b d i m = flow-sum f A b d i m
 
-  members-sum : (e : Bool) (ms : Members) (d k : ℕ) → Sum e d (members-token-nodes ms d k) (members-copies ms) (members-events ms)
-  members-sum e end d k = sum-none e d
-  members-sum e (also m ms) d k = sum-then e d _ _ _ _ _ _ (member-sum e m false d k) (members-sum e ms d _)
+  members-sum : (ms : Members) (A : List Name) (d i m : ℕ) → Sum d m (members-tree-nodes (λ h. h) ms A d i) (members-copies ms) (members-events ms)
+  members-sum end A d i m = sum-none
+  members-sum (also k ms) A d i m = sum-then (member-sum k A false d i m) (members-sum ms A d _ m)
 
-counted : (e : Bool) (d : Flow) → total (counts e) [] (flow-token-nodes d false 1 0 []) ≡ 1 * cond e (flow-copies d) (flow-events d) + 0
+counted : (d : Flow) → Come (1 * flow-copies d + 0) (1 * flow-events d + 0) [] (nodes-by (λ h. h) d)
 unfolding times total
-counted e d = flow-sum e d false 1 0 [] 1 refl [] 0 (λ now s. refl)
+counted d = flow-sum d [] false 1 0 1 .law 0 0 .go [] refl [] (λ now s. record { copies = refl; events = refl })
 
-pub copies-counted : (d : Flow) → total any-node [] (flow-token-nodes d false 1 0 []) ≡ flow-copies d
-copies-counted d = counted true d ∙ omega arith
+pub copies-counted : (d : Flow) → total any-node [] (nodes-by own d) ≡ flow-copies d
+copies-counted d = by-owns (total any-node []) d _ (counted d .copies ∙ omega arith)
 
-pub events-counted : (d : Flow) → total eventful [] (flow-token-nodes d false 1 0 []) ≡ flow-events d
-events-counted d = counted false d ∙ omega arith
+pub events-counted : (d : Flow) → total eventful [] (nodes-by own d) ≡ flow-events d
+events-counted d = by-owns (total eventful []) d _ (counted d .events ∙ omega arith)

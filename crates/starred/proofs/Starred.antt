@@ -8,7 +8,7 @@ use lib.ListN.{length}
 use borrow.Author.Tests.{eqb-true, leb-true}
 use Rattle.base.specs.Text.{bytes}
 use Rattle.base.proofs.Truth.{and-l, and-r, clash, not-e}
-use Rattle.diagram.specs.Tree.{Name, Flow}
+use Rattle.diagram.specs.Tree.{Flow}
 use Rattle.diagram.specs.Count.{flow-nodes, flow-copies, flow-events}
 use Rattle.diagram.specs.Depth.{flow-depth}
 use Rattle.diagram.specs.Sizes.{flow-sized}
@@ -18,10 +18,11 @@ use Rattle.diagram.specs.Flows.{each-flow}
 use Rattle.diagram.specs.Rules.{Keeps}
 use Rattle.diagram.proofs.Kept.{keeps?, keeps-decided}
 use Rattle.tokens.specs.Classes.{class-of}
-use Rattle.tokens.specs.Words.{front, keywords, keyword, named, numeral, word-code, code}
-use Rattle.tokens.specs.Spans.{width, spans, spans-of, tokens}
+use Rattle.tokens.specs.Words.{front, keywords}
+use Rattle.tokens.specs.Spans.{width, spans, spans-of}
+use Rattle.tokens.specs.Token.{Token, named, word-token, token-of, text-tokens}
 use Rattle.grammar.specs.Named.{flow-named}
-use Rattle.grammar.specs.Tokens.{key, digits, flow-tokens}
+use Rattle.grammar.specs.Tokens.{flow-tokens}
 use Rattle.process.specs.Process.{owns}
 use Rattle.process.specs.Expand.{expand, flow-process}
 use Rattle.process.specs.Runs.{Begins}
@@ -71,35 +72,35 @@ module _ (d : Flow) (k : Keeps d) where
 
 -- ---- a drawing
 abbrev diagram : Drawing → Flow
-diagram x = tree (tokens (bytes (x .text)))
+diagram x = tree (text-tokens keywords (bytes (x .text)))
 
 -- The tokens of its text are those of the diagram, whose names are names and which keeps the rules beyond grammar; both are within the limits; and each line's test comes
 -- out true.
-abbrev found : Drawing → List Name × List Bool
+abbrev found : Drawing → List Token × List Bool
 found x =
     let d = diagram x in (
-      tokens (bytes (x .text)),
-      flow-named d ∷ keeps? d ∷ leb (length (bytes (x .text))) 16384 ∷ leb (flow-nodes d) 256 ∷ leb (flow-depth d) 12 ∷ leb (flow-copies d) 768
+      text-tokens keywords (bytes (x .text)),
+      flow-named keywords d ∷ keeps? d ∷ leb (length (bytes (x .text))) 16384 ∷ leb (flow-nodes d) 256 ∷ leb (flow-depth d) 12 ∷ leb (flow-copies d) 768
           ∷ leb (flow-events d) 512 ∷ map (test d) (x .lines),
     )
 
-abbrev wanted : Drawing → List Name × List Bool
+abbrev wanted : Drawing → List Token × List Bool
 wanted x = (flow-tokens (diagram x) [], true ∷ true ∷ true ∷ true ∷ true ∷ true ∷ true ∷ map (λ (l : Line). true) (x .lines))
 
 found-as-wanted : map found (table ++ ours) ≡ map wanted (table ++ ours)
-unfolding class-of front keywords keyword named numeral word-code code width spans spans-of tokens key digits flow-tokens flow-named flow-sized flow-names flow-parameters each-flow flow-nodes flow-depth flow-copies flow-events flow-process owns clears begun complete enabled change blank-record cleared marked-all
+unfolding class-of front keywords width spans spans-of named word-token token-of text-tokens flow-tokens flow-named flow-sized flow-names flow-parameters each-flow flow-nodes flow-depth flow-copies flow-events flow-process owns clears begun complete enabled change blank-record cleared marked-all
 found-as-wanted = refl
 
 pub starred : Worked (table ++ ours)
 starred x m =
     let d = diagram x in
     let q = same-at found wanted m found-as-wanted in
-    let t : found x .1 ≡ wanted x .1 = ap (λ (p : List Name × List Bool). p .1) q in
+    let t : found x .1 ≡ wanted x .1 = ap (λ (p : List Token × List Bool). p .1) q in
     let k : Keeps d = keeps-decided d .0 (cc) in (
       d,
       record {
         short = leb-true (length (bytes (x .text))) 16384 (cc);
-        derived = record { proper = record { names = cc; sizes = k .sizes }; tokens = ap (λ (p : List Name × List Bool). p .0) q };
+        derived = record { proper = record { names = cc; sizes = k .sizes }; tokens = ap (λ (p : List Token × List Bool). p .0) q };
         keeps = k;
         nodes = leb-true (flow-nodes d) 256 (cc);
         depth = leb-true (flow-depth d) 12 (cc);

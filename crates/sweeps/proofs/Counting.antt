@@ -10,12 +10,14 @@ use lib.ListN.{length, drop, getD, set, replicate, length-set}
 use lib.Seq.{getD-set-same, getD-set-other}
 use borrow.Author.Tests.{eqb-true, eqb-false}
 use Rattle.base.proofs.Truth.{by-cases}
-use Rattle.rules.specs.TokenNodes.{TokenNode, copying}
+use Rattle.diagram.specs.TreeNodes.{TextNode, copying, size-of}
 use Rattle.rules.specs.Counted.{times, total, capped, any-node, eventful}
+use Rattle.names.specs.code.Kinds.{copying-code}
 use Rattle.names.specs.code.Told.{node, earlier, Told}
+use Rattle.names.proofs.Coded.{copying-coded}
 use Rattle.names.proofs.Tables.{ones-small}
-use Rattle.sweeps.proofs.Capped.{capped-product}
 use Rattle.names.proofs.Stack.{Stacked, stack-start, stack-next}
+use Rattle.sweeps.proofs.Capped.{capped-product}
 use Rattle.sweeps.proofs.Summed.{Summed, sum-start, sum-next, sum-end}
 
 -- No count of the table is over the cap.
@@ -23,16 +25,17 @@ pub record Small (table : List ℕ) : Type 0 where
   pub long : length table ≡ 14
   pub each : (k : ℕ) → getD table k 0 ≤ 769
 
-pub record Counting (hs : List TokenNode) (table : List ℕ) (copies events i : ℕ) : Type 0 where
+pub record Counting (hs : List TextNode) (table : List ℕ) (copies events i : ℕ) : Type 0 where
   pub stack : Stacked times (λ e n. getD table e 0 ≡ capped n) hs i
   pub copied : Summed any-node hs copies i
   pub happened : Summed eventful hs events i
 
 -- What a node leaves for those one deeper: its copies times its size.
-abbrev grown : TokenNode → ℕ → ℕ
-grown h n = cond (copying (h .code)) (h .size * n) n
+abbrev grown : TextNode → ℕ → ℕ
+grown h n = cond (copying (h .kind)) (size-of (h .kind) * n) n
 
-times-more : (e : ℕ) (h : TokenNode) (before : List TokenNode) → times e (h ∷ before) ≡ cond (ltb (h .depth) e) (grown h (times (h .depth) before)) (times e before)
+times-more : (e : ℕ) (h : TextNode) (before : List TextNode)
+    → times e (h ∷ before) ≡ cond (ltb (h .depth) e) (grown h (times (h .depth) before)) (times e before)
 unfolding times
 times-more e h before = refl
 
@@ -44,7 +47,7 @@ grow-by : (b : Bool) (z n : ℕ) → n * cond b z 1 ≡ cond b (z * n) n
 grow-by true z n = mul-comm n z
 grow-by false z n = mul-one n
 
-pub count-start : (hs : List TokenNode) → Counting hs (replicate 14 1) 0 0 0
+pub count-start : (hs : List TextNode) → Counting hs (replicate 14 1) 0 0 0
 count-start hs =
     record {
       stack = stack-start times (λ e n. getD (replicate 14 1) e 0 ≡ capped n) hs (rw times-none);
@@ -79,12 +82,14 @@ module _ {text rows : List ℕ} {count : ℕ} (t : Told text rows count) {table 
     many : n ≡ capped (times (node (t .hs) i .depth) (earlier (t .hs) i))
     many = let l = t .deep i h in p ∙ rw depth (s .stack .each (node (t .hs) i .depth) (l .0) (l .1))
 
-    module _ {y z : ℕ} (q : y ≡ cond (eventful (node (t .hs) i) (drop (i + 1) (t .hs))) n 0) (e : z ≡ cond (copying (getD rows (i * 8 + 11) 0)) (getD rows (i * 8 + 12) 0) 1) where
+    module _ {y z : ℕ} (q : y ≡ cond (eventful (node (t .hs) i) (drop (i + 1) (t .hs))) n 0)
+        (e : z ≡ cond (copying-code (getD rows (i * 8 + 11) 0)) (getD rows (i * 8 + 12) 0) 1) where
       left : (v : ℕ) → v ≡ capped (n * z) → v ≡ capped (grown (node (t .hs) i) (times (node (t .hs) i .depth) (earlier (t .hs) i)))
       left v g =
           let r = t .row i h in
+          let k = node (t .hs) i .kind in
           let x = times (node (t .hs) i .depth) (earlier (t .hs) i) in
-          g ∙ rw (many, capped-product x z, e, r .code, r .size, grow-by (copying (node (t .hs) i .code)) (node (t .hs) i .size) x)
+          g ∙ rw (many, capped-product x z, e, r .code, r .size, copying-coded k, grow-by (copying k) (size-of k) x)
 
       pub count-next : {m k v : ℕ} → length table ≡ 14 → m ≡ capped (copies + n) → k ≡ capped (events + y) → v ≡ capped (n * z)
           → Counting (t .hs) (set table (d + 1) v) m k (i + 1)

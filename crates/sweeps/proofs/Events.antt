@@ -8,6 +8,7 @@ use lib.ListN.{getD, drop}
 use borrow.Author.Tests.{eq-eqb, ne-eqb}
 use Rattle.rules.specs.Counted.{over-flow, eventful}
 use Rattle.names.specs.code.Told.{node, Told}
+use Rattle.names.proofs.Coded.{flow-coded, leaf-coded, loop-coded}
 use Rattle.names.proofs.Numbered.{from-here, from-past}
 
 module _ {text rows : List ℕ} {count i : ℕ} (t : Told text rows count) (h : i < count) (n : ℕ) {c : ℕ} (p : c ≡ getD rows (i * 8 + 11) 0) where
@@ -15,7 +16,7 @@ module _ {text rows : List ℕ} {count i : ℕ} (t : Told text rows count) (h : 
   events = cond (eventful (node (t .hs) i) (drop (i + 1) (t .hs))) n 0
 
   by-code : events ≡ cond (eqb c 8 || (eqb c 15 && over-flow (drop (i + 1) (t .hs)))) n 0
-  by-code = rw (← t .row i h .code, ← p)
+  by-code = let k = node (t .hs) i .kind in rw (p, t .row i h .code, leaf-coded k, loop-coded k)
 
   pub event-leaf : c ≡ 8 → n ≡ events
   event-leaf e = sym (by-code ∙ rw (eq-eqb c 8 e))
@@ -33,7 +34,7 @@ module _ {text rows : List ℕ} {count i : ℕ} (t : Told text rows count) (h : 
 
       module _ (l : i + 1 < count) {x : ℕ} (q : x ≡ getD rows ((i + 1) * 8 + 11) 0) where
         next : over-flow (drop (i + 1) (t .hs)) ≡ eqb x 7
-        next = rw (from-here (t .hs) (i + 1) (rw (t .many) l), ← t .row (i + 1) l .code, ← q)
+        next = rw (from-here (t .hs) (i + 1) (rw (t .many) l), q, t .row (i + 1) l .code, flow-coded (node (t .hs) (i + 1) .kind))
 
         pub event-no-flow : (x ≡ 7 → ⊥) → 0 ≡ events
         event-no-flow e = sym (over false (next ∙ ne-eqb x 7 e))

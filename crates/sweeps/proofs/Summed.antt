@@ -5,30 +5,31 @@ use mathlib.Core.List.{List, [], _∷_}
 use Prim.Native.Nat.{ℕ, _+_, _≤_, _<_}
 use native.Mathlib.Nat.{zero-add, add-zero}
 use lib.ListN.{length, drop}
-use Rattle.rules.specs.TokenNodes.{TokenNode}
+use Rattle.diagram.specs.TreeNodes.{TextNode}
 use Rattle.rules.specs.Counted.{times, total, capped}
 use Rattle.names.specs.code.Told.{node, earlier}
 use Rattle.names.proofs.Numbered.{earlier-none, earlier-more, from-here, from-past}
 use Rattle.sweeps.proofs.Capped.{capped-self, sum-step}
 
 -- Those of the nodes before the number i that count come to n.
-pub record Summed (w : TokenNode → List TokenNode → Bool) (hs : List TokenNode) (n i : ℕ) : Type 0 where
+pub record Summed (w : TextNode → List TextNode → Bool) (hs : List TextNode) (n i : ℕ) : Type 0 where
   pub is : capped (n + total w (earlier hs i) (drop i hs)) ≡ capped (total w [] hs)
 
-pub sum-start : (w : TokenNode → List TokenNode → Bool) (hs : List TokenNode) → Summed w hs 0 0
+pub sum-start : (w : TextNode → List TextNode → Bool) (hs : List TextNode) → Summed w hs 0 0
 sum-start w hs = record { is = rw (earlier-none hs, zero-add) }
 
 capped-if : (b : Bool) (t : ℕ) → cond b (capped t) 0 ≡ capped (cond b t 0)
 capped-if true t = refl
 capped-if false t = refl
 
-module _ {w : TokenNode → List TokenNode → Bool} {hs : List TokenNode} {n i : ℕ} (s : Summed w hs n i) where
+module _ {w : TextNode → List TextNode → Bool} {hs : List TextNode} {n i : ℕ} (s : Summed w hs n i) where
   pub sum-end : n ≤ 769 → length hs ≤ i → n ≡ capped (total w [] hs)
   unfolding total
   sum-end l h = sym (capped-self n l) ∙ rw (from-past hs i h, add-zero n) at (s .is)
 
   -- One more node, which has x copies, of which y count.
-  pub sum-next : {x y m : ℕ} → i < length hs → x ≡ capped (times (node hs i .depth) (earlier hs i)) → y ≡ cond (w (node hs i) (drop (i + 1) hs)) x 0 → m ≡ capped (n + y)
+  pub sum-next : {x y m : ℕ} → i < length hs → x ≡ capped (times (node hs i .depth) (earlier hs i)) → y ≡ cond (w (node hs i) (drop (i + 1) hs)) x 0
+      → m ≡ capped (n + y)
       → Summed w hs m (i + 1)
   unfolding total
   sum-next {x} {y} {m} h p q g =

@@ -1,40 +1,32 @@
 -- Number 10 of a node, by its row. Assumes nothing.
-use mathlib.Core.Path.{_≡_, refl, sym, _∙_}
-use mathlib.Core.Bool.{Bool, true, false}
+use mathlib.Core.Path.{_≡_, refl, _∙_}
+use mathlib.Core.Bool.{Bool, true, false, not, _&&_, cond}
 use mathlib.Core.List.{List, []}
 use Prim.Native.Nat.{ℕ, _+_, _*_, _<_}
-use native.Mathlib.Omega.{arith}
-use lib.ListN.{length, getD}
-use borrow.Author.Tests.{eq-eqb, ne-eqb}
+use lib.Dec.{eqb}
+use lib.ListN.{drop, getD}
+use Rattle.diagram.specs.TreeNodes.{flowing}
 use Rattle.rules.specs.Kept.{fault, strongs-kept}
 use Rattle.walked.specs.Rows.{mark}
-use Rattle.names.specs.code.Told.{node, Told, found}
+use Rattle.names.specs.code.Kinds.{flow-code}
+use Rattle.names.specs.code.Told.{node, earlier, Told, found}
+use Rattle.names.proofs.Coded.{flow-coded}
 use Rattle.names.proofs.Searched.{Searched, search-next, search-here}
 
-marked : (b : Bool) → mark b ≡ 0 → b ≡ false
-marked true e = let z : ⊥ = omega arith in absurd z
-marked false e = refl
+weak-or-kept : (flow strong : Bool) → cond flow strong true ≡ not (flow && eqb (mark strong) 0)
+weak-or-kept true true = refl
+weak-or-kept true false = refl
+weak-or-kept false strong = refl
 
-unmarked : (b : Bool) → (mark b ≡ 0 → ⊥) → b ≡ true
-unmarked true e = refl
-unmarked false e = absurd (e refl)
+module _ {text rows : List ℕ} {count i : ℕ} (t : Told text rows count) (s : Searched strongs-kept (t .hs) i) (h : i < count)
+    {b : Bool} (p : b ≡ (flow-code (getD rows (i * 8 + 11) 0) && eqb (getD rows (i * 8 + 14) 0) 0)) where
+  kept : strongs-kept (earlier (t .hs) i) (node (t .hs) i) (drop (i + 1) (t .hs)) ≡ not b
+  kept =
+      let n = node (t .hs) i in
+      rw (p, t .row i h .code, t .row i h .strong, flow-coded (n .kind)) (weak-or-kept (flowing (n .kind)) (n .strong))
 
-module _ {text rows : List ℕ} {count i : ℕ} (t : Told text rows count) (s : Searched strongs-kept (t .hs) i) (h : i < count) {x : ℕ} (p : x ≡ getD rows (i * 8 + 11) 0) where
-  code : x ≡ node (t .hs) i .code
-  code = p ∙ t .row i h .code
+  pub strong-broken : b ≡ true → fault strongs-kept [] (t .hs) ≡ found (t .hs) (i + 1)
+  strong-broken e = search-here s (rw (t .many) h) (kept ∙ rw e)
 
-  inside : i < length (t .hs)
-  inside = rw (t .many) h
-
-  pub strong-other : (x ≡ 7 → ⊥) → Searched strongs-kept (t .hs) (i + 1)
-  strong-other n = search-next s inside (rw (← code, ne-eqb x 7 n))
-
-  module _ (f : x ≡ 7) {y : ℕ} (q : y ≡ getD rows (i * 8 + 14) 0) where
-    its : y ≡ mark (node (t .hs) i .strong)
-    its = q ∙ t .row i h .strong
-
-    pub strong-broken : y ≡ 0 → fault strongs-kept [] (t .hs) ≡ found (t .hs) (i + 1)
-    strong-broken z = search-here s inside (rw (← code, eq-eqb x 7 f) (marked (node (t .hs) i .strong) (sym its ∙ z)))
-
-    pub strong-next : (y ≡ 0 → ⊥) → Searched strongs-kept (t .hs) (i + 1)
-    strong-next n = search-next s inside (rw (← code, eq-eqb x 7 f) (unmarked (node (t .hs) i .strong) (λ z. n (its ∙ z))))
+  pub strong-next : b ≡ false → Searched strongs-kept (t .hs) (i + 1)
+  strong-next e = search-next s (rw (t .many) h) (kept ∙ rw e)

@@ -10,11 +10,14 @@ use lib.ListN.{length, drop, getD, set, replicate, length-set}
 use lib.Seq.{getD-set-same, getD-set-other}
 use borrow.Author.Tests.{ltb-true, ltb-false, eq-eqb, ne-eqb, eqb-true, eqb-false, le-leb, lt-leb}
 use Rattle.base.proofs.Truth.{by-cases}
-use Rattle.rules.specs.TokenNodes.{TokenNode, flowing}
-use Rattle.rules.specs.Kept.{may-be-solid, solids, one-of, solids-kept, fault}
-use Rattle.walked.specs.Rows.{mark}
+use Rattle.diagram.specs.TreeNodes.{TextNode, flowing, may-be-solid}
+use Rattle.diagram.specs.declared.Kind.{Kind}
+use Rattle.rules.specs.Kept.{solids, one-of, solids-kept, fault}
+use Rattle.walked.specs.Rows.{mark, kind-code}
+use Rattle.names.specs.code.Kinds.{flow-code, solid-code}
 use Rattle.names.specs.code.Told.{node, Told, found}
 use Rattle.sweeps.specs.code.Weights.{heavier, weight}
+use Rattle.names.proofs.Coded.{flow-coded, solid-coded}
 use Rattle.names.proofs.Tables.{zeros}
 use Rattle.names.proofs.Numbered.{last-more, from-here, from-past}
 
@@ -26,18 +29,18 @@ light : (b : Bool) → b ≡ eqb (cond b 1 2) 1
 light true = refl
 light false = refl
 
-weight-one : (cs : List ℕ) → one-of cs ≡ eqb (weight cs) 1
+weight-one : (ks : List Kind) → one-of ks ≡ eqb (weight ks) 1
 unfolding weight
 weight-one [] = refl
-weight-one (c ∷ []) = light (may-be-solid c)
-weight-one (c ∷ e ∷ cs) = rw (heavy (eqb (weight cs) 0 && may-be-solid e))
+weight-one (k ∷ []) = rw (solid-coded k) (light (may-be-solid k))
+weight-one (k ∷ e ∷ ks) = rw (heavy (eqb (weight ks) 0 && solid-code (kind-code e)))
 
 -- The solid children of a flow of depth e, by the depth of the next node.
-module _ (h : TokenNode) (after : List TokenNode) (e : ℕ) where
+module _ (h : TextNode) (after : List TextNode) (e : ℕ) where
   solids-over : h .depth ≤ e → solids e (h ∷ after) ≡ []
   solids-over l = rw (le-leb (h .depth) e l)
 
-  solids-child : h .depth ≡ suc e → solids e (h ∷ after) ≡ cond (h .solid) (h .code ∷ solids e after) (solids e after)
+  solids-child : h .depth ≡ suc e → solids e (h ∷ after) ≡ cond (h .solid) (h .kind ∷ solids e after) (solids e after)
   solids-child q = rw (lt-leb (h .depth) e (omega arith), eq-eqb (h .depth) (suc e) q)
 
   solids-deeper : suc e < h .depth → solids e (h ∷ after) ≡ solids e after
@@ -47,18 +50,18 @@ weight-none : weight [] ≡ 0
 unfolding weight
 weight-none = refl
 
-weight-if : (b : Bool) (w c : ℕ) (cs : List ℕ) → w ≡ weight cs → cond (eqb (mark b) 0) w (heavier w c) ≡ weight (cond b (c ∷ cs) cs)
+weight-if : (b : Bool) (w : ℕ) (k : Kind) (ks : List Kind) → w ≡ weight ks → cond (eqb (mark b) 0) w (heavier w (kind-code k)) ≡ weight (cond b (k ∷ ks) ks)
 unfolding weight
-weight-if true w c cs e = rw e
-weight-if false w c cs e = e
+weight-if true w k ks e = rw e
+weight-if false w k ks e = e
 
 -- The table has the weight of the solid children of a flow at each depth, among the nodes from the number i on.
-pub record Weighed (hs : List TokenNode) (table : List ℕ) (i : ℕ) : Type 0 where
+pub record Weighed (hs : List TextNode) (table : List ℕ) (i : ℕ) : Type 0 where
   pub each : (e : ℕ) → e ≤ 12 → getD table (e + 1) 0 ≡ weight (solids e (drop i hs))
 
 -- The first of these nodes that breaks the rule is one less than f.
-pub record First (hs : List TokenNode) (f i : ℕ) : Type 0 where
-  pub is : (before : List TokenNode) → fault solids-kept before (drop i hs) ≡ found hs f
+pub record First (hs : List TextNode) (f i : ℕ) : Type 0 where
+  pub is : (before : List TextNode) → fault solids-kept before (drop i hs) ≡ found hs f
 
 module _ {text rows : List ℕ} {count : ℕ} (t : Told text rows count) where
   pub weigh-start : Weighed (t .hs) (replicate 14 0) count
@@ -69,7 +72,7 @@ module _ {text rows : List ℕ} {count : ℕ} (t : Told text rows count) where
   unfolding fault
   first-start = record { is = λ before. rw (from-past (t .hs) count (omega (arith, t .many))) }
 
-pub first-all : {hs : List TokenNode} {f i : ℕ} → First hs f i → i ≤ 0 → fault solids-kept [] hs ≡ found hs f
+pub first-all : {hs : List TextNode} {f i : ℕ} → First hs f i → i ≤ 0 → fault solids-kept [] hs ≡ found hs f
 first-all {hs} {f} {i} s h = let e : i ≡ 0 = omega arith in rw e at (s .is [])
 
 pub blame-within : (n i later : ℕ) (b e : Bool) → later ≤ n → i + 1 ≤ n → cond b (cond e later (i + 1)) later ≤ n
@@ -100,15 +103,15 @@ module _ {text rows : List ℕ} {count : ℕ} (t : Told text rows count) {table 
       rw (from-past (t .hs) (i + 1) (omega (arith, t .many))))
 
   pub first-next : {f g w : ℕ} → First (t .hs) f (i + 1) → w ≡ getD table (d + 1) 0
-      → g ≡ cond (flowing (getD rows (i * 8 + 11) 0)) (cond (eqb w 1) f (i + 1)) f → First (t .hs) g i
+      → g ≡ cond (flow-code (getD rows (i * 8 + 11) 0)) (cond (eqb w 1) f (i + 1)) f → First (t .hs) g i
   unfolding fault
   first-next {f} {g} {w} r p q =
       let ws : eqb w 1 ≡ one-of (solids (node (t .hs) i .depth) (drop (i + 1) (t .hs))) =
       rw (weight-one (solids (node (t .hs) i .depth) (drop (i + 1) (t .hs))), ← depth, ← s .each d small, p) in
       record {
         is = λ before.
-            rw (here, q, t .row i h .code, ← ws)
-            (by-cases (flowing (node (t .hs) i .code)) (λ a. rw a (by-cases (eqb w 1) (λ b. rw b (r .is (node (t .hs) i ∷ before))) (λ b. rw (b, add-one i)))) (λ a. rw a (r .is (node (t .hs) i ∷ before))));
+            rw (here, q, t .row i h .code, flow-coded (node (t .hs) i .kind), ← ws)
+            (by-cases (flowing (node (t .hs) i .kind)) (λ a. rw a (by-cases (eqb w 1) (λ b. rw b (r .is (node (t .hs) i ∷ before))) (λ b. rw (b, add-one i)))) (λ a. rw a (r .is (node (t .hs) i ∷ before))));
       }
 
   -- Its children are passed, and it is one of those of its depth: v is their weight.
@@ -141,7 +144,7 @@ module _ {text rows : List ℕ} {count : ℕ} (t : Told text rows count) {table 
         ap (λ (k : ℕ). getD left k 0) (sym z)
         ∙ taken
         ∙ q
-        ∙ rw (t .row i h .solid, t .row i h .code) (weight-if (n .solid) w (n .code) (solids e after) wt)
+        ∙ rw (t .row i h .solid, t .row i h .code) (weight-if (n .solid) w (n .kind) (solids e after) wt)
         ∙ ap weight (sym (solids-child n after e (omega arith)))) (λ b.
         let z = eqb-false d (e + 1) b in
         kept (e + 1) (λ g. z (sym g)) (λ g. omega arith)

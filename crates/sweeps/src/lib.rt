@@ -1,37 +1,20 @@
 ghost use mathlib.Core.Path.{_≡_};
-ghost use mathlib.Core.Bool.{cond};
+ghost use mathlib.Core.Bool.{_&&_, cond};
 ghost use mathlib.Core.List.{List, []};
 ghost use Prim.Native.Nat.{ℕ, _+_, _*_, _≤_, _<_};
 ghost use lib.Dec.{eqb};
 ghost use lib.ListN.{length, getD, drop};
+ghost use Rattle.diagram.specs.TreeNodes.{TextNode};
 ghost use Rattle.lexer.specs.Lexicon.{Lexicon};
-ghost use Rattle.rules.specs.TokenNodes.{TokenNode, flowing, copying};
+ghost use Rattle.grammar.specs.Keys.{keyword-at};
 ghost use Rattle.rules.specs.Kept.{fault, solids-kept, strongs-kept};
 ghost use Rattle.rules.specs.Counted.{total, any-node, eventful, capped};
-ghost use Rattle.rules.specs.Judged.{counted, verdict as verdict-of};
+ghost use Rattle.rules.specs.Judged.{refuse, counted, verdict as verdict-of};
 ghost use Rattle.walked.specs.Rows.{Rowed, Nested};
+ghost use Rattle.names.specs.code.Kinds.{flow-code, copying-code};
 ghost use Rattle.names.specs.code.Told.{node, Told, found};
 ghost use Rattle.sweeps.specs.code.Weights.{heavier as heavier-of};
 use rules::Verdict;
-
-// Number 10: one more than the number of the first flow whose sw is 0, and 0 where there is none.
-fn strongs(rows: &[u16; 2056], count: usize) -> usize
-    requires { ⌜ count ≤ 256 ⌝ }
-    ensures { λ r. ⌜ r ≤ count ⌝ }
-    ensures { λ r. ⌜ ((text : List ℕ) (t : Told text (now (rows .entry)) count) → fault strongs-kept [] (t .hs) ≡ found (t .hs) r) ⌝ }
-{
-    let mut i = 0;
-    while i < count {
-        let at = i;
-        i += 1;
-        if names::told(rows, at, 11) == 7 {
-            if names::told(rows, at, 14) == 0 {
-                return i;
-            }
-        }
-    }
-    0
-}
 
 // The weight of a flow's solid children, with one more whose keyword is c.
 fn heavier(w: usize, c: usize) -> usize
@@ -69,7 +52,7 @@ fn borne(rows: &[u16; 2056], i: usize, w: usize) -> usize
 // One more than the number of the node i if it is a flow whose children weigh w, which is not 1; else the one found so far.
 fn blamed(rows: &[u16; 2056], i: usize, w: usize, later: usize) -> usize
     requires { ⌜ i < 256 ⌝ }
-    ensures { λ r. ⌜ r ≡ cond (flowing (getD (now (rows .entry)) (i * 8 + 11) 0)) (cond (eqb w 1) later (i + 1)) later ⌝ }
+    ensures { λ r. ⌜ r ≡ cond (flow-code (getD (now (rows .entry)) (i * 8 + 11) 0)) (cond (eqb w 1) later (i + 1)) later ⌝ }
 {
     if names::told(rows, i, 11) != 7 {
         return later;
@@ -114,7 +97,7 @@ fn cap(n: usize) -> usize
 // The size of the node i if it is a replicator, else 1.
 fn factor(rows: &[u16; 2056], i: usize) -> usize
     requires { ⌜ i < 256 ⌝ }
-    ensures { λ r. ⌜ r ≡ cond (copying (getD (now (rows .entry)) (i * 8 + 11) 0)) (getD (now (rows .entry)) (i * 8 + 12) 0) 1 ⌝ }
+    ensures { λ r. ⌜ r ≡ cond (copying-code (getD (now (rows .entry)) (i * 8 + 11) 0)) (getD (now (rows .entry)) (i * 8 + 12) 0) 1 ⌝ }
     ensures { λ r. ⌜ r < 65536 ⌝ }
 {
     let c = names::told(rows, i, 11);
@@ -163,16 +146,30 @@ fn limits(copies: usize, events: usize) -> Verdict
     Verdict::Kept(copies, events)
 }
 
-// Number 11, or the counts: how many copies a node has is kept by its depth.
+// Whether the node i is a flow whose sw is 0.
+fn weak(rows: &[u16; 2056], i: usize) -> bool
+    requires { ⌜ i < 256 ⌝ }
+    ensures { λ r. ⌜ r ≡ (flow-code (getD (now (rows .entry)) (i * 8 + 11) 0) && eqb (getD (now (rows .entry)) (i * 8 + 14) 0) 0) ⌝ }
+{
+    if names::told(rows, i, 11) != 7 {
+        return false;
+    }
+    names::told(rows, i, 14) == 0
+}
+
+// Numbers 10 and 11, or the counts: the first flow whose sw is 0 ends the count. How many copies a node has is kept by its depth.
 fn counts(rows: &[u16; 2056], count: usize) -> Verdict
     requires { ⌜ count ≤ 256 ⌝ }
-    ensures { λ r. ⌜ ((text : List ℕ) (t : Told text (now (rows .entry)) count) → r ≡ counted (capped (total any-node [] (t .hs))) (capped (total eventful [] (t .hs)))) ⌝ }
+    ensures { λ r. ⌜ ((text : List ℕ) (t : Told text (now (rows .entry)) count) → r ≡ refuse 10 (keyword-at text) (fault strongs-kept [] (t .hs)) (counted (capped (total any-node [] (t .hs))) (capped (total eventful [] (t .hs))))) ⌝ }
 {
     let mut around = [1usize; 14];
     let mut copies = 0;
     let mut events = 0;
     let mut i = 0;
     while i < count {
+        if weak(rows, i) {
+            return Verdict::Refused(10, names::told(rows, i, 8));
+        }
         let d = names::depth(rows, i);
         let n = around[d];
         copies = cap(copies + n);
@@ -186,9 +183,9 @@ fn counts(rows: &[u16; 2056], count: usize) -> Verdict
 // Numbers 7 to 11 in this order, each over the whole text, by the rows of its nodes: the first refusal, or how many node copies and events there are.
 pub fn verdict(text: &[u8], rows: &[u16; 2056], count: usize, lexicon: &[u8; 400]) -> Verdict
     requires { ⌜ (count ≤ 256) × Lexicon (now lexicon) ⌝ }
-    ensures { λ r. ⌜ ((places : List ℕ) (hs : List TokenNode) → length hs ≡ count → Rowed (now (text .entry)) places (now (rows .entry)) 0 hs → Nested 0 hs → r ≡ verdict-of places hs) ⌝ }
+    ensures { λ r. ⌜ ((hs : List TextNode) → length hs ≡ count → Rowed (now (text .entry)) (now (rows .entry)) 0 hs → Nested 0 hs → r ≡ verdict-of (now (text .entry)) hs) ⌝ }
 {
-    let twice = names::names(text, rows, count, lexicon);
+    let twice = names::names(text, rows, count);
     if 0 < twice {
         return Verdict::Refused(7, names::told(rows, twice - 1, 10));
     }
@@ -199,10 +196,6 @@ pub fn verdict(text: &[u8], rows: &[u16; 2056], count: usize, lexicon: &[u8; 400
     let unsolid = solids(rows, count);
     if 0 < unsolid {
         return Verdict::Refused(9, names::told(rows, unsolid - 1, 8));
-    }
-    let weak = strongs(rows, count);
-    if 0 < weak {
-        return Verdict::Refused(10, names::told(rows, weak - 1, 8));
     }
     counts(rows, count)
 }

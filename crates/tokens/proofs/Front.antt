@@ -2,12 +2,13 @@
 use mathlib.Core.Path.{_≡_, refl, sym, _∙_}
 use mathlib.Core.Bool.{Bool, true, false, cond}
 use mathlib.Core.List.{List, [], _∷_}
-use Prim.Native.Nat.{ℕ, suc, _+_, _-_, _≤_, _<_}
+use Prim.Native.Nat.{ℕ, suc, _+_, _≤_, _<_}
 use native.Mathlib.Nat.{add-zero, add-suc, suc-add}
 use native.Mathlib.Numerals.{add-one}
 use native.Mathlib.Omega.{arith}
 use lib.ListN.{length, take, drop, getD, drop-of-length-le}
 use lib.Seq.{drop-cons, drop-drop}
+use Rattle.base.proofs.Truth.{is-false}
 use Rattle.tokens.specs.Words.{front, every}
 
 pub front-end : (t : ℕ → Bool) (text : List ℕ) (at : ℕ) → length text ≤ at → at + front t (drop at text) ≡ at
@@ -32,7 +33,11 @@ unfolding front
 front-le t [] = omega arith
 front-le t (b ∷ bs) = cond-le (t b) (front t bs) (length bs) (front-le t bs)
 
--- Past the front the next byte does not pass.
+-- Where there is no front the next byte does not pass; so it is past the front.
+pub front-fails : (t : ℕ → Bool) (b : ℕ) (bs : List ℕ) → front t (b ∷ bs) ≡ 0 → t b ≡ false
+unfolding front
+front-fails t b bs e = is-false (t b) (λ q. let z : suc (front t bs) ≡ 0 = rw q at e in omega arith)
+
 after : (t : ℕ → Bool) (b : ℕ) (bs : List ℕ) (v : Bool) → t b ≡ v → front t (drop (front t bs) bs) ≡ 0
     → front t (drop (cond v (suc (front t bs)) 0) (b ∷ bs)) ≡ 0
 unfolding front

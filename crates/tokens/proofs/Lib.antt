@@ -8,3 +8,4 @@ pub mod WordAt
 pub mod WordCodes
 pub mod Worked
 pub mod Tokens
+pub mod Cut

@@ -1,9 +1,8 @@
--- What the tokens of a text are, token by token: as many numbers and places as tokens, each a part of the text; and a token's number is
--- 6 exactly where it is a name.
+-- What the tokens of a text are, token by token: as many places as tokens, each a part of the text; and one that has the number 6 is a word.
 use mathlib.Core.Path.{_≡_, refl, sym, ap, _∙_, subst}
 use mathlib.Core.Bool.{Bool, true, false, cond}
 use mathlib.Core.List.{List, [], _∷_}
-use Prim.Native.Nat.{ℕ, zero, suc, _+_, _-_, _≤_, _<_}
+use Prim.Native.Nat.{ℕ, zero, suc, _+_, _<_}
 use native.Mathlib.Omega.{arith}
 use lib.ListN.{length, take, drop, getD, length-drop, length-map, List·getD-map}
 use lib.Seq.{drop-drop, getD-take}
@@ -11,17 +10,13 @@ use Rattle.diagram.specs.Tree.{Name}
 use Rattle.base.proofs.Truth.{clash}
 use Rattle.tokens.specs.Classes.{between, class-of, worded}
 use Rattle.tokens.specs.Words.{front, blanks, word-at, word-code, code}
-use Rattle.tokens.specs.Spans.{Span, width, cut, spans, spans-of, tokens, codes, places}
+use Rattle.tokens.specs.Spans.{Span, width, cut, spans, spans-of, tokens, places}
 use Rattle.tokens.proofs.Between.{between-in}
 use Rattle.tokens.proofs.Steps.{width-some}
 
 pub tokens-length : (text : List ℕ) → length (tokens text) ≡ length (spans-of text)
 unfolding tokens
 tokens-length text = length-map (spans-of text) (λ (s : Span). s .bytes)
-
-pub codes-length : (text : List ℕ) → length (codes text) ≡ length (spans-of text)
-unfolding codes
-codes-length text = length-map (tokens text) code ∙ tokens-length text
 
 pub places-length : (text : List ℕ) → length (places text) ≡ length (spans-of text)
 unfolding places
@@ -35,27 +30,9 @@ pub token-at : (text : List ℕ) (k : ℕ) → getD (tokens text) k [] ≡ getD 
 unfolding tokens
 token-at text k = List·getD-map (λ (s : Span). s .bytes) (spans-of text) k no-span
 
-pub code-at : (text : List ℕ) (k : ℕ) → getD (codes text) k 0 ≡ code (getD (tokens text) k [])
-unfolding codes code class-of
-code-at text k = List·getD-map code (tokens text) k []
-
 pub place-at : (text : List ℕ) (k : ℕ) → getD (places text) k 0 ≡ getD (spans-of text) k no-span .place
 unfolding places
 place-at text k = List·getD-map (λ (s : Span). s .place) (spans-of text) k no-span
-
--- There are no more tokens than bytes.
-cut-length : (r : ℕ → List ℕ → List Span) (f at : ℕ) (l : List ℕ) → ((p : ℕ) (m : List ℕ) → length (r p m) ≤ f) → length (cut r at l) ≤ suc f
-cut-length r f at [] h = omega arith
-cut-length r f at (b ∷ bs) h = omega (arith, h (at + width (b ∷ bs)) (drop (width (b ∷ bs)) (b ∷ bs)))
-
-spans-length : (f at : ℕ) (l : List ℕ) → length (spans f at l) ≤ f
-unfolding spans
-spans-length zero at l = omega arith
-spans-length (suc f) at l = cut-length (λ at bs. spans f at bs) f (at + blanks l) (drop (blanks l) l) (λ p m. spans-length f p m)
-
-pub tokens-bounded : (text : List ℕ) → length (spans-of text) ≤ length text
-unfolding spans-of
-tokens-bounded text = spans-length (length text) 0 text
 
 -- A token is what stands at its place in the text.
 pub record Stands (text : List ℕ) (s : Span) : Type 0 where

@@ -1,25 +1,25 @@
 -- Laws of tokens: the tokens of texts are proper, their numbers are those of their bytes, and writing and reading a token are inverse to each other.
 use mathlib.Core.Path.{_≡_, refl, sym, _∙_, ap}
 use mathlib.Core.Logic.{_⊎_, inl, inr}
-use mathlib.Core.Bool.{Bool, true, false, not, _&&_, _||_, cond, and-true, false≢true}
+use mathlib.Core.Bool.{Bool, true, false, not, _&&_, _||_, cond, and-true, true≢false, false≢true}
 use mathlib.Core.List.{List, [], _∷_, map}
 use Prim.Native.Nat.{ℕ, suc, _+_, _≤_, _<_}
 use native.Mathlib.Nat.{add-zero, zero-add}
 use native.Mathlib.Omega.{arith}
 use lib.Dec.{eqb, leb}
 use lib.ListN.{length, getD}
-use borrow.Author.Tests.{ne-eqb, eqb-true, lt-ltb, ltb-true, le-leb, leb-true, leb-false}
+use borrow.Author.Tests.{eqb-true, lt-ltb, ltb-true, le-leb, leb-true, leb-false}
 use Rattle.base.specs.Text.{bytes}
 use Rattle.diagram.specs.Tree.{Name, all, some, one}
 use Rattle.diagram.specs.Names.{same}
 use Rattle.base.proofs.Truth.{clash, by-cases, and-l, and-i, not-i, not-e}
 use Rattle.base.proofs.Decided.{same-decides}
 use Rattle.tokens.specs.Classes.{between, spacing, class-of, foreign, worded, blank}
-use Rattle.tokens.specs.Words.{keywords, numerals, place-in, keyword, short, every, lettered, named as bytes-named, numeral as numeral-code, word-code, code as bytes-code}
+use Rattle.tokens.specs.Words.{keywords, numerals, place-in, keyword, short, every, lettered, numeral as numeral-code, word-code, code as bytes-code}
 use Rattle.tokens.specs.Spans.{Span, spans-of}
 use Rattle.tokens.specs.Token.{Sign, opening, closing, comma, colon, Keyword, flow, leaf, group, replicator, loop, sign, key, name, numeral, other, in-order, key-place, word-place, keyed, named, class-token, numeral-token, word-token, token-of, text-tokens, proper, all-proper, sign-bytes, bytes-of, sound, sign-code, code}
 use Rattle.tokens.proofs.Below.{at-below}
-use Rattle.tokens.proofs.Between.{in-range, between-in, between-low, between-high, class-small}
+use Rattle.tokens.proofs.Between.{in-range, between-in, between-low, class-small}
 
 -- What a token's bytes can be: a word, or one byte that is no blank.
 abbrev pub token : Name → Bool
@@ -161,7 +161,7 @@ whole-word [] h p = absurd (false≢true p)
 whole-word (b ∷ []) h p = let r = in-range 5 7 (class-of b) p in not-i (between-low 8 8 (class-of b) (omega arith))
 whole-word (b ∷ c ∷ w) h p = h
 
--- With document 01's words a token has the number of its bytes, except that a foreign byte's number is 5 and not 0.
+-- With document 01's words a token has the number of its bytes, unless it is a foreign byte, which has the number 0 and is wanted nowhere.
 word-spelled : (w : Name) → token w ≡ true → worded (getD w 0 0) ≡ true → every worded w ≡ true
 word-spelled [] h p = absurd (false≢true h)
 word-spelled (b ∷ []) h p = and-i p refl
@@ -196,26 +196,19 @@ no-word [] h p c = false≢true h
 no-word (b ∷ []) h p c = no-higher (class-of b) (class-small b) c p (not-e (blank b) h)
 no-word (b ∷ d ∷ w) h p c = clash (and-l (worded b) (every worded (d ∷ w)) h) p
 
-pub token-code : (w : Name) → token w ≡ true → code (token-of keywords w) ≡ cond (foreign (getD w 0 0)) 5 (bytes-code w)
+pub known-code : (w : Name) → token w ≡ true → foreign (getD w 0 0) ≡ false → bytes-code w ≡ code (token-of keywords w)
 unfolding token-of bytes-code
-token-code w h = by-cases (worded (getD w 0 0)) word (λ p. sign-at p (classed (getD w 0 0)))
+known-code w h f =
+    by-cases (worded (getD w 0 0)) (λ p. rw p (sym (word-coded w (word-spelled w h p)))) (λ p. sign-at p (classed (getD w 0 0)))
   where
-    word : worded (getD w 0 0) ≡ true → code (token-of keywords w) ≡ cond (foreign (getD w 0 0)) 5 (bytes-code w)
-    word p = rw (p, between-high 0 0 (class-of (getD w 0 0)) (omega (arith, in-range 5 7 (class-of (getD w 0 0)) p))) (word-coded w (word-spelled w h p))
-
-    sign-at : worded (getD w 0 0) ≡ false → Classed (getD w 0 0) (class-of (getD w 0 0)) → code (token-of keywords w) ≡ cond (foreign (getD w 0 0)) 5 (bytes-code w)
-    sign-at p (a-sign s e c b) = rw (p, e, between-high 0 0 (class-of (getD w 0 0)) (c .1)) (sym (c .0))
-    sign-at p (no-sign e (inl c)) = rw (p, e, c)
+    sign-at : worded (getD w 0 0) ≡ false → Classed (getD w 0 0) (class-of (getD w 0 0)) → bytes-code w ≡ code (token-of keywords w)
+    sign-at p (a-sign s e c b) = rw (p, e) (c .0)
+    sign-at p (no-sign e (inl c)) = absurd (true≢false (rw c at f))
     sign-at p (no-sign e (inr c)) = absurd (no-word w h p c)
 
--- Names by document 01's words are the names of `tokens.specs.Words`.
-pub named-keywords : (w : Name) → named keywords w ≡ bytes-named w
-unfolding named bytes-named keyword keywords
-named-keywords w = ap (λ (b : Bool). (lettered w && every worded w) && (short w && b)) (go (found keywords w))
-  where
-    go : Found keywords w → not (keyed keywords w) ≡ eqb (keyword w) 0
-    go (nowhere f) = rw (f 0 9, f 7 0)
-    go (there i l f e) = rw (f 0 9, f 7 0, zero-add i, lt-ltb i 9 l, ne-eqb (7 + i) 0 (λ z. omega arith))
+pub foreign-code : (words : List Name) (w : Name) → foreign (getD w 0 0) ≡ true → (bytes-code w ≡ 0) × (token-of words w ≡ other)
+unfolding token-of bytes-code
+foreign-code words w f = let z : class-of (getD w 0 0) ≡ 0 = omega (arith, in-range 0 0 (class-of (getD w 0 0)) f) in rw z (refl, refl)
 
 -- Document 01's words are sound.
 pub keywords-sound : sound keywords ≡ true

@@ -40,3 +40,7 @@ worded = within 5 7
 
 abbrev pub blank : ℕ → Bool
 blank = within 8 8
+
+-- Tokens side by side are made of bytes that are no blanks.
+abbrev pub unbroken : ℕ → Bool
+unbroken = within 0 7

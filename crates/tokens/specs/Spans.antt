@@ -5,7 +5,7 @@ use Prim.Native.Nat.{ℕ, zero, suc, _+_}
 use lib.ListN.{length, take, drop}
 use Rattle.diagram.specs.Tree.{Name}
 use Rattle.tokens.specs.Classes.{worded}
-use Rattle.tokens.specs.Words.{front, blanks, code}
+use Rattle.tokens.specs.Words.{front, blanks}
 
 -- A token: its bytes, and the place of the first of them.
 pub record Span : Type 0 where
@@ -32,12 +32,9 @@ spans (suc f) at bs = cut (λ at bs. spans f at bs) (at + blanks bs) (drop (blan
 unfoldable pub spans-of : List ℕ → List Span
 spans-of text = spans (length text) 0 text
 
--- The tokens of a text as their bytes, as numbers, and their places.
+-- The tokens of a text as their bytes, and their places.
 unfoldable pub tokens : List ℕ → List Name
 tokens text = map (λ (s : Span). s .bytes) (spans-of text)
-
-unfoldable pub codes : List ℕ → List ℕ
-codes text = map code (tokens text)
 
 unfoldable pub places : List ℕ → List ℕ
 places text = map (λ (s : Span). s .place) (spans-of text)

@@ -1,8 +1,8 @@
--- Document 01, "The text": words, keywords and names, and the number that stands for a token in the reader.
+-- Document 01, "The text": words and keywords, and the number that stands for a token in the reader.
 use mathlib.Core.Bool.{Bool, true, false, _&&_, cond}
 use mathlib.Core.List.{List, [], _∷_, map}
 use Prim.Native.Nat.{ℕ, suc}
-use lib.Dec.{eqb, ltb, leb}
+use lib.Dec.{ltb, leb}
 use lib.ListN.{length, getD, take, drop}
 use Rattle.base.specs.Text.{bytes}
 use Rattle.diagram.specs.Tree.{Name}
@@ -51,10 +51,6 @@ every t (b ∷ bs) = t b && every t bs
 abbrev pub lettered : Name → Bool
 lettered [] = false
 lettered (b ∷ bs) = letter b
-
--- "A name starts with a letter and is no keyword."
-unfoldable pub named : Name → Bool
-named w = (lettered w && every worded w) && (short w && eqb (keyword w) 0)
 
 -- "0 or 1" and "1 to 16 without leading zero": the numerals, each at the place that is its value.
 abbrev pub numerals : List Name

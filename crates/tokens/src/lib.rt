@@ -5,7 +5,7 @@ pub enum Scan {
 }
 
 // A token: its number, the place of its first byte, and the place past its last.
-pub struct Token {
+pub struct Lexeme {
     pub code: u8,
     pub start: usize,
     pub end: usize,

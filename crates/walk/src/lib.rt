@@ -1,9 +1,10 @@
 ghost use mathlib.Core.Path.{_≡_};
-ghost use Rattle.grammar.specs.Machine.{parts};
+ghost use Rattle.grammar.specs.Machine.{Place, flow-parts, group-parts, loop-parts};
+ghost use Rattle.grammar.specs.code.Coded.{top as last-in};
 ghost use Rattle.walked.specs.Walk.{ending};
 ghost use Rattle.walked.specs.code.Readers.{Fills, Opens, told};
 ghost use Rattle.heads.specs.code.Lent.{Lent};
-use tokens::Token;
+use tokens::Lexeme;
 use walked::Step;
 use walked::Walk;
 
@@ -21,9 +22,9 @@ fn read_child(
     lexicon: &[u8; 400],
 ) -> Step
     requires { ⌜ Lent (now text) (now lexicon) ⌝ }
-    ensures { λ r. ⌜ Opens (now (text .entry)) top depth n at (now (rows .entry)) r (now (rows .exit)) ⌝ }
+    ensures { λ r. ⌜ ((p : Place) → last-in p ≡ top → Opens (now (text .entry)) p depth n at (now (rows .entry)) r (now (rows .exit))) ⌝ }
 {
-    let t: Token = lexer::next(text, at, lexicon);
+    let t: Lexeme = lexer::next(text, at, lexicon);
     let c = t.code;
     if c < 7 {
         return Step::Stop(5, t.start);
@@ -69,7 +70,7 @@ fn read_flow(
     lexicon: &[u8; 400],
 ) -> Step
     requires { ⌜ Lent (now text) (now lexicon) ⌝ }
-    ensures { λ r. ⌜ Fills (now (text .entry)) (parts 7 depth) n at (now (rows .entry)) r (now (rows .exit)) ⌝ }
+    ensures { λ r. ⌜ Fills (now (text .entry)) (flow-parts depth) n at (now (rows .entry)) r (now (rows .exit)) ⌝ }
 {
     let s = heads::read_flow_head(text, at, n, rows, lexicon);
     let Step::Go(mut p, mut m) = s else {
@@ -103,7 +104,7 @@ fn read_group(
     lexicon: &[u8; 400],
 ) -> Step
     requires { ⌜ Lent (now text) (now lexicon) ⌝ }
-    ensures { λ r. ⌜ Fills (now (text .entry)) (parts 9 depth) n at (now (rows .entry)) r (now (rows .exit)) ⌝ }
+    ensures { λ r. ⌜ Fills (now (text .entry)) (group-parts depth) n at (now (rows .entry)) r (now (rows .exit)) ⌝ }
 {
     let s = heads::sign(text, at, n, 1, lexicon);
     let Step::Go(p, m) = s else {
@@ -137,7 +138,7 @@ fn read_body(
     lexicon: &[u8; 400],
 ) -> Step
     requires { ⌜ Lent (now text) (now lexicon) ⌝ }
-    ensures { λ r. ⌜ Fills (now (text .entry)) (parts 15 depth) n at (now (rows .entry)) r (now (rows .exit)) ⌝ }
+    ensures { λ r. ⌜ Fills (now (text .entry)) (loop-parts depth) n at (now (rows .entry)) r (now (rows .exit)) ⌝ }
 {
     let s = heads::sign(text, at, n, 1, lexicon);
     let Step::Go(p, m) = s else {
@@ -159,7 +160,7 @@ pub fn parse(text: &[u8], rows: &mut [u16; 2056], lexicon: &[u8; 400]) -> Walk
     match s {
         Step::Stop(number, place) => Walk::Refused(number, place),
         Step::Go(p, m) => {
-            let t: Token = lexer::next(text, p, lexicon);
+            let t: Lexeme = lexer::next(text, p, lexicon);
             if t.start < text.len() {
                 return Walk::Refused(5, t.start);
             }

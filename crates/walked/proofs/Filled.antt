@@ -1,19 +1,18 @@
 -- Rows that are filled one node after the other: what the stores of a node leave, and how the rows of parts that follow each other go together.
-use mathlib.Core.Path.{_≡_, refl, sym, ap, _∙_, subst}
-use mathlib.Core.Bool.{Bool, false, _||_, cond}
+use mathlib.Core.Path.{_≡_, refl, sym, ap, _∙_}
+use mathlib.Core.Bool.{Bool, false}
 use mathlib.Core.List.{List, [], _∷_}
 use Prim.Native.Nat.{ℕ, zero, suc, _+_, _*_, _-_, _≤_, _<_}
-use native.Mathlib.Numerals.{add-one}
 use native.Mathlib.Omega.{arith}
 use lib.Dec.{eqb, ltb}
 use lib.ListN.{length, getD, set, length-set, getD-replicate}
 use lib.Seq.{getD-set-same, getD-set-other}
 use borrow.Author.Tests.{eqb-true, eqb-false, lt-ltb}
 use Rattle.base.proofs.Truth.{by-cases}
-use Rattle.grammar.proofs.Codes.{chosen}
-use Rattle.rules.specs.TokenNodes.{TokenNode, flowing, leafy, copying}
+use Rattle.diagram.specs.TreeNodes.{TextNode}
+use Rattle.tokens.proofs.Tokens.{chosen}
 use Rattle.walked.specs.Walk.{store, begun}
-use Rattle.walked.specs.Rows.{mark}
+use Rattle.walked.specs.Rows.{mark, Row, Rowed}
 
 -- One store.
 module _ (rows : List ℕ) (k v : ℕ) where
@@ -38,7 +37,7 @@ Holds rows n vs = (j : ℕ) → j < 8 → getD rows (n * 8 + 8 + j) 0 ≡ getD v
 
 -- Only the row of the node n has been written, and it holds these numbers.
 pub record Head (rows rows′ : List ℕ) (n : ℕ) (vs : List ℕ) : Type 0 where
-  pub room : Room rows′ (n + 1)
+  pub room : Room rows′ (suc n)
   pub before : (j : ℕ) → j < n * 8 + 8 → getD rows′ j 0 ≡ getD rows j 0
   pub here : Holds rows′ n vs
 
@@ -90,34 +89,23 @@ any-mark v vs b zero h = refl
 any-mark v vs b (suc zero) h = absurd (h refl)
 any-mark v vs b (suc (suc j)) h = refl
 
--- The numbers of a node, where pl gives the places of the tokens.
-module _ (pl : ℕ → ℕ) where
-  abbrev pub row-of : TokenNode → List ℕ
-  row-of h =
-      pl (h .key) ∷ mark (h .solid) ∷ cond (flowing (h .code) || (leafy (h .code) || copying (h .code))) (pl (h .key + 2)) 0
-      ∷ h .code ∷ h .size ∷ h .depth ∷ mark (h .strong) ∷ 0 ∷ []
-
-  -- The rows from the node i on hold these nodes.
-  abbrev pub AllHold : List ℕ → ℕ → List TokenNode → Type 0
-  AllHold rows i [] = Unit {0}
-  AllHold rows i (h ∷ hs) = Holds rows i (row-of h) × AllHold rows (suc i) hs
-
+module _ (text : List ℕ) where
   -- The rows from n to m - 1 are the nodes that a part of a drawing puts before others: they are so in any rows that are the same there.
-  pub record Part (n m : ℕ) (rows rows′ : List ℕ) (f : List TokenNode → List TokenNode) : Type 0 where
+  pub record Part (n m : ℕ) (rows rows′ : List ℕ) (f : List TextNode → List TextNode) : Type 0 where
     pub kept : Kept n m rows rows′
-    pub counted : (hs : List TokenNode) → n + length (f hs) ≡ m + length hs
-    pub told : (rows″ : List ℕ) (hs : List TokenNode) → ((j : ℕ) → n * 8 + 8 ≤ j → j < m * 8 + 8 → getD rows″ j 0 ≡ getD rows′ j 0)
-        → AllHold rows″ m hs → AllHold rows″ n (f hs)
+    pub counted : (hs : List TextNode) → n + length (f hs) ≡ m + length hs
+    pub told : (rows″ : List ℕ) (hs : List TextNode) → ((j : ℕ) → n * 8 + 8 ≤ j → j < m * 8 + 8 → getD rows″ j 0 ≡ getD rows′ j 0)
+        → Rowed text rows″ m hs → Rowed text rows″ n (f hs)
 
   -- The same for a node whose ref may still come: any rows that are the same there up to the mark of the first.
-  pub record First (n m : ℕ) (rows rows′ : List ℕ) (f : Bool → List TokenNode → List TokenNode) : Type 0 where
+  pub record First (n m : ℕ) (rows rows′ : List ℕ) (f : Bool → List TextNode → List TextNode) : Type 0 where
     pub kept : Kept n m rows rows′
     pub some : n < m
-    pub counted : (b : Bool) (hs : List TokenNode) → n + length (f b hs) ≡ m + length hs
+    pub counted : (b : Bool) (hs : List TextNode) → n + length (f b hs) ≡ m + length hs
     pub bare : getD rows′ (n * 8 + 9) 0 ≡ 0
-    pub told : (b : Bool) (rows″ : List ℕ) (hs : List TokenNode)
+    pub told : (b : Bool) (rows″ : List ℕ) (hs : List TextNode)
         → ((j : ℕ) → n * 8 + 8 ≤ j → j < m * 8 + 8 → (j ≡ n * 8 + 9 → ⊥) → getD rows″ j 0 ≡ getD rows′ j 0)
-        → getD rows″ (n * 8 + 9) 0 ≡ mark b → AllHold rows″ m hs → AllHold rows″ n (f b hs)
+        → getD rows″ (n * 8 + 9) 0 ≡ mark b → Rowed text rows″ m hs → Rowed text rows″ n (f b hs)
 
   pub part-none : (n m : ℕ) (rows : List ℕ) → n ≡ m → Room rows n → Part n m rows rows (λ hs. hs)
   part-none n m rows e r = record {
@@ -126,7 +114,7 @@ module _ (pl : ℕ → ℕ) where
     told = λ rows″ hs s a. rw e a;
   }
 
-  module _ {n m q : ℕ} {rows rows′ rows″ : List ℕ} {f g : List TokenNode → List TokenNode} where
+  module _ {n m q : ℕ} {rows rows′ rows″ : List ℕ} {f g : List TextNode → List TextNode} where
     pub part-seq : Part n m rows rows′ f → Part m q rows′ rows″ g → Part n q rows rows″ (λ hs. f (g hs))
     part-seq x y = record {
       kept = kept-seq (x .kept) (y .kept);
@@ -137,7 +125,7 @@ module _ (pl : ℕ → ℕ) where
           x .told rs (g hs) (λ j h k. s j h (omega arith) ∙ y .kept .before j k) (y .told rs hs (λ j h k. s j (omega arith) k) a);
     }
 
-  module _ {n m : ℕ} {rows rows′ : List ℕ} {f : Bool → List TokenNode → List TokenNode} (x : First n m rows rows′ f) where
+  module _ {n m : ℕ} {rows rows′ : List ℕ} {f : Bool → List TextNode → List TextNode} (x : First n m rows rows′ f) where
     -- A member has no mark.
     pub part-plain : Part n m rows rows′ (f false)
     part-plain = record {
@@ -166,10 +154,10 @@ module _ (pl : ℕ → ℕ) where
               (s k (omega arith) (omega arith) ∙ store-same rows′ k (mark r) k refl (omega arith) (x .kept .room .sized)) a;
         }
 
-  -- A node with its parts.
-  module _ {n m : ℕ} {rows rows′ rows″ : List ℕ} {f : List TokenNode → List TokenNode} (v : ℕ) (vs : List ℕ) where
-    pub first-node : Head rows rows′ n (v ∷ 0 ∷ vs) → (h : Bool → TokenNode) → ((b : Bool) → row-of (h b) ≡ v ∷ mark b ∷ vs) → Part (n + 1) m rows′ rows″ f
-        → First n m rows rows″ (λ b hs. h b ∷ f hs)
+  -- A node with its parts, where any rows that hold these numbers tell it.
+  module _ {n m : ℕ} {rows rows′ rows″ : List ℕ} {f : List TextNode → List TextNode} (v : ℕ) (vs : List ℕ) where
+    pub first-node : Head rows rows′ n (v ∷ 0 ∷ vs) → (h : Bool → TextNode) → ((rs : List ℕ) (b : Bool) → Holds rs n (v ∷ mark b ∷ vs) → Row text rs n (h b))
+        → Part (suc n) m rows′ rows″ f → First n m rows rows″ (λ b hs. h b ∷ f hs)
     first-node x h e y =
         let l = y .kept .grows in
         record {
@@ -178,11 +166,11 @@ module _ (pl : ℕ → ℕ) where
           counted = λ b hs. let c = y .counted hs in omega arith;
           bare = y .kept .before (n * 8 + 9) (omega arith) ∙ (ap (λ (j : ℕ). getD rows′ j 0) (omega arith) ∙ x .here 1 (omega arith));
           told = λ b rs hs s t a. (
-            subst (Holds rs n) (sym (e b)) (λ j g. by-cases (eqb j 1)
+            e rs b (λ j g. by-cases (eqb j 1)
                 (λ p. let z = eqb-true j 1 p in rw z (ap (λ (j : ℕ). getD rs j 0) (omega arith) ∙ t))
                 (λ p. let z = eqb-false j 1 p in
                 s (n * 8 + 8 + j) (omega arith) (omega arith) (λ w. z (omega arith))
                 ∙ (y .kept .before (n * 8 + 8 + j) (omega arith) ∙ (x .here j g ∙ any-mark v vs b j z)))),
-            rw (← add-one n) (y .told rs hs (λ j g k. s j (omega arith) k (λ w. omega arith)) a),
+            y .told rs hs (λ j g k. s j (omega arith) k (λ w. omega arith)) a,
           );
         }

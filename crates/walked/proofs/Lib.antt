@@ -1,11 +1,12 @@
 pub mod Laws
+pub mod Rebuilt
 pub mod Located
 pub mod Deep
 pub mod Sized
 pub mod Filled
+pub mod Past
 pub mod Track
+pub mod Row
 pub mod Nodes
 pub mod Tree
-pub mod Past
-pub mod Spelled
 pub mod Told

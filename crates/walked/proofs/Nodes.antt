@@ -1,279 +1,292 @@
 -- What the walk leaves of each kind of node, by what it leaves of the node's parts.
-use mathlib.Core.Path.{_≡_, refl, sym, ap, _∙_}
-use mathlib.Core.Bool.{Bool, true, false, _||_}
-use mathlib.Core.List.{List, [], _∷_, _++_, reverse}
+use mathlib.Core.Path.{_≡_, refl, ap, _∙_}
+use mathlib.Core.Bool.{Bool, true, false}
+use mathlib.Core.List.{List, [], _∷_, _++_}
 use Prim.Native.Nat.{ℕ, suc, _+_, _*_, _-_, _≤_, _<_}
 use native.Mathlib.Omega.{arith}
 use lib.ListN.{length}
 use Rattle.diagram.specs.Tree.{Name, Way, all, some, one, flow, Children, none, next, Child, loop, group, replicator, Member, leaf, Members, end, also}
+use Rattle.diagram.specs.Count.{child-nodes, member-nodes}
+use Rattle.diagram.specs.TreeNodes.{TextNode, own, flowing, has-name, size-of, group-kind, replicator-kind, text-node, flow-text-node, flow-tree-nodes, children-tree-nodes, child-tree-nodes, member-tree-nodes, members-tree-nodes}
+use Rattle.diagram.specs.declared.Kind.{Kind}
+use Rattle.diagram.specs.declared.Kind.the-variants.{Flow as FlowNode, Leaf, Loop}
 use Rattle.tokens.specs.Classes.{between}
-use Rattle.tokens.specs.Words.{code}
-use Rattle.tokens.proofs.Between.{between-in}
-use Rattle.grammar.specs.Tokens.{opening, closing, comma, colon, key, bit, digits, group-key, replicator-key, pars-tokens, ref-tokens, flow-tokens, children-tokens, child-tokens, member-tokens, members-tokens}
-use Rattle.grammar.specs.Machine.{Want, sign, number, params, node, more, others, member, child, ref, parts, group-parts, replicator-parts}
-use Rattle.grammar.proofs.Codes.{coded-colon, coded-key}
-use Rattle.rules.specs.TokenNodes.{TokenNode, flowing, leafy, copying}
-use Rattle.rules.proofs.Trees.{group-code, replicator-code, simple, flow-token-nodes, children-token-nodes, child-token-nodes, member-token-nodes, members-token-nodes}
-use Rattle.rules.proofs.NodeTokens.{group-coded, replicator-coded, all-coded}
-use Rattle.rules.proofs.NodesRead.{flow-node, copy-node}
+use Rattle.tokens.specs.Words.{keywords}
+use Rattle.tokens.specs.Token.{opening, closing, comma, colon, Keyword, Token, key, numeral, code}
+use Rattle.grammar.specs.Named.{all-named}
+use Rattle.grammar.specs.Tokens.{bit, pars-tokens, ref-tokens, flow-tokens, children-tokens, child-tokens, member-tokens, members-tokens}
+use Rattle.grammar.specs.Machine.{Place, member, child, allows, Want, sign, number, params, node, more, others, ref, parts}
 use Rattle.walked.specs.Walk.{State, state, store, begun, waiting}
-use Rattle.walked.specs.Rows.{mark}
-use Rattle.walked.proofs.Filled.{Room, Head, head-store, head-begun, row-of, Part, First, part-none, part-seq, part-plain, part-marked, first-node}
-use Rattle.walked.proofs.Track.{NotClosing, track, sign-step, opens, closes, name-step, size-step, ref-step, pars-step, open-step, more-closing, others-closing, more-node, others-node}
+use Rattle.walked.specs.Rows.{mark, kind-code, Row}
+use Rattle.walked.proofs.Filled.{Room, Holds, Head, head-store, head-begun, Part, First, part-none, part-seq, part-plain, part-marked, first-node}
+use Rattle.walked.proofs.Past.{start-of, Here, past-key, past-token, past-bit, key-there}
+use Rattle.walked.proofs.Row.{no-name, one-name, with-pars, row-told}
+use Rattle.walked.proofs.Track.{past-pars, track, closes, ref-step, size-step, pars-step, open-step, name-step, more-closing, others-closing, more-node, others-node}
 
--- The keywords of a way.
-group-between : (y : Way) → between 7 child (group-code y) ≡ true
-group-between all = refl
-group-between some = refl
-group-between one = refl
+-- The keywords and the kinds of a way.
+group-code : (y : Way) → code (key (Keyword.group y)) ≡ kind-code (group-kind y)
+group-code all = refl
+group-code some = refl
+group-code one = refl
 
-group-unnamed : (y : Way) → (flowing (group-code y) || (leafy (group-code y) || copying (group-code y))) ≡ false
-group-unnamed all = refl
-group-unnamed some = refl
-group-unnamed one = refl
+group-unnamed : (y : Way) → (has-name (group-kind y) ≡ false) × (size-of (group-kind y) ≡ 0)
+group-unnamed all = (refl, refl)
+group-unnamed some = (refl, refl)
+group-unnamed one = (refl, refl)
 
-group-wants : (y : Way) (d : ℕ) → parts (group-code y) d ≡ group-parts d
-unfolding parts
-group-wants all d = refl
-group-wants some d = refl
-group-wants one d = refl
+replicator-code : (y : Way) (z : ℕ) → code (key (Keyword.replicator y)) ≡ kind-code (replicator-kind y z)
+replicator-code all z = refl
+replicator-code some z = refl
+replicator-code one z = refl
 
-replicator-between : (y : Way) → between 7 child (replicator-code y) ≡ true
-replicator-between all = refl
-replicator-between some = refl
-replicator-between one = refl
+replicator-named : (y : Way) (z : ℕ)
+    → (has-name (replicator-kind y z) ≡ true) × (flowing (replicator-kind y z) ≡ false) × (size-of (replicator-kind y z) ≡ z)
+replicator-named all z = (refl, refl, refl)
+replicator-named some z = (refl, refl, refl)
+replicator-named one z = (refl, refl, refl)
 
-replicator-named : (y : Way) → (flowing (replicator-code y) || (leafy (replicator-code y) || copying (replicator-code y))) ≡ true
-replicator-named all = refl
-replicator-named some = refl
-replicator-named one = refl
+module _ (text : List ℕ) where
+  past-all : {n k : ℕ} (ps : List Name) (sw : Bool) (ts : List Token)
+      → Here text n k (pars-tokens ps (Token.sign comma ∷ bit sw ∷ Token.sign closing ∷ Token.sign opening ∷ ts)) → Here text n (past-pars k ps) ts
+  past-all [] sw ts h = past-token text refl (past-token text refl (past-bit text sw (past-token text refl h)))
+  past-all (p ∷ ps) sw ts h = past-all ps sw ts (past-token text refl (past-token text refl h))
 
-replicator-wants : (y : Way) (d : ℕ) → parts (replicator-code y) d ≡ replicator-parts d
-unfolding parts
-replicator-wants all d = refl
-replicator-wants some d = refl
-replicator-wants one d = refl
-
-module _ (pl : ℕ → ℕ) (e : ℕ) where
-  -- The node that f writes from the token k to the token l, the nodes n to m - 1, is walked over; after it the children s wait as p says.
-  pub record Walked (w : Want) (p : List ℕ → List ℕ) (f : List Name → List Name) (g : Bool → List TokenNode → List TokenNode)
-      (n m k l : ℕ) (rows : List ℕ) : Type 0 where
+  -- The node that stands from the tokens ts up to the tokens us, the nodes n to m - 1, is walked over; after it the children s wait as p says.
+  pub record Walked (w : Want) (p : List ℕ → List ℕ) (ts us : List Token) (g : Bool → List TextNode → List TextNode) (n m k : ℕ) (rows : List ℕ) : Type 0 where
     pub after : List ℕ
-    pub goes : (s : List ℕ) (ws : List Want) (ts : List Name) → track pl e (w ∷ ws) n (state rows s) k (f ts) ≡ track pl e ws m (state after (p s)) l ts
-    pub first : First pl n m rows after g
+    pub next : ℕ
+    pub goes : (s : List ℕ) (ws : List Want) → track text (w ∷ ws) n (state rows s) k ts ≡ track text ws m (state after (p s)) next us
+    pub here : Here text m next us
+    pub first : First text n m rows after g
 
   -- The same for what is listed up to a `)`, where vs is wanted.
-  pub record Listed (vs : List Want) (f : List Name → List Name) (g : List TokenNode → List TokenNode) (n m k l : ℕ) (rows : List ℕ) : Type 0 where
+  pub record Passed (vs : List Want) (ts us : List Token) (g : List TextNode → List TextNode) (n m k : ℕ) (rows : List ℕ) : Type 0 where
     pub after : List ℕ
-    pub goes : (s : List ℕ) (ws : List Want) (ts : List Name)
-        → track pl e (vs ++ ws) n (state rows s) k (f (closing ∷ ts)) ≡ track pl e ws m (state after s) l ts
-    pub part : Part pl n m rows after g
+    pub next : ℕ
+    pub goes : (s : List ℕ) (ws : List Want) → track text (vs ++ ws) n (state rows s) k ts ≡ track text ws m (state after s) next us
+    pub here : Here text m next us
+    pub part : Part text n m rows after g
 
-  -- Whatever rows are lent.
-  abbrev pub Walks : (w : Want) (p : List ℕ → List ℕ) (f : List Name → List Name) (g : Bool → List TokenNode → List TokenNode) (n m k l : ℕ) → Type 0
-  Walks w p f g n m k l = (rows : List ℕ) → Room rows n → Walked w p f g n m k l rows
+  -- Whatever rows are lent, and wherever the tokens stand.
+  abbrev pub Walks : Want → (List ℕ → List ℕ) → List Token → List Token → (Bool → List TextNode → List TextNode) → ℕ → ℕ → Type 0
+  Walks w p ts us g n m = (k : ℕ) (rows : List ℕ) → Room rows n → Here text n k ts → Walked w p ts us g n m k rows
 
-  abbrev pub Lists : (vs : List Want) (f : List Name → List Name) (g : List TokenNode → List TokenNode) (n m k l : ℕ) → Type 0
-  Lists vs f g n m k l = (rows : List ℕ) → Room rows n → Listed vs f g n m k l rows
+  abbrev pub Passes : List Want → List Token → List Token → (List TextNode → List TextNode) → ℕ → ℕ → Type 0
+  Passes vs ts us g n m = (k : ℕ) (rows : List ℕ) → Room rows n → Here text n k ts → Passed vs ts us g n m k rows
 
   -- Where d depths are left, for nodes at depth x.
-  module _ (d x : ℕ) where
-    abbrev pub MemberWalks : Member → (n m k l : ℕ) → Type 0
-    MemberWalks a n m k l = Walks (node member d) (λ s. s) (member-tokens a) (λ b hs. member-token-nodes a b x k hs) n m k l
+  module _ (around : List Name) (d x : ℕ) where
+    abbrev pub MemberWalks : Place → Member → List Token → ℕ → ℕ → Type 0
+    MemberWalks place a us n m =
+        Walks (node place d) (λ s. waiting place n s) (member-tokens a us) us (λ b hs. member-tree-nodes own a around b x n hs) n m
 
-    abbrev pub ChildWalks : Child → (n m k l : ℕ) → Type 0
-    ChildWalks c n m k l = Walks (node child d) (λ s. n ∷ s) (child-tokens c) (λ b hs. child-token-nodes c b x k hs) n m k l
+    abbrev pub ChildWalks : Child → List Token → ℕ → ℕ → Type 0
+    ChildWalks c us n m = Walks (node child d) (λ s. n ∷ s) (child-tokens c us) us (λ b hs. child-tree-nodes own c around b x n hs) n m
 
-    abbrev pub MembersList : List Want → Members → (n m k l : ℕ) → Type 0
-    MembersList vs ms n m k l = Lists vs (members-tokens ms) (λ hs. members-token-nodes ms x k hs) n m k l
+    abbrev pub MembersPass : List Want → Members → List Token → ℕ → ℕ → Type 0
+    MembersPass vs ms us n m =
+        Passes vs (members-tokens ms (Token.sign closing ∷ us)) us (λ hs. members-tree-nodes own ms around x n hs) n m
 
-    abbrev pub ChildrenList : List Want → Children → (n m k l : ℕ) → Type 0
-    ChildrenList vs cs n m k l = Lists vs (children-tokens cs) (λ hs. children-token-nodes cs x k hs) n m k l
+    abbrev pub ChildrenPass : List Want → Children → List Token → ℕ → ℕ → Type 0
+    ChildrenPass vs cs us n m =
+        Passes vs (children-tokens cs (Token.sign closing ∷ us)) us (λ hs. children-tree-nodes own cs around x n hs) n m
 
     -- No more than the `)`.
-    module _ (n m k l : ℕ) (M : m ≡ n) (L : l ≡ k + 1) where
-      end-closed : (vs : List Want) → ((st : State) (ws : List Want) (ts : List Name) → track pl e (vs ++ ws) n st k (closing ∷ ts) ≡ track pl e ws n st l ts)
-          → MembersList vs end n m k l
-      unfolding members-tokens members-token-nodes
-      end-closed vs c rows r = record {
+    module _ (us : List Token) (n m : ℕ) (M : n ≡ m) where
+      end-closed : (vs : List Want) → ((st : State) (ws : List Want) (k : ℕ) → track text (vs ++ ws) n st k (Token.sign closing ∷ us) ≡ track text ws n st (suc k) us)
+          → Passes vs (Token.sign closing ∷ us) us (λ hs. hs) n m
+      end-closed vs c k rows r h = record {
         after = rows;
-        goes = λ s ws ts. c (state rows s) ws ts ∙ ap (λ (i : ℕ). track pl e ws i (state rows s) l ts) (sym M);
-        part = part-none pl n m rows (sym M) r;
+        next = suc k;
+        goes = λ s ws. c (state rows s) ws k ∙ ap (λ (i : ℕ). track text ws i (state rows s) (suc k) us) M;
+        here = rw (← M) (past-token text refl h);
+        part = part-none text n m rows M r;
       }
 
-      pub last-closed : MembersList (sign 2 ∷ []) end n m k l
-      last-closed = end-closed (sign 2 ∷ []) (λ st ws ts. closes pl e ws n st k l ts (omega arith))
+      pub last-closed : MembersPass (sign closing ∷ []) end us n m
+      unfolding members-tokens members-tree-nodes
+      last-closed = end-closed (sign closing ∷ []) (λ st ws k. closes text ws n st k us)
 
-      pub members-end : MembersList (others d ∷ []) end n m k l
-      members-end = end-closed (others d ∷ []) (λ st ws ts. others-closing pl e d ws n st k l ts (omega arith))
+      pub members-end : MembersPass (others d ∷ []) end us n m
+      unfolding members-tokens members-tree-nodes
+      members-end = end-closed (others d ∷ []) (λ st ws k. others-closing text d ws n st k us)
 
-      pub children-none : ChildrenList (more d ∷ []) none n m k l
-      unfolding children-tokens children-token-nodes
-      children-none rows r = record {
-        after = rows;
-        goes = λ s ws ts. more-closing pl e d ws n (state rows s) k l ts (omega arith) ∙ ap (λ (i : ℕ). track pl e ws i (state rows s) l ts) (sym M);
-        part = part-none pl n m rows (sym M) r;
-      }
+      pub children-none : ChildrenPass (more d ∷ []) none us n m
+      unfolding children-tokens children-tree-nodes
+      children-none = end-closed (more d ∷ []) (λ st ws k. more-closing text d ws n st k us)
 
     -- A member, or a child with its ref, and then others.
-    module _ (n m k l m₁ : ℕ) where
-      pub member-then : (vs : List Want) (a : Member) (ms : Members) → MemberWalks a n m₁ k (k + length (member-tokens a []))
-          → MembersList vs ms m₁ m (k + length (member-tokens a [])) l → MembersList (node member d ∷ vs) (also a ms) n m k l
-      unfolding members-tokens members-token-nodes
-      member-then vs a ms A M rows room =
-          let u = A rows room in
-          let v = M (u .after) (u .first .kept .room) in
+    module _ (us : List Token) (n m : ℕ) where
+      pub member-then : (vs : List Want) (a : Member) (ms : Members) → MemberWalks member a (members-tokens ms (Token.sign closing ∷ us)) n (n + member-nodes a)
+          → MembersPass vs ms us (n + member-nodes a) m → MembersPass (node member d ∷ vs) (also a ms) us n m
+      unfolding members-tokens members-tree-nodes
+      member-then vs a ms A M k rows room h =
+          let u = A k rows room h in
+          let v = M (u .next) (u .after) (u .first .kept .room) (u .here) in
           record {
             after = v .after;
-            goes = λ s ws ts. u .goes s (vs ++ ws) (members-tokens ms (closing ∷ ts)) ∙ v .goes s ws ts;
-            part = part-seq pl (part-plain pl (u .first)) (v .part);
+            next = v .next;
+            goes = λ s ws. u .goes s (vs ++ ws) ∙ v .goes s ws;
+            here = v .here;
+            part = part-seq text (part-plain text (u .first)) (v .part);
           }
 
-      pub child-then : (c : Child) (r : Bool) (cs : Children) → n < 256 → ChildWalks c n m₁ k (k + length (child-tokens c []))
-          → ChildrenList (more d ∷ []) cs m₁ m (k + (length (child-tokens c []) + 3)) l
-          → ChildrenList (node child d ∷ ref ++ (more d ∷ [])) (next c r cs) n m k l
-      unfolding children-tokens children-token-nodes
-      child-then c r cs U C K rows room =
-          let u = C rows room in
-          let p = part-marked pl (u .first) r U in
-          let v = K (store (u .after) (n * 8 + 9) (mark r)) (p .kept .room) in
+      pub child-then : (c : Child) (r : Bool) (cs : Children) → n < 256
+          → ChildWalks c (ref-tokens r (children-tokens cs (Token.sign closing ∷ us))) n (n + child-nodes c)
+          → ChildrenPass (more d ∷ []) cs us (n + child-nodes c) m → ChildrenPass (node child d ∷ ref ++ (more d ∷ [])) (next c r cs) us n m
+      unfolding children-tokens children-tree-nodes
+      child-then c r cs U C K k rows room h =
+          let u = C k rows room h in
+          let p = part-marked text (u .first) r U in
+          let v =
+          K (suc (suc (suc (u .next)))) (store (u .after) (n * 8 + 9) (mark r)) (p .kept .room)
+          (past-token text refl (past-bit text r (past-token text refl (u .here)))) in
           record {
             after = v .after;
-            goes = λ s ws ts.
-                let us = children-tokens cs (closing ∷ ts) in
-                u .goes s (ref ++ (more d ∷ ws)) (ref-tokens r us)
-                ∙ (ref-step pl e (more d ∷ ws) m₁ n (u .after) s (k + length (child-tokens c [])) (k + (length (child-tokens c []) + 3)) r us (omega arith)
-                ∙ v .goes s ws ts);
-            part = part-seq pl p (v .part);
+            next = v .next;
+            goes = λ s ws.
+                u .goes s (ref ++ (more d ∷ ws))
+                ∙ (ref-step text (more d ∷ ws) (n + child-nodes c) n (u .after) s (u .next) r (children-tokens cs (Token.sign closing ∷ us))
+                ∙ v .goes s ws);
+            here = v .here;
+            part = part-seq text p (v .part);
           }
 
-    -- The same after others.
-    module _ (n m k l : ℕ) where
-      pub members-also : (a : Member) (ms : Members) → ((ts : List Name) → NotClosing (member-tokens a ts))
-          → MembersList (node member d ∷ others d ∷ []) (also a ms) n m k l → MembersList (others d ∷ []) (also a ms) n m k l
-      unfolding members-tokens
-      members-also a ms N A rows room =
-          let u = A rows room in
-          record {
-            after = u .after;
-            goes = λ s ws ts.
-                let us = members-tokens ms (closing ∷ ts) in
-                others-node pl e d ws n (state rows s) k (member-tokens a us) (N us) ∙ u .goes s ws ts;
-            part = u .part;
-          }
+      -- The same after others.
+      begins : {vs vs′ : List Want} {ts : List Token} {g : List TextNode → List TextNode}
+          → ((st : State) (ws : List Want) (k : ℕ) → track text (vs′ ++ ws) n st k ts ≡ track text (vs ++ ws) n st k ts) → Passes vs ts us g n m → Passes vs′ ts us g n m
+      begins q A k rows room h =
+          let u = A k rows room h in
+          record { after = u .after; next = u .next; goes = λ s ws. q (state rows s) ws k ∙ u .goes s ws; here = u .here; part = u .part }
 
-      pub children-next : (c : Child) (r : Bool) (cs : Children) → ((ts : List Name) → NotClosing (child-tokens c ts))
-          → ChildrenList (node child d ∷ ref ++ (more d ∷ [])) (next c r cs) n m k l → ChildrenList (more d ∷ []) (next c r cs) n m k l
-      unfolding children-tokens
-      children-next c r cs N C rows room =
-          let u = C rows room in
-          record {
-            after = u .after;
-            goes = λ s ws ts.
-                let us = ref-tokens r (children-tokens cs (closing ∷ ts)) in
-                more-node pl e d ws n (state rows s) k (child-tokens c us) (N us) ∙ u .goes s ws ts;
-            part = u .part;
-          }
+      pub members-also : (a : Member) (ms : Members) (w : Keyword) (ts : List Token) → allows member w ≡ true
+          → members-tokens (also a ms) (Token.sign closing ∷ us) ≡ key w ∷ ts
+          → MembersPass (node member d ∷ others d ∷ []) (also a ms) us n m → MembersPass (others d ∷ []) (also a ms) us n m
+      members-also a ms w ts B q A = begins (λ st ws k. rw q (others-node text d ws n st k ts w B)) A
 
-  -- The node n, whose keyword is the token k, at depth x, where d depths are left: its row, and then its parts from the token i on.
-  module _ (d x n k m l : ℕ) (D : d + x ≡ 13) (H : 0 < d) (G : n < m) (U : m ≤ 256) where
+      pub children-next : (c : Child) (r : Bool) (cs : Children) (w : Keyword) (ts : List Token)
+          → children-tokens (next c r cs) (Token.sign closing ∷ us) ≡ key w ∷ ts
+          → ChildrenPass (node child d ∷ ref ++ (more d ∷ [])) (next c r cs) us n m → ChildrenPass (more d ∷ []) (next c r cs) us n m
+      children-next c r cs w ts q C = begins (λ st ws k. rw q (more-node text d ws n st k ts w)) C
+
+  -- The node n at depth x, where d depths are left: its row, and then its parts.
+  module _ (around : List Name) (d x n m : ℕ) (D : d + x ≡ 13) (H : 0 < d) (G : n < m) (U : m ≤ 256) where
     depth : 13 - d ≡ x
     depth = omega arith
 
     few : n < 256
     few = omega arith
 
-    node-walked : {w : Want} {p : List ℕ → List ℕ} {us : List Want} {F f : List Name → List Name} {g : List TokenNode → List TokenNode} {rows rows₁ : List ℕ}
-        (i v : ℕ) (vs : List ℕ) (h : Bool → TokenNode) → ((b : Bool) → row-of pl (h b) ≡ v ∷ mark b ∷ vs) → Head rows rows₁ n (v ∷ 0 ∷ vs)
-        → ((s : List ℕ) (ws : List Want) (ts : List Name)
-        → track pl e (w ∷ ws) n (state rows s) k (F ts) ≡ track pl e (us ++ ws) (n + 1) (state rows₁ (p s)) i (f (closing ∷ ts)))
-        → Lists us f g (n + 1) m i l → Walked w p F (λ b hs. h b ∷ g hs) n m k l rows
-    node-walked {p = p} {rows₁ = rows₁} i v vs h r y front parts =
-        let q = parts rows₁ (y .room) in
-        record { after = q .after; goes = λ s ws ts. front s ws ts ∙ q .goes (p s) ws ts; first = first-node pl v vs y h r (q .part) }
+    node-walked : {w : Want} {p : List ℕ → List ℕ} {us : List Want} {ts ts₁ rest : List Token} {g : List TextNode → List TextNode} {rows rows₁ : List ℕ}
+        (k i v : ℕ) (vs : List ℕ) (h : Bool → TextNode) → ((rs : List ℕ) (b : Bool) → Holds rs n (v ∷ mark b ∷ vs) → Row text rs n (h b))
+        → Head rows rows₁ n (v ∷ 0 ∷ vs)
+        → ((s : List ℕ) (ws : List Want) → track text (w ∷ ws) n (state rows s) k ts ≡ track text (us ++ ws) (suc n) (state rows₁ (p s)) i ts₁)
+        → Here text (suc n) i ts₁ → Passes us ts₁ rest g (suc n) m → Walked w p ts rest (λ b hs. h b ∷ g hs) n m k rows
+    node-walked {p = p} {rows₁ = rows₁} k i v vs h tell y front there parts =
+        let q = parts i rows₁ (y .room) there in
+        record {
+          after = q .after;
+          next = q .next;
+          goes = λ s ws. front s ws ∙ q .goes (p s) ws;
+          here = q .here;
+          first = first-node text v vs y h tell (q .part);
+        }
 
     -- The row with the name, which stands two tokens after the keyword.
-    named-rows : List ℕ → ℕ → List ℕ
-    named-rows rows c = store (begun rows n c (pl k) d) ((n + 1) * 8 + 2) (pl (k + 2))
+    named-rows : List ℕ → ℕ → ℕ → ℕ → List ℕ
+    named-rows rows k c e = store (store (begun rows n c (start-of text k) d) (suc n * 8 + 2) (start-of text (suc (suc k)))) (suc n * 8 + 7) e
 
-    head-named : (rows : List ℕ) (c : ℕ) → Room rows n → Head rows (named-rows rows c) n (pl k ∷ 0 ∷ pl (k + 2) ∷ c ∷ 0 ∷ (13 - d) ∷ 0 ∷ 0 ∷ [])
+    head-named : (rows : List ℕ) (k c e : ℕ) → Room rows n
+        → Head rows (named-rows rows k c e) n (start-of text k ∷ 0 ∷ start-of text (suc (suc k)) ∷ c ∷ 0 ∷ (13 - d) ∷ 0 ∷ e ∷ [])
     unfolding named-rows
-    head-named rows c r = head-store few 2 ((n + 1) * 8 + 2) (pl (k + 2)) (omega arith) refl (omega arith) (head-begun rows n c (pl k) d few r)
+    head-named rows k c e r =
+        head-store few 7 (suc n * 8 + 7) e (omega arith) refl (omega arith)
+        (head-store few 2 (suc n * 8 + 2) (start-of text (suc (suc k))) (omega arith) refl (omega arith) (head-begun rows n c (start-of text k) d few r))
 
-    -- The keyword, the `(` and the name.
-    named-step : (top c : ℕ) (us : List Want) (q t : Name) → code q ≡ c → between 7 top c ≡ true → parts c (d - 1) ≡ sign 1 ∷ sign 6 ∷ us → code t ≡ 6
-        → (rows s : List ℕ) (ws : List Want) (ts : List Name)
-        → track pl e (node top d ∷ ws) n (state rows s) k (q ∷ opening ∷ t ∷ ts)
-        ≡ track pl e (us ++ ws) (n + 1) (state (named-rows rows c) (waiting top n s)) (k + 3) ts
-    unfolding named-rows
-    named-step top c us q t x b p y rows s ws ts =
-        open-step pl e top d ws n rows s k (k + 2) c (sign 6 ∷ us) q (t ∷ ts) x b H few p refl
-        ∙ name-step pl e (us ++ ws) (n + 1) (begun rows n c (pl k) d) (waiting top n s) (k + 2) (k + 3) t ts y (omega arith)
-
-    pub leaf-walks : (top : ℕ) (t : Name) → 8 ≤ top → code t ≡ 6 → MembersList (d - 1) (suc x) (sign 2 ∷ []) end (n + 1) m (k + 3) l
-        → Walks (node top d) (λ s. waiting top n s) (member-tokens (leaf t)) (λ b hs. member-token-nodes (leaf t) b x k hs) n m k l
-    unfolding member-tokens member-token-nodes parts
-    leaf-walks top t T c E rows r =
-        node-walked (k + 3) (pl k) (pl (k + 2) ∷ 8 ∷ 0 ∷ (13 - d) ∷ 0 ∷ 0 ∷ []) (λ b. simple k x 8 t b) (λ b. rw depth) (head-named rows 8 r)
-        (λ s ws ts.
-        named-step top 8 (sign 2 ∷ []) (key 1) t (coded-key 1 (omega arith) .number) (between-in 7 top 8 (omega arith) T) refl c rows s ws (closing ∷ ts)) E
+    pub leaf-walks : (place : Place) (t : Name) (us : List Token) → allows place Keyword.leaf ≡ true
+        → MembersPass around (d - 1) (suc x) (sign closing ∷ []) end us (suc n) m → MemberWalks around d x place (leaf t) us n m
+    unfolding member-tokens member-tree-nodes named-rows
+    leaf-walks place t us a E k rows r h =
+        let p = start-of text (suc (suc k)) in
+        node-walked k (suc (suc (suc k))) (start-of text k) (p ∷ 8 ∷ 0 ∷ (13 - d) ∷ 0 ∷ (p + length t) ∷ []) (λ b. text-node n Leaf b x t)
+        (λ rs b. rw depth
+        (row-told text n (start-of text k) p (p + length t) 0 (text-node n Leaf b x t) refl (key-there text h) refl
+        (one-name text n k Keyword.leaf t (Token.sign closing ∷ us) h Leaf refl refl) rs))
+        (head-named rows k 8 (p + length t) r)
+        (λ s ws. name-step text place d n Keyword.leaf a H few (sign closing ∷ []) ws rows s k (Token.sign closing ∷ us) t refl)
+        (past-token text refl (past-token text refl (past-key text h))) E
 
     -- A constructor with members but no name.
-    bare-walked : (c : ℕ) (us : List Want) (q : Name) (ms : Members) → code q ≡ c → between 7 child c ≡ true → parts c (d - 1) ≡ sign 1 ∷ us
-        → (flowing c || (leafy c || copying c)) ≡ false → MembersList (d - 1) (suc x) us ms (n + 1) m (k + 2) l
-        → Walks (node child d) (λ s. n ∷ s) (λ ts. q ∷ opening ∷ members-tokens ms (closing ∷ ts))
-        (λ b hs. simple k x c [] b ∷ members-token-nodes ms (suc x) (k + 2) hs) n m k l
-    bare-walked c us q ms e₁ b p f M rows r =
-        node-walked (k + 2) (pl k) (0 ∷ c ∷ 0 ∷ (13 - d) ∷ 0 ∷ 0 ∷ []) (λ b. simple k x c [] b) (λ b. rw (depth, f)) (head-begun rows n c (pl k) d few r)
-        (λ s ws ts. open-step pl e child d ws n rows s k (k + 2) c us q (members-tokens ms (closing ∷ ts)) e₁ b H few p refl) M
+    bare-walked : (w : Keyword) (kind : Kind) (vs : List Want) (ms : Members) (us : List Token) → code (key w) ≡ kind-code kind
+        → parts w (d - 1) ≡ sign opening ∷ vs → has-name kind ≡ false → size-of kind ≡ 0 → MembersPass around (d - 1) (suc x) vs ms us (suc n) m
+        → Walks (node child d) (λ s. n ∷ s) (key w ∷ Token.sign opening ∷ members-tokens ms (Token.sign closing ∷ us)) us
+        (λ b hs. text-node n kind b x [] ∷ members-tree-nodes own ms around (suc x) (suc n) hs) n m
+    bare-walked w kind vs ms us c p f z M k rows r h =
+        node-walked k (suc (suc k)) (start-of text k) (0 ∷ kind-code kind ∷ 0 ∷ (13 - d) ∷ 0 ∷ 0 ∷ []) (λ b. text-node n kind b x [])
+        (λ rs b. rw depth
+        (row-told text n (start-of text k) 0 0 0 (text-node n kind b x []) refl (key-there text h) z (no-name text n kind f) rs))
+        (head-begun rows n (kind-code kind) (start-of text k) d few r)
+        (λ s ws. rw (← c)
+        (open-step text child d n w refl H few vs ws rows s k (members-tokens ms (Token.sign closing ∷ us)) p))
+        (past-token text refl (past-key text h)) M
 
-    pub loop-walks : (a : Member) → MembersList (d - 1) (suc x) (node member (d - 1) ∷ sign 2 ∷ []) (also a end) (n + 1) m (k + 2) l
-        → ChildWalks d x (loop a) n m k l
-    unfolding child-tokens child-token-nodes parts
-    loop-walks a A = bare-walked 15 (node member (d - 1) ∷ sign 2 ∷ []) (key 8) (also a end) (coded-key 8 (omega arith) .number) refl refl refl A
+    pub loop-walks : (a : Member) (us : List Token) → MembersPass around (d - 1) (suc x) (node member (d - 1) ∷ sign closing ∷ []) (also a end) us (suc n) m
+        → ChildWalks around d x (loop a) us n m
+    unfolding child-tokens child-tree-nodes
+    loop-walks a us A = bare-walked Keyword.loop Loop (node member (d - 1) ∷ sign closing ∷ []) (also a end) us refl refl refl refl A
 
-    pub group-walks : (y : Way) (a o : Member) (ms : Members)
-        → MembersList (d - 1) (suc x) (node member (d - 1) ∷ node member (d - 1) ∷ others (d - 1) ∷ []) (also a (also o ms)) (n + 1) m (k + 2) l
-        → ChildWalks d x (group y a o ms) n m k l
-    unfolding child-tokens child-token-nodes
-    group-walks y a o ms A =
-        bare-walked (group-code y) (node member (d - 1) ∷ node member (d - 1) ∷ others (d - 1) ∷ []) (group-key y) (also a (also o ms))
-        (group-coded y) (group-between y) (group-wants y (d - 1)) (group-unnamed y) A
+    pub group-walks : (y : Way) (a o : Member) (ms : Members) (us : List Token)
+        → MembersPass around (d - 1) (suc x) (node member (d - 1) ∷ node member (d - 1) ∷ others (d - 1) ∷ []) (also a (also o ms)) us (suc n) m
+        → ChildWalks around d x (group y a o ms) us n m
+    unfolding child-tokens child-tree-nodes
+    group-walks y a o ms us A =
+        bare-walked (Keyword.group y) (group-kind y) (node member (d - 1) ∷ node member (d - 1) ∷ others (d - 1) ∷ []) (also a (also o ms)) us
+        (group-code y) refl (group-unnamed y .0) (group-unnamed y .1) A
 
-    pub replicator-walks : (y : Way) (par : Name) (z : ℕ) (a : Member) → code par ≡ 6 → code (digits z) ≡ 16 + z → 1 ≤ z → z ≤ 16
-        → MembersList (d - 1) (suc x) (node member (d - 1) ∷ sign 2 ∷ []) (also a end) (n + 1) m (k + 7) l → ChildWalks d x (replicator y par z a) n m k l
-    unfolding child-tokens child-token-nodes
-    replicator-walks y par z a q g lo hi A rows r =
-        let c = replicator-code y in
-        let rows₁ = named-rows rows c in
-        let rows₂ = store rows₁ ((n + 1) * 8 + 4) z in
-        let us = node member (d - 1) ∷ sign 2 ∷ [] in
-        node-walked (k + 7) (pl k) (pl (k + 2) ∷ c ∷ z ∷ (13 - d) ∷ 0 ∷ 0 ∷ []) (λ b. copy-node k x c par z b) (λ b. rw (depth, replicator-named y))
-        (head-store few 4 ((n + 1) * 8 + 4) z (omega arith) refl (omega arith) (head-named rows c r))
-        (λ s ws ts.
-        let ts₁ = member-tokens a (closing ∷ ts) in
-        named-step child c (sign 4 ∷ number 1 16 ∷ sign 2 ∷ sign 1 ∷ us) (replicator-key y) par (replicator-coded y) (replicator-between y)
-        (replicator-wants y (d - 1)) q rows s ws (colon ∷ digits z ∷ closing ∷ opening ∷ ts₁)
-        ∙ (sign-step pl e 4 (number 1 16 ∷ sign 2 ∷ sign 1 ∷ us ++ ws) (n + 1) (state rows₁ (n ∷ s)) (k + 3) (k + 4) colon (digits z ∷ closing ∷ opening ∷ ts₁)
-        (coded-colon .number) (omega arith) refl (omega arith)
-        ∙ (size-step pl e (sign 2 ∷ sign 1 ∷ us ++ ws) (n + 1) rows₁ (n ∷ s) (k + 4) (k + 5) z (digits z) (closing ∷ opening ∷ ts₁) g lo hi (omega arith)
-        ∙ (closes pl e (sign 1 ∷ us ++ ws) (n + 1) (state rows₂ (n ∷ s)) (k + 5) (k + 6) (opening ∷ ts₁) (omega arith)
-        ∙ opens pl e (us ++ ws) (n + 1) (state rows₂ (n ∷ s)) (k + 6) (k + 7) ts₁ (omega arith))))) A
+    pub replicator-walks : (y : Way) (par : Name) (z : ℕ) (a : Member) (us : List Token) → between 1 16 z ≡ true
+        → MembersPass (around ++ (par ∷ [])) (d - 1) (suc x) (node member (d - 1) ∷ sign closing ∷ []) (also a end) us (suc n) m
+        → ChildWalks around d x (replicator y par z a) us n m
+    unfolding child-tokens child-tree-nodes named-rows
+    replicator-walks y par z a us g A k rows r h =
+        let kind = replicator-kind y z in
+        let f = replicator-named y z in
+        let p = start-of text (suc (suc k)) in
+        let e = p + length par in
+        let vs = node member (d - 1) ∷ sign closing ∷ [] in
+        let ts = member-tokens a (Token.sign closing ∷ us) in
+        let ts₁ = Token.sign colon ∷ numeral z ∷ Token.sign closing ∷ Token.sign opening ∷ ts in
+        let h₁ = past-token text refl (past-token text refl (past-key text h)) in
+        node-walked k (suc (suc (suc (suc (suc (suc (suc k))))))) (start-of text k) (p ∷ kind-code kind ∷ z ∷ (13 - d) ∷ 0 ∷ e ∷ [])
+        (λ b. text-node n kind b x par)
+        (λ rs b. rw depth
+        (row-told text n (start-of text k) p e z (text-node n kind b x par) refl (key-there text h) (f .2)
+        (one-name text n k (Keyword.replicator y) par ts₁ h kind (f .0) (f .1)) rs))
+        (head-store few 4 (suc n * 8 + 4) z (omega arith) refl (omega arith) (head-named rows k (kind-code kind) e r))
+        (λ s ws. rw (← replicator-code y z)
+        (name-step text child d n (Keyword.replicator y) refl H few
+        (sign colon ∷ number 1 16 ∷ sign closing ∷ sign opening ∷ vs) ws rows s k ts₁ par refl
+        ∙ size-step text (vs ++ ws) (suc n) (named-rows rows k (code (key (Keyword.replicator y))) e) (n ∷ s) (suc (suc (suc k))) z ts g))
+        (past-token text refl (past-token text refl (past-token text refl (past-token text refl h₁)))) A
 
-    pub flow-walks : (top : ℕ) (t : Name) (ps : List Name) (sw : Bool) (c : Child) (r : Bool) (cs : Children) → 7 ≤ top → code t ≡ 6 → all-coded ps
-        → ChildrenList (d - 1) (suc x) (node child (d - 1) ∷ ref ++ (more (d - 1) ∷ [])) (next c r cs) (n + 1) m (k + (7 + 2 * length ps)) l
-        → Walks (node top d) (λ s. waiting top n s) (flow-tokens (flow t ps sw c r cs)) (λ b hs. flow-token-nodes (flow t ps sw c r cs) b x k hs) n m k l
-    unfolding flow-tokens flow-token-nodes parts
-    flow-walks top t ps sw c r cs T q g K rows room =
-        let i = k + (7 + 2 * length ps) in
-        let rows₁ = named-rows rows 7 in
-        let us = node child (d - 1) ∷ ref ++ (more (d - 1) ∷ []) in
-        node-walked i (pl k) (pl (k + 2) ∷ 7 ∷ 0 ∷ (13 - d) ∷ mark sw ∷ 0 ∷ []) (λ b. flow-node k x t (reverse ps) sw b) (λ b. rw depth)
-        (head-store few 6 ((n + 1) * 8 + 6) (mark sw) (omega arith) refl (omega arith) (head-named rows 7 room))
-        (λ s ws ts.
-        let s₁ = waiting top n s in
-        let ts₁ = children-tokens (next c r cs) (closing ∷ ts) in
-        named-step top 7 (params ∷ sign 1 ∷ us) (key 0) t (coded-key 0 (omega arith) .number) (between-in 7 top 7 (omega arith) T) refl q rows s ws
-        (pars-tokens ps (comma ∷ bit sw ∷ closing ∷ opening ∷ ts₁))
-        ∙ (pars-step pl e ps (sign 1 ∷ us ++ ws) (n + 1) rows₁ s₁ (k + 3) (k + (6 + 2 * length ps)) sw (opening ∷ ts₁) g (omega arith)
-        ∙ opens pl e (us ++ ws) (n + 1) (state (store rows₁ ((n + 1) * 8 + 6) (mark sw)) s₁) (k + (6 + 2 * length ps)) i ts₁ (omega arith))) K
+    pub flow-walks : (place : Place) (t : Name) (ps : List Name) (sw : Bool) (c : Child) (r : Bool) (cs : Children) (us : List Token)
+        → allows place Keyword.flow ≡ true → all-named keywords ps ≡ true
+        → ChildrenPass around (d - 1) (suc x) (node child (d - 1) ∷ ref ++ (more (d - 1) ∷ [])) (next c r cs) us (suc n) m
+        → Walks (node place d) (λ s. waiting place n s) (flow-tokens (flow t ps sw c r cs) us) us
+        (λ b hs. flow-tree-nodes own (flow t ps sw c r cs) around b x n hs) n m
+    unfolding flow-tokens flow-tree-nodes named-rows
+    flow-walks place t ps sw c r cs us a g K k rows room h =
+        let p = start-of text (suc (suc k)) in
+        let e = p + length t in
+        let vs = node child (d - 1) ∷ ref ++ (more (d - 1) ∷ []) in
+        let ts = children-tokens (next c r cs) (Token.sign closing ∷ us) in
+        let ts₁ = pars-tokens ps (Token.sign comma ∷ bit sw ∷ Token.sign closing ∷ Token.sign opening ∷ ts) in
+        let k₁ = suc (suc (suc k)) in
+        node-walked k (past-pars k₁ ps) (start-of text k) (p ∷ 7 ∷ 0 ∷ (13 - d) ∷ mark sw ∷ e ∷ []) (λ b. flow-text-node n b sw x t ps)
+        (λ rs b. rw depth
+        (row-told text n (start-of text k) p e 0 (flow-text-node n b sw x t ps) refl (key-there text h) refl
+        (with-pars text n k Keyword.flow t ts₁ h FlowNode ps sw (Token.sign opening ∷ ts) refl g refl) rs))
+        (head-store few 6 (suc n * 8 + 6) (mark sw) (omega arith) refl (omega arith) (head-named rows k 7 e room))
+        (λ s ws.
+        name-step text place d n Keyword.flow a H few (params ∷ sign opening ∷ vs) ws rows s k ts₁ t refl
+        ∙ pars-step text ps (vs ++ ws) (suc n) (named-rows rows k 7 e) (waiting place n s) k₁ sw ts)
+        (past-all ps sw ts (past-token text refl (past-token text refl (past-key text h)))) K

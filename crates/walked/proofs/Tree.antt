@@ -1,52 +1,22 @@
--- What the walk leaves of a tree: over its tokens it ends whole, and the rows hold its nodes.
+-- What the walk leaves of a tree: over its tokens it ends whole, and the rows tell its nodes.
 use mathlib.Core.Path.{_≡_, refl}
-use mathlib.Core.Bool.{true, _&&_}
-use mathlib.Core.List.{List, [], _∷_}
-use Prim.Native.Nat.{ℕ, suc, _+_, _*_, _-_, _≤_, _<_}
+use mathlib.Core.Bool.{true}
+use mathlib.Core.List.{List, [], _∷_, _++_}
+use Prim.Native.Nat.{ℕ, suc, _+_, _-_, _≤_, _<_}
 use native.Mathlib.Omega.{arith}
-use lib.Dec.{leb}
-use lib.ListN.{length}
-use borrow.Author.Tests.{leb-true}
-use Rattle.diagram.specs.Tree.{Name, Way, all, some, one, Flow, flow, Children, none, next, Child, plain, loop, group, replicator, Member, leaf, inner, Members, end, also}
+use Rattle.diagram.specs.Tree.{Name, Flow, flow, Children, none, next, Child, plain, loop, group, replicator, Member, leaf, inner, Members, end, also}
 use Rattle.diagram.specs.Count.{flow-nodes, children-nodes, child-nodes, member-nodes, members-nodes}
 use Rattle.diagram.specs.Depth.{flow-depth, children-depth, child-depth, member-depth, members-depth}
-use Rattle.diagram.specs.Sizes.{flow-sized, children-sized, child-sized, member-sized, members-sized}
-use Rattle.base.proofs.Truth.{and-l, and-r}
-use Rattle.tokens.specs.Words.{code}
-use Rattle.grammar.specs.Tokens.{closing, comma, opening, bit, ref-tokens, group-key, replicator-key, key, flow-tokens, children-tokens, child-tokens, member-tokens, members-tokens}
-use Rattle.grammar.specs.Machine.{sign, node, more, others, member, child}
-use Rattle.grammar.proofs.Codes.{coded-key}
-use Rattle.rules.proofs.Trees.{flow-token-nodes, member-token-nodes}
-use Rattle.rules.proofs.NodeTokens.{pars-long, children-long, child-long, member-long, members-long, flow-coded, children-coded, child-coded, member-coded, members-coded}
+use Rattle.diagram.specs.TreeNodes.{own, flow-tree-nodes}
+use Rattle.tokens.specs.Words.{keywords}
+use Rattle.tokens.specs.Token.{closing, Keyword, Token}
+use Rattle.grammar.specs.Tokens.{ref-tokens, flow-tokens, children-tokens, members-tokens}
+use Rattle.grammar.specs.Machine.{Place, member, child, allows, sign, node, more, others}
+use Rattle.grammar.proofs.Fit.{FitFlow, FitChildren, FitChild, FitMember, FitMembers}
+use Rattle.grammar.proofs.Stack.{shape}
+use Rattle.grammar.proofs.Nodes.{opened}
 use Rattle.walked.specs.Walk.{waiting}
-use Rattle.walked.proofs.Track.{NotClosing}
-use Rattle.walked.proofs.Nodes.{Walks, ChildWalks, MembersList, ChildrenList, last-closed, members-end, children-none, member-then, child-then, members-also, children-next, leaf-walks, loop-walks, group-walks, replicator-walks, flow-walks}
-
--- A node begins with its keyword.
-key-open : (i : ℕ) → i ≤ 8 → code (key i) ≡ 2 → ⊥
-key-open i h e = omega (arith, coded-key i h .number)
-
-group-open : (y : Way) → code (group-key y) ≡ 2 → ⊥
-group-open all = key-open 2 (omega arith)
-group-open some = key-open 3 (omega arith)
-group-open one = key-open 4 (omega arith)
-
-replicator-open : (y : Way) → code (replicator-key y) ≡ 2 → ⊥
-replicator-open all = key-open 5 (omega arith)
-replicator-open some = key-open 6 (omega arith)
-replicator-open one = key-open 7 (omega arith)
-
-member-open : (a : Member) (ts : List Name) → NotClosing (member-tokens a ts)
-unfolding flow-tokens
-member-open (leaf t) ts = key-open 1 (omega arith)
-member-open (inner (flow t ps sw c r cs)) ts = key-open 0 (omega arith)
-
-child-open : (c : Child) (ts : List Name) → NotClosing (child-tokens c ts)
-unfolding flow-tokens
-child-open (plain a) ts = member-open a ts
-child-open (loop a) ts = key-open 8 (omega arith)
-child-open (group y a o ms) ts = group-open y
-child-open (replicator y par z a) ts = replicator-open y
+use Rattle.walked.proofs.Nodes.{Walks, MemberWalks, ChildWalks, MembersPass, ChildrenPass, last-closed, members-end, children-none, member-then, child-then, members-also, children-next, leaf-walks, loop-walks, group-walks, replicator-walks, flow-walks}
 
 member-some : (a : Member) → 0 < member-nodes a
 unfolding flow-nodes
@@ -60,97 +30,78 @@ child-some (loop a) = omega arith
 child-some (group y a o ms) = omega arith
 child-some (replicator y par z a) = omega arith
 
--- A part of so many nodes, depths and tokens, that begins with the node n and the token k and ends before the node m and the token l: with d
--- depths left for its nodes at depth x, it is within the limits.
-pub record Fits (nodes depths tokens d x n m k l : ℕ) : Type 0 where
+member-allowed : (a : Member) → allows member (shape (plain a)) ≡ true
+member-allowed (leaf t) = refl
+member-allowed (inner f) = refl
+
+-- A part of so many nodes and depths, that begins with the node n and ends before the node m: with d depths left for its nodes at depth x, it is
+-- within the limits.
+pub record Fits (nodes depths d x n m : ℕ) : Type 0 where
   pub left : d + x ≡ 13
   pub deep : depths ≤ d
   pub counted : m ≡ n + nodes
   pub few : m ≤ 256
-  pub ended : l ≡ k + tokens
 
-module _ (pl : ℕ → ℕ) (e : ℕ) where
+module _ (text : List ℕ) where
   mutual
-    unfolding flow-tokens flow-nodes flow-depth flow-sized flow-coded flow-token-nodes
+    unfolding flow-tokens flow-nodes flow-depth flow-tree-nodes
 
-    pub flow-all : (f : Flow) (top d x n m k l : ℕ) → 7 ≤ top → Fits (flow-nodes f) (flow-depth f) (length (flow-tokens f [])) d x n m k l
-        → flow-coded f → flow-sized f ≡ true
-        → Walks pl e (node top d) (λ s. waiting top n s) (flow-tokens f) (λ b hs. flow-token-nodes f b x k hs) n m k l
-    flow-all (flow t ps sw c r cs) top d x n m k l T F g z =
-        let us = children-tokens cs (closing ∷ []) in
-        let L₁ = pars-long ps (comma ∷ bit sw ∷ closing ∷ opening ∷ child-tokens c (ref-tokens r us)) in
-        let L₂ = child-long c (ref-tokens r us) in
-        let L₃ = children-long cs (closing ∷ []) in
-        let i = k + (7 + 2 * length ps) in
-        let m₁ = n + 1 + child-nodes c in
-        flow-walks pl e d x n k m l (F .left) (omega arith) (omega arith) (F .few) top t ps sw c r cs T (g .0) (g .1)
-        (child-then pl e (d - 1) (suc x) (n + 1) m i l m₁ c r cs (omega (arith, child-some c))
-        (child-all c (d - 1) (suc x) (n + 1) m₁ i (i + length (child-tokens c [])) (omega arith) (g .2) (and-l (child-sized c) (children-sized cs) z))
-        (children-all cs (d - 1) (suc x) m₁ m (i + (length (child-tokens c []) + 3)) l (omega arith) (g .3) (and-r (child-sized c) (children-sized cs) z)))
+    pub flow-all : (f : Flow) (around : List Name) (place : Place) (us : List Token) (d x n m : ℕ) → allows place Keyword.flow ≡ true
+        → Fits (flow-nodes f) (flow-depth f) d x n m → FitFlow keywords f
+        → Walks text (node place d) (λ s. waiting place n s) (flow-tokens f us) us (λ b hs. flow-tree-nodes own f around b x n hs) n m
+    flow-all (flow t ps sw c r cs) around place us d x n m A F g =
+        flow-walks text around d x n m (F .left) (omega arith) (omega arith) (F .few) place t ps sw c r cs us A (g .1)
+        (child-then text around (d - 1) (suc x) us (suc n) m c r cs (omega (arith, child-some c))
+        (child-all c around (ref-tokens r (children-tokens cs (Token.sign closing ∷ us))) (d - 1) (suc x) (suc n) (suc n + child-nodes c) (omega arith) (g .2))
+        (children-all cs around us (d - 1) (suc x) (suc n + child-nodes c) m (omega arith) (g .3)))
 
-    children-all : (cs : Children) (d x n m k l : ℕ) → Fits (children-nodes cs) (children-depth cs) (length (children-tokens cs []) + 1) d x n m k l
-        → children-coded cs → children-sized cs ≡ true → ChildrenList pl e d x (more d ∷ []) cs n m k l
-    children-all none d x n m k l F g z = children-none pl e d x n m k l (omega arith) (omega arith)
-    children-all (next c r cs) d x n m k l F g z =
-        let L = child-long c (ref-tokens r (children-tokens cs [])) in
-        let m₁ = n + child-nodes c in
-        children-next pl e d x n m k l c r cs (child-open c)
-        (child-then pl e d x n m k l m₁ c r cs (omega (arith, child-some c))
-        (child-all c d x n m₁ k (k + length (child-tokens c [])) (omega arith) (g .0) (and-l (child-sized c) (children-sized cs) z))
-        (children-all cs d x m₁ m (k + (length (child-tokens c []) + 3)) l (omega arith) (g .1) (and-r (child-sized c) (children-sized cs) z)))
+    children-all : (cs : Children) (around : List Name) (us : List Token) (d x n m : ℕ) → Fits (children-nodes cs) (children-depth cs) d x n m
+        → FitChildren keywords cs → ChildrenPass text around d x (more d ∷ []) cs us n m
+    children-all none around us d x n m F g = children-none text around d x us n m (omega arith)
+    children-all (next c r cs) around us d x n m F g =
+        let o = opened keywords 0 (ref-tokens r (children-tokens cs (Token.sign closing ∷ us))) c (g .0) in
+        children-next text around d x us n m c r cs (shape c) (o .0) (o .1)
+        (child-then text around d x us n m c r cs (omega (arith, child-some c))
+        (child-all c around (ref-tokens r (children-tokens cs (Token.sign closing ∷ us))) d x n (n + child-nodes c) (omega arith) (g .0))
+        (children-all cs around us d x (n + child-nodes c) m (omega arith) (g .1)))
 
-    child-all : (c : Child) (d x n m k l : ℕ) → Fits (child-nodes c) (child-depth c) (length (child-tokens c [])) d x n m k l
-        → child-coded c → child-sized c ≡ true → ChildWalks pl e d x c n m k l
-    child-all (plain a) d x n m k l F g z = member-all a child d x n m k l (omega arith) F g z
-    child-all (loop a) d x n m k l F g z =
-        let L = member-long a (closing ∷ []) in
-        let j = k + 2 + length (member-tokens a []) in
-        loop-walks pl e d x n k m l (F .left) (omega arith) (omega arith) (F .few) a
-        (member-then pl e (d - 1) (suc x) (n + 1) m (k + 2) l m (sign 2 ∷ []) a end
-        (member-all a member (d - 1) (suc x) (n + 1) m (k + 2) j (omega arith) (omega arith) g z)
-        (last-closed pl e (d - 1) (suc x) m m j l refl (omega arith)))
-    child-all (group y a o ms) d x n m k l F g z =
-        let L₁ = member-long a (member-tokens o (members-tokens ms (closing ∷ []))) in
-        let L₂ = member-long o (members-tokens ms (closing ∷ [])) in
-        let L₃ = members-long ms (closing ∷ []) in
-        let i = k + 2 + length (member-tokens a []) in
-        let j = i + length (member-tokens o []) in
-        let m₁ = n + 1 + member-nodes a in
-        let m₂ = m₁ + member-nodes o in
-        let z₁ = and-r (member-sized a) (member-sized o && members-sized ms) z in
-        group-walks pl e d x n k m l (F .left) (omega arith) (omega arith) (F .few) y a o ms
-        (member-then pl e (d - 1) (suc x) (n + 1) m (k + 2) l m₁ (node member (d - 1) ∷ others (d - 1) ∷ []) a (also o ms)
-        (member-all a member (d - 1) (suc x) (n + 1) m₁ (k + 2) i (omega arith) (omega arith) (g .0)
-        (and-l (member-sized a) (member-sized o && members-sized ms) z))
-        (member-then pl e (d - 1) (suc x) m₁ m i l m₂ (others (d - 1) ∷ []) o ms
-        (member-all o member (d - 1) (suc x) m₁ m₂ i j (omega arith) (omega arith) (g .1) (and-l (member-sized o) (members-sized ms) z₁))
-        (members-all ms (d - 1) (suc x) m₂ m j l (omega arith) (g .2) (and-r (member-sized o) (members-sized ms) z₁))))
-    child-all (replicator y par s a) d x n m k l F g z =
-        let L = member-long a (closing ∷ []) in
-        let j = k + 7 + length (member-tokens a []) in
-        let b = and-l (leb 1 s && leb s 16) (member-sized a) z in
-        replicator-walks pl e d x n k m l (F .left) (omega arith) (omega arith) (F .few) y par s a (g .0) (g .1)
-        (leb-true 1 s (and-l (leb 1 s) (leb s 16) b)) (leb-true s 16 (and-r (leb 1 s) (leb s 16) b))
-        (member-then pl e (d - 1) (suc x) (n + 1) m (k + 7) l m (sign 2 ∷ []) a end
-        (member-all a member (d - 1) (suc x) (n + 1) m (k + 7) j (omega arith) (omega arith) (g .2) (and-r (leb 1 s && leb s 16) (member-sized a) z))
-        (last-closed pl e (d - 1) (suc x) m m j l refl (omega arith)))
+    child-all : (c : Child) (around : List Name) (us : List Token) (d x n m : ℕ) → Fits (child-nodes c) (child-depth c) d x n m → FitChild keywords c
+        → ChildWalks text around d x c us n m
+    child-all (plain a) around us d x n m F g = member-all a around child us d x n m refl refl F g
+    child-all (loop a) around us d x n m F g =
+        loop-walks text around d x n m (F .left) (omega arith) (omega arith) (F .few) a us
+        (member-then text around (d - 1) (suc x) us (suc n) m (sign closing ∷ []) a end
+        (member-all a around member (Token.sign closing ∷ us) (d - 1) (suc x) (suc n) (suc n + member-nodes a) refl refl (omega arith) g)
+        (last-closed text around (d - 1) (suc x) us (suc n + member-nodes a) m (omega arith)))
+    child-all (group y a o ms) around us d x n m F g =
+        let ts = members-tokens ms (Token.sign closing ∷ us) in
+        let m₁ = suc n + member-nodes a in
+        group-walks text around d x n m (F .left) (omega arith) (omega arith) (F .few) y a o ms us
+        (member-then text around (d - 1) (suc x) us (suc n) m (node member (d - 1) ∷ others (d - 1) ∷ []) a (also o ms)
+        (member-all a around member (members-tokens (also o ms) (Token.sign closing ∷ us)) (d - 1) (suc x) (suc n) m₁ refl refl (omega arith) (g .0))
+        (member-then text around (d - 1) (suc x) us m₁ m (others (d - 1) ∷ []) o ms
+        (member-all o around member ts (d - 1) (suc x) m₁ (m₁ + member-nodes o) refl refl (omega arith) (g .1))
+        (members-all ms around us (d - 1) (suc x) (m₁ + member-nodes o) m (omega arith) (g .2))))
+    child-all (replicator y par s a) around us d x n m F g =
+        replicator-walks text around d x n m (F .left) (omega arith) (omega arith) (F .few) y par s a us (g .1)
+        (member-then text (around ++ (par ∷ [])) (d - 1) (suc x) us (suc n) m (sign closing ∷ []) a end
+        (member-all a (around ++ (par ∷ [])) member (Token.sign closing ∷ us) (d - 1) (suc x) (suc n) (suc n + member-nodes a) refl refl (omega arith) (g .2))
+        (last-closed text (around ++ (par ∷ [])) (d - 1) (suc x) us (suc n + member-nodes a) m (omega arith)))
 
-    member-all : (a : Member) (top d x n m k l : ℕ) → 8 ≤ top → Fits (member-nodes a) (member-depth a) (length (member-tokens a [])) d x n m k l
-        → member-coded a → member-sized a ≡ true
-        → Walks pl e (node top d) (λ s. waiting top n s) (member-tokens a) (λ b hs. member-token-nodes a b x k hs) n m k l
-    member-all (leaf t) top d x n m k l T F g z =
-        leaf-walks pl e d x n k m l (F .left) (omega arith) (omega arith) (F .few) top t T g
-        (last-closed pl e (d - 1) (suc x) (n + 1) m (k + 3) l (omega arith) (omega arith))
-    member-all (inner f) top d x n m k l T F g z = flow-all f top d x n m k l (omega arith) F g z
+    member-all : (a : Member) (around : List Name) (place : Place) (us : List Token) (d x n m : ℕ) → allows place Keyword.flow ≡ true
+        → allows place Keyword.leaf ≡ true → Fits (member-nodes a) (member-depth a) d x n m → FitMember keywords a → MemberWalks text around d x place a us n m
+    member-all (leaf t) around place us d x n m A B F g =
+        leaf-walks text around d x n m (F .left) (omega arith) (omega arith) (F .few) place t us B
+        (last-closed text around (d - 1) (suc x) us (suc n) m (omega arith))
+    member-all (inner f) around place us d x n m A B F g = flow-all f around place us d x n m A F g
 
-    members-all : (ms : Members) (d x n m k l : ℕ) → Fits (members-nodes ms) (members-depth ms) (length (members-tokens ms []) + 1) d x n m k l
-        → members-coded ms → members-sized ms ≡ true → MembersList pl e d x (others d ∷ []) ms n m k l
-    members-all end d x n m k l F g z = members-end pl e d x n m k l (omega arith) (omega arith)
-    members-all (also a ms) d x n m k l F g z =
-        let L = member-long a (members-tokens ms []) in
-        let i = k + length (member-tokens a []) in
-        let m₁ = n + member-nodes a in
-        members-also pl e d x n m k l a ms (member-open a)
-        (member-then pl e d x n m k l m₁ (others d ∷ []) a ms
-        (member-all a member d x n m₁ k i (omega arith) (omega arith) (g .0) (and-l (member-sized a) (members-sized ms) z))
-        (members-all ms d x m₁ m i l (omega arith) (g .1) (and-r (member-sized a) (members-sized ms) z)))
+    members-all : (ms : Members) (around : List Name) (us : List Token) (d x n m : ℕ) → Fits (members-nodes ms) (members-depth ms) d x n m
+        → FitMembers keywords ms → MembersPass text around d x (others d ∷ []) ms us n m
+    members-all end around us d x n m F g = members-end text around d x us n m (omega arith)
+    members-all (also a ms) around us d x n m F g =
+        let ts = members-tokens ms (Token.sign closing ∷ us) in
+        let o = opened keywords 0 ts (plain a) (g .0) in
+        members-also text around d x us n m a ms (shape (plain a)) (o .0) (member-allowed a) (o .1)
+        (member-then text around d x us n m (others d ∷ []) a ms
+        (member-all a around member ts d x n (n + member-nodes a) refl refl (omega arith) (g .0))
+        (members-all ms around us d x (n + member-nodes a) m (omega arith) (g .1)))

@@ -9,20 +9,8 @@ use Rattle.heads.proofs.put.Tie as tie
 returns : tie.Need-returns
 returns c = rw (le-ltb (c .before .args .n * 8 + c .before .args .column) 2056 (omega arith))
 
-mul-rows : tie.Need-mul-rows
-mul-rows c = search needs
-
-add-rows : tie.Need-add-rows
-add-rows c = search needs
-
-mul-rows-2 : tie.Need-mul-rows-2
-mul-rows-2 c = search needs
-
-element-write-rows : tie.Need-element-write-rows
-element-write-rows c = search needs
-
 returns-2 : tie.Need-returns-2
 returns-2 c = rw (lt-ltb (c .before .args .n * 8 + c .before .args .column) 2056 (omega arith))
 
 pub put-spec : {M : Type 1} → statement M
-put-spec = tie.close (tie.spec returns mul-rows add-rows mul-rows-2 element-write-rows returns-2)
+put-spec = tie.close (tie.spec returns (λ c. search needs) (λ c. search needs) (λ c. search needs) (λ c. search needs) returns-2)

@@ -1,4 +1,4 @@
--- `lexer::foreign` meets its contract. The loop's invariant: no token before `at` is a foreign byte.
+-- `lexer::foreign` meets its contract. The loop's invariant: no token before `place` is a foreign byte.
 use Prim.Native.Nat.{_-_}
 use lib.ListN.{length}
 use Rattle.lexer.proofs.Ways.{less-left}
@@ -8,10 +8,10 @@ use Rattle.lexer.proofs.foreign.Statement.{statement}
 use Rattle.lexer.proofs.foreign.Tie as tie
 
 abbrev Inv-loop : tie.InvT-loop
-Inv-loop text lexicon at₀ at = So-far (foreign-of text) text at
+Inv-loop text lexicon place₀ place = So-far (foreign-of text) text place
 
 abbrev μ-loop : tie.MeasureT-loop
-μ-loop text lexicon at₀ at = length text - at
+μ-loop text lexicon place₀ place = length text - place
 
 loop-holds : tie.Need-loop-holds Inv-loop μ-loop
 loop-holds c = usual-start _ _ (c .gap .ensures)
@@ -26,9 +26,10 @@ loop-less c = less-left _ _ _ _ (c .before .before .before .before .before .loop
 
 loop-again : tie.Need-loop-again Inv-loop μ-loop
 loop-again c =
-    let k = c .before .before .before in
+    let i = c .before .before in
+    let k = i .before in
     let l = k .before .before in
-    usual-again _ _ _ (l .before .loop .inv) (l .loop-test .taken) (k .class .ensures) _ _ (c .before .before .if1 .left) (c .before .token-end .ensures) (c .gap2 .ensures)
+    usual-again _ _ _ (l .before .loop .inv) (l .loop-test .taken) (k .class .ensures) _ _ (i .if1 .left) (c .before .token-end .ensures) (c .gap2 .ensures)
 
 returns-2 : tie.Need-returns-2 Inv-loop μ-loop
 returns-2 c = usual-all _ _ (c .before .loop .inv) (c .loop-test .left)

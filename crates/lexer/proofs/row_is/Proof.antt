@@ -18,7 +18,8 @@ returns : tie.Need-returns Inv-loop μ-loop
 returns c =
     let s = c .before .before .before .before in
     let a = s .args in
-    other-size (a .text .now) (a .lexicon .now) (a .a) (a .n) (a .row) _ (s .pre .0) (s .pre .1) (s .pre .2) (s .pre .3) (c .before .wide .ensures .0) (c .if1 .taken)
+    other-size (a .text .now) (a .lexicon .now) (a .a) (a .n) (a .row) _ (s .pre .0) (s .pre .1) (s .pre .2) (s .pre .3) (c .before .wide .ensures .0)
+    (c .if1 .taken)
 
 loop-holds : tie.Need-loop-holds Inv-loop μ-loop
 loop-holds c = (omega arith, refl)

@@ -12,7 +12,8 @@ returns-2 : tie.Need-returns-2
 returns-2 c =
     let z = c .before .before .before in (
       λ e. z .before .if1 .left,
-      λ count t h a. asked-flow t h _ _ a (z .before .if1 .left) (z .told .ensures .0) (c .before .before .if2 .taken) (c .before .told2 .ensures .0) (c .listed .ensures),
+      λ count t h a. asked-flow t h _ _ a (z .before .if1 .left) (z .told .ensures .0) (c .before .before .if2 .taken) (c .before .told2 .ensures .0)
+          (c .listed .ensures),
     )
 
 returns-3 : tie.Need-returns-3

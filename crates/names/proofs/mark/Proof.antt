@@ -1,35 +1,36 @@
--- What is left of the word takes the mark so far to the mark of the word.
-use Prim.Native.Nat.{_-_}
+use mathlib.Core.Path.{refl}
 use native.Mathlib.Omega.{arith}
-use lib.ListN.{length}
 use borrow.Author.Needs.{needs}
-use Rattle.names.proofs.Marked.{Marking, mark-start, mark-end, mark-inside, mark-more}
+use Rattle.names.proofs.Marked.{mark-none, mark-inside, mark-is}
 use Rattle.names.proofs.mark.Statement.{statement}
 use Rattle.names.proofs.mark.Tie as tie
 
-abbrev Inv-loop : tie.InvT-loop
-Inv-loop text at lexicon h₀ i₀ h i = Marking text at h i
+returns : tie.Need-returns
+returns c = (omega arith, λ e. mark-none _ _ e (c .if1 .taken))
 
-abbrev μ-loop : tie.MeasureT-loop
-μ-loop text at lexicon h₀ i₀ h i = length text - i
+returns-2 : tie.Need-returns-2
+returns-2 c = (omega arith, λ e. absurd (mark-inside _ _ e (c .before .if1 .left) (c .if2 .taken)))
 
-loop-holds : tie.Need-loop-holds Inv-loop μ-loop
-loop-holds c = mark-start _ _
+mixed-requires : tie.Need-mixed-requires
+mixed-requires c κs =
+    let w = c .before .before in
+    let m = w .before .before in
+    (w .wide .ensures .1, c .wide2 .ensures .1, m .before .before .from-end .ensures .1, m .before .from-end2 .ensures .1, m .from-end3 .ensures .1, omega arith)
 
-returns : tie.Need-returns Inv-loop μ-loop
-returns c = (mark-end (c .before .before .loop .inv) (c .before .letter .ensures) (c .if1 .taken), c .before .before .loop .inv .small)
-
-add-i : tie.Need-add-i Inv-loop μ-loop
-add-i c = omega (arith, mark-inside (c .before .before .before .loop .inv) (c .before .before .letter .ensures) (c .before .if1 .left), c .before .before .before .before .before .good)
-
-loop-less : tie.Need-loop-less Inv-loop μ-loop
-loop-less c = omega (arith, mark-inside (c .before .before .before .loop .inv) (c .before .before .letter .ensures) (c .before .if1 .left))
-
-loop-again : tie.Need-loop-again Inv-loop μ-loop
-loop-again c = mark-more (c .before .before .before .loop .inv) (c .before .before .letter .ensures) (c .before .if1 .left) (c .wide .ensures .0)
+returns-3 : tie.Need-returns-3
+returns-3 c =
+    let w = c .before .before .before in
+    let m = w .before .before in
+    let a = m .before .before in (
+      c .mixed .ensures .1,
+      λ e.
+          mark-is _ _ e (a .before .before .if1 .left) refl (w .wide .ensures .0) (c .before .wide2 .ensures .0) (a .from-end .ensures .0)
+          (m .before .from-end2 .ensures .0)
+          (m .from-end3 .ensures .0) (c .mixed .ensures .0),
+    )
 
 pub mark-spec : {M : Type 1} → statement M
 mark-spec =
     tie.close
-    (tie.spec Inv-loop μ-loop loop-holds (λ c κs. search needs) returns (λ c. search needs) (λ c κs. search needs) (λ c. search needs) add-i
-    loop-less loop-again)
+    (tie.spec returns returns-2 (λ c. search needs) (λ c κs. search needs) (λ c κs. search needs) (λ c κs. search needs) (λ c. search needs)
+    (λ c κs. search needs) (λ c. search needs) (λ c. search needs) (λ c κs. search needs) mixed-requires returns-3)

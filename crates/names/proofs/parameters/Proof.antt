@@ -14,18 +14,19 @@ use Rattle.names.proofs.parameters.Tie as tie
 
 abbrev Inv-loop : tie.InvT-loop
 Inv-loop text rows count lexicon pars₀ many₀ i₀ pars many i =
-    (i ≤ count) × Roomy pars many × ((t : Told text rows count) → Surrounded text pars many (t .hs) i × Searched parameters-kept (t .hs) i)
+    (i ≤ count) × Roomy pars many × ((t : Told text rows count) → Surrounded text rows pars many (t .hs) i × Searched parameters-kept (t .hs) i)
 
 abbrev μ-loop : tie.MeasureT-loop
 μ-loop text rows count lexicon pars₀ many₀ i₀ pars many i = count - i
 
 loop-holds : tie.Need-loop-holds Inv-loop μ-loop
-loop-holds c = (omega arith, roomy-start, λ t. (around-start _ (t .hs), search-start parameters-kept (t .hs)))
+loop-holds c = (omega arith, roomy-start, λ t. (around-start _ _ (t .hs), search-start parameters-kept (t .hs)))
 
 kept-requires : tie.Need-kept-requires Inv-loop μ-loop
 kept-requires c κs =
-    let l = c .before .before .before in
-    (omega (arith, l .before .before .pre .0), l .loop .inv .1 .each (c .before .depth .result), l .before .before .pre .1)
+    let d = c .before in
+    let l = d .before .before in
+    (omega (arith, l .before .before .pre .0), l .loop .inv .1 .each (d .depth .result), l .loop .inv .1 .numbers, l .before .before .pre .1)
 
 returns : tie.Need-returns Inv-loop μ-loop
 returns c =
@@ -41,35 +42,40 @@ few : (e : tie.Else1 Inv-loop μ-loop) → getD (e .before .before .before .befo
 few e = e .before .kept .ensures .0 (not-false _ (e .if1 .left))
 
 mul-pars : tie.Need-mul-pars Inv-loop μ-loop
-mul-pars c = omega (arith, few (c .before))
+mul-pars c = omega (arith, few c)
 
 array-write-pars : tie.Need-array-write-pars Inv-loop μ-loop
-array-write-pars c = omega (arith, few (c .before))
+array-write-pars c = omega (arith, few c)
 
-add-many-2 : tie.Need-add-many-2 Inv-loop μ-loop
-add-many-2 c = omega (arith, c .before .before .before .before .before .depth .ensures .0)
+deep : (e : tie.Else1 Inv-loop μ-loop) → e .before .before .before .depth .result ≤ 12
+deep e = e .before .before .before .depth .ensures .0
 
 add-many : tie.Need-add-many Inv-loop μ-loop
-add-many c = omega (arith, few (c .before .before), c .replicator .ensures .1)
+add-many c = omega (arith, few (c .before), c .replicator .ensures .1)
+
+add-many-2 : tie.Need-add-many-2 Inv-loop μ-loop
+add-many-2 c = omega (arith, deep (c .before))
 
 mul-many : tie.Need-mul-many Inv-loop μ-loop
-mul-many c = omega (arith, c .before .before .before .before .before .depth .ensures .0)
+mul-many c = omega (arith, deep (c .before))
 
 array-write-many : tie.Need-array-write-many Inv-loop μ-loop
-array-write-many c = omega (arith, c .before .before .before .before .before .depth .ensures .0)
+array-write-many c = omega (arith, deep (c .before))
 
 loop-again : tie.Need-loop-again Inv-loop μ-loop
 loop-again c =
-    let d = c .before .before .before .before .before in
+    let e = c .before in
+    let d = e .before .before .before in
     let l = d .before .before .loop in
     let h = d .before .loop-test .taken in
-    let f = few (c .before .before) in (
+    let f = few e in (
       omega arith,
-      roomy-next (l .inv .1) _ _ _ _ (omega (arith, d .depth .ensures .0)) (omega (arith, f, c .replicator .ensures .1)),
+      roomy-next (l .inv .1) _ _ _ _ (omega arith) (omega (arith, d .before .before .before .before .pre .0)) (omega (arith, deep e))
+          (omega (arith, f, c .replicator .ensures .1)),
       λ t. (
-        around-next t h (l .inv .1) (l .inv .2 t .0) (d .depth .ensures .1) refl f (c .before .told .ensures .0) (c .replicator .ensures .0),
+        around-next t h (l .inv .1) (l .inv .2 t .0) (d .depth .ensures .1) refl f (c .replicator .ensures .0),
         search-kept (l .inv .2 t .1) (omega (arith, t .many))
-            (c .before .before .before .kept .ensures .1 _ t h (around-here t h (l .inv .1) (l .inv .2 t .0) (d .depth .ensures .1) refl)) (c .before .before .if1 .left),
+            (e .before .kept .ensures .1 _ t h (around-here t h (l .inv .1) (l .inv .2 t .0) (d .depth .ensures .1) refl)) (e .if1 .left),
       ),
     )
 
@@ -80,5 +86,5 @@ pub parameters-spec : {M : Type 1} → statement M
 parameters-spec =
     tie.close
     (tie.spec Inv-loop μ-loop loop-holds (λ c. search needs) (λ c κs. search needs) (λ c. search needs) (λ c. search needs) kept-requires
-    returns (λ c κs. search needs) mul-pars array-write-pars (λ c κs. search needs) add-many add-many-2 mul-many array-write-many
-    (λ c. search needs) loop-again returns-2)
+    returns mul-pars array-write-pars (λ c κs. search needs) add-many add-many-2 mul-many array-write-many (λ c. search needs) loop-again
+    returns-2)

@@ -36,7 +36,8 @@ loop-again c =
     let l = d .before .before in (
       omega (arith, c .wide-short .ensures .0, l .before .before .pre .1 .each (l .loop .j - 1), l .loop .inv .0),
       λ i k e.
-          chain-next (l .loop .inv .1 i k e) (d .before .loop-test .taken) (d .told .ensures .0) (c .before .before .before .same .ensures) (c .before .before .if1 .left) k
+          chain-next (l .loop .inv .1 i k e) (d .before .loop-test .taken) (d .told .ensures .0) (c .before .before .before .same .ensures)
+          (c .before .before .if1 .left) k
           (c .wide-short .ensures .0),
     )
 

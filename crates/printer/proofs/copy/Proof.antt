@@ -3,8 +3,7 @@ use mathlib.Core.Path.{ap, _∙_}
 use Prim.Native.Nat.{_-_}
 use lib.ListN.{length}
 use Rattle.base.proofs.Filled.{fill-length}
-use Rattle.lexer.proofs.Ways.{less-left}
-use Rattle.printer.proofs.Copied.{Copied, copied-start, part-inside, copied-more, copied-all, copied-out}
+use Rattle.printer.proofs.Copied.{Copied, copied-start, part-inside, less-left, copied-more, copied-all, copied-out}
 use borrow.Author.Needs.{needs}
 use Rattle.printer.proofs.copy.Statement.{statement}
 use Rattle.printer.proofs.copy.Tie as tie
@@ -21,19 +20,21 @@ loop-holds c = copied-start _ _ _ (c .gap .ensures)
 copy-part-requires : tie.Need-copy-part-requires Inv-loop μ-loop
 copy-part-requires c κs =
     let t = c .before .before in
-    part-inside _ _ _ _ _ (t .before .loop .inv) _ (t .loop-test .taken) (c .before .token-end .ensures)
+    let p = t .before .before .before .before .before .pre in
+    part-inside _ _ _ _ _ (t .before .loop .inv) _ (t .loop-test .taken) (c .before .run-end .ensures) (p .1)
 
 loop-less : tie.Need-loop-less Inv-loop μ-loop
 loop-less c =
     let e = c .before .before .before .before .before in
-    less-left _ _ _ _ (e .before .loop-test .taken) (e .token-end .ensures) (c .gap2 .ensures)
+    let t = e .before in
+    less-left _ _ _ _ _ (t .before .loop .inv) _ (t .loop-test .taken) (e .run-end .ensures) _ (c .gap2 .ensures)
 
 loop-again : tie.Need-loop-again Inv-loop μ-loop
 loop-again c =
     let part = c .before .before .before .copy-part .ensures in
     let e = c .before .before .before .before .before in
     let t = e .before in
-    copied-more _ _ _ _ _ (t .before .loop .inv) _ (t .loop-test .taken) (e .token-end .ensures) _ _ _ (part .0) (part .1) (c .gap2 .ensures)
+    copied-more _ _ _ _ _ (t .before .loop .inv) _ (t .loop-test .taken) (e .run-end .ensures) _ _ _ (part .0) (part .1) (c .gap2 .ensures)
 
 same-length : tie.Need-same-length Inv-loop μ-loop
 same-length c = ap length (c .before .loop .inv .done) ∙ fill-length _ _

@@ -2,6 +2,7 @@
 use mathlib.Core.Path.{refl, sym, _∙_}
 use Prim.Native.Nat.{_-_}
 use native.Mathlib.Omega.{arith}
+use lib.ListN.{length-set}
 use Rattle.printer.proofs.Copied.{Partly, over-more, over-none}
 use borrow.Author.Needs.{needs}
 use Rattle.printer.proofs.copy_part.Statement.{statement}
@@ -14,27 +15,19 @@ abbrev μ-loop : tie.MeasureT-loop
 μ-loop text a e out₀ n m₀ i₀ out m i = e - i
 
 loop-holds : tie.Need-loop-holds Inv-loop μ-loop
-loop-holds c = record { size = refl; begun = omega arith; inside = c .before .before .pre .0; count = refl; bytes = refl }
-
-add-m : tie.Need-add-m Inv-loop μ-loop
-add-m c =
-    let t = c .before .before .before .before .before in
-    let l = t .before .loop .inv in
-    let p = t .before .before .before .before .pre in
-    omega (arith, l .count, l .begun, t .loop-test .taken, p .1, p .2)
+loop-holds c = record { size = refl; begun = omega arith; inside = c .pre .0; count = refl; bytes = refl }
 
 loop-again : tie.Need-loop-again Inv-loop μ-loop
 loop-again c =
-    let put = c .before .before .put-byte in
-    let t = c .before .before .before .before .before in
+    let t = c .before in
     let l = t .before .loop in
-    let s = t .before .before .before .before in
+    let s = t .before .before in
     record {
-      size = put .kept .0 ∙ l .inv .size;
+      size = length-set (l .out) (l .m) _ ∙ l .inv .size;
       begun = omega (arith, l .inv .begun);
       inside = omega (arith, t .loop-test .taken);
       count = omega (arith, l .inv .count);
-      bytes = over-more (s .args .text .now) (l .i) (s .args .e) (l .out) (put .last .0) (l .m) (t .loop-test .taken) (s .pre .1) (put .ensures) ∙ l .inv .bytes;
+      bytes = over-more (s .args .text .now) (l .i) (s .args .e) (l .out) _ (l .m) (t .loop-test .taken) (s .pre .1) refl ∙ l .inv .bytes;
     }
 
 same-length : tie.Need-same-length Inv-loop μ-loop
@@ -43,7 +36,7 @@ same-length c = c .before .loop .inv .size
 returns : tie.Need-returns Inv-loop μ-loop
 returns c =
     let l = c .before .loop in
-    let a = c .before .before .before .before .args in (
+    let a = c .before .before .args in (
       omega (arith, l .inv .count, l .inv .begun, l .inv .inside, c .loop-test .left),
       sym (over-none (a .text .now) (l .i) (a .e) (l .out) (l .m) (c .loop-test .left)) ∙ l .inv .bytes,
     )
@@ -51,5 +44,5 @@ returns c =
 pub copy-part-spec : {M : Type 1} → statement M
 copy-part-spec =
     tie.close
-    (tie.spec Inv-loop μ-loop loop-holds (λ c. search needs) (λ c κs. search needs) add-m (λ c. search needs) (λ c. search needs) loop-again same-length
-    returns)
+    (tie.spec Inv-loop μ-loop loop-holds (λ c. search needs) (λ c. search needs) (λ c. search needs) (λ c. search needs) (λ c. search needs) loop-again
+    same-length returns)

@@ -6,7 +6,7 @@ use mathlib.Core.List.{List, [], _∷_}
 use Prim.Native.Nat.{ℕ, _<_}
 use lib.Dec.{ltb}
 use lib.ListN.{getD, take}
-use Rattle.diagram.specs.Replicators.{replicates}
+use Rattle.diagram.specs.TreeNodes.{copying}
 use Rattle.diagram.specs.declared.Diagram.{Diagram}
 use Rattle.diagram.specs.declared.Node.{Node}
 use Rattle.labels.specs.Seeks.{spot-of}
@@ -15,7 +15,7 @@ use Rattle.variables.specs.declared.Variables.{Variables}
 -- A node is a replicator.
 unfoldable pub some-copies : List Node → Bool
 some-copies [] = false
-some-copies (n ∷ ns) = replicates (n .kind) || some-copies ns
+some-copies (n ∷ ns) = copying (n .kind) || some-copies ns
 
 -- A replicator in it, or over 32 events.
 abbrev pub outside-of : Diagram → Bool

@@ -1,5 +1,5 @@
 use borrow.Author.Tests.{ne-eqb}
-use Rattle.reading.specs.Nodes.{kind-of}
+use Rattle.walked.specs.Rows.{kind-of}
 use Rattle.reader.proofs.kind.Statement.{statement}
 use Rattle.reader.proofs.kind.Tie as tie
 

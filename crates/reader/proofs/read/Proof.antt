@@ -6,29 +6,8 @@ use Rattle.reader.proofs.Stages.{long-text, walk-refused, walk-whole}
 use Rattle.reader.proofs.read.Statement.{statement}
 use Rattle.reader.proofs.read.Tie as tie
 
-no-diagram-requires : tie.Need-no-diagram-requires
-no-diagram-requires c κs = search needs
-
 returns : tie.Need-returns
 returns c = c .no-diagram .ensures ∙ long-text _ (c .before .if1 .taken)
-
-lexicon-requires : tie.Need-lexicon-requires
-lexicon-requires c κs = search needs
-
-parse-requires : tie.Need-parse-requires
-parse-requires c κs = search needs
-
-enum-known-w : tie.Need-enum-known-w
-enum-known-w c = search needs
-
-turned-away-requires : tie.Need-turned-away-requires
-turned-away-requires c κs = search needs
-
-no-diagram-requires-2 : tie.Need-no-diagram-requires-2
-no-diagram-requires-2 c κs = search needs
-
-enum-known-w-2 : tie.Need-enum-known-w-2
-enum-known-w-2 c = search needs
 
 judge-requires : tie.Need-judge-requires
 judge-requires c κs = (walk-whole _ _ _ (c .before .before .before .before .before .before .before .before .before .if1 .left) (c .before .before .before .before .before .parse .ensures) (c .before .before .before .w2 .given .1) .few, c .before .before .before .before .before .before .before .before .lexicon .ensures)
@@ -42,15 +21,5 @@ returns-3 c = c .judge .ensures (walk-whole _ _ _ (c .before .before .before .be
 pub read-spec : {M : Type 1} → statement M
 read-spec =
     tie.close
-    (tie.spec
-    no-diagram-requires
-    returns
-    lexicon-requires
-    parse-requires
-    enum-known-w
-    turned-away-requires
-    no-diagram-requires-2
-    enum-known-w-2
-    judge-requires
-    returns-2
-    returns-3)
+    (tie.spec (λ c κs. search needs) returns (λ c κs. search needs) (λ c κs. search needs) (λ c. search needs) (λ c κs. search needs)
+    (λ c κs. search needs) (λ c. search needs) judge-requires returns-2 returns-3)

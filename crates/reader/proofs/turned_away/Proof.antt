@@ -5,15 +5,9 @@ use Rattle.reader.specs.code.Stages.{turned-away}
 use Rattle.reader.proofs.turned_away.Statement.{statement}
 use Rattle.reader.proofs.turned_away.Tie as tie
 
-foreign-requires : tie.Need-foreign-requires
-foreign-requires c κs = search needs
-
 returns : tie.Need-returns
 unfolding turned-away
 returns c = rw (← c .before .foreign .ensures, lt-ltb _ _ (c .if1 .taken))
-
-first-long-requires : tie.Need-first-long-requires
-first-long-requires c κs = search needs
 
 returns-2 : tie.Need-returns-2
 unfolding turned-away
@@ -25,4 +19,5 @@ returns-3 c = rw (← c .before .before .before .foreign .ensures, le-ltb _ _ (c
 
 pub turned-away-spec : {M : Type 1} → statement M
 turned-away-spec =
-    tie.close (tie.spec foreign-requires returns first-long-requires returns-2 returns-3)
+    tie.close
+    (tie.spec (λ c κs. search needs) returns (λ c κs. search needs) returns-2 returns-3)

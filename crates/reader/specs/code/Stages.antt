@@ -5,14 +5,12 @@ use mathlib.Core.List.{List}
 use Prim.Native.Nat.{ℕ, _+_, _*_, _%_, _≤_}
 use lib.Dec.{eqb, ltb}
 use lib.ListN.{length, getD}
-use Rattle.tokens.specs.Spans.{spans-of, places}
+use Rattle.diagram.specs.TreeNodes.{TextNode}
+use Rattle.tokens.specs.Spans.{spans-of}
 use Rattle.tokens.specs.Scanned.{first-foreign, first-long}
 use Rattle.diagram.specs.declared.Node.{Node}
-use Rattle.rules.specs.TokenNodes.{TokenNode}
-use Rattle.rules.specs.Judged.{verdict}
-use Rattle.walked.specs.Rows.{Rowed, Nested, Sized}
-use Rattle.reading.specs.Nodes.{kind-of}
-use Rattle.reading.specs.Answers.{judged, read-of}
+use Rattle.walked.specs.Rows.{kind-of, Rowed, Nested, Sized}
+use Rattle.reading.specs.Answers.{judged-nodes, read-of}
 use Rattle.reading.specs.declared.Answer.{Answer}
 use Rattle.reading.specs.declared.Answer.the-variants.{Refused}
 
@@ -36,10 +34,10 @@ node-at rows i = record {
 
 -- A text that is walked along to its end: its nodes, and what its rows tell.
 pub record Walked (text : List ℕ) (n : ℕ) (rows : List ℕ) : Type 0 where
-  pub nodes : List TokenNode
+  pub nodes : List TextNode
   pub count : length nodes ≡ n
   pub few : n ≤ 256
-  pub told : Rowed text (places text) rows 0 nodes
+  pub told : Rowed text rows 0 nodes
   pub deep : Nested 0 nodes
   pub small : Sized nodes
-  pub answer : read-of text ≡ judged (places text) nodes (verdict (places text) nodes)
+  pub answer : read-of text ≡ judged-nodes text nodes

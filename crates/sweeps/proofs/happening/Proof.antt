@@ -21,7 +21,8 @@ returns-4 : tie.Need-returns-4
 returns-4 c =
     let z = c .before .before .before .before .before in (
       omega arith,
-      λ text t. event-no-flow t (z .before .pre .0) _ (z .told .ensures .0) (c .before .before .before .before .if1 .left) (c .before .before .before .if2 .left)
+      λ text t. event-no-flow t (z .before .pre .0) _ (z .told .ensures .0) (c .before .before .before .before .if1 .left)
+          (c .before .before .before .if2 .left)
           (c .before .before .if3 .left) (c .before .told2 .ensures .0) (c .if4 .taken),
     )
 

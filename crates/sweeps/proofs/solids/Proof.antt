@@ -6,7 +6,7 @@ use native.Mathlib.Omega.{arith}
 use lib.Dec.{eqb}
 use lib.ListN.{length, getD, length-set}
 use borrow.Author.Needs.{needs}
-use Rattle.rules.specs.TokenNodes.{flowing}
+use Rattle.names.specs.code.Kinds.{flow-code}
 use Rattle.names.specs.code.Told.{Told}
 use Rattle.sweeps.proofs.Weighed.{Weighed, First, weigh-start, first-start, weigh-next, first-next, first-all, blame-within}
 use Rattle.sweeps.proofs.solids.Statement.{statement}
@@ -32,7 +32,8 @@ loop-again c =
     let back : l .i - 1 + 1 ≡ l .i = omega arith in
     let less : l .i - 1 < n = omega (arith, l .inv .0) in (
       omega arith,
-      rw (c .before .blamed .ensures) (blame-within n (l .i - 1) (l .first) (flowing (getD (a .rows .now) ((l .i - 1) * 8 + 11) 0)) (eqb (getD (l .weights) (d .result + 1) 0) 1) (l .inv .1) (omega arith)),
+      rw (c .before .blamed .ensures)
+          (blame-within n (l .i - 1) (l .first) (flow-code (getD (a .rows .now) ((l .i - 1) * 8 + 11) 0)) (eqb (getD (l .weights) (d .result + 1) 0) 1) (l .inv .1) (omega arith)),
       simp length-set (l .inv .2),
       λ text t.
           let s : Weighed (t .hs) (l .weights) (l .i - 1 + 1) = rw back (l .inv .3 text t .0) in

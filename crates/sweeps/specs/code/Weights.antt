@@ -3,13 +3,15 @@ use mathlib.Core.Bool.{_&&_, cond}
 use mathlib.Core.List.{List, [], _∷_}
 use Prim.Native.Nat.{ℕ}
 use lib.Dec.{eqb}
-use Rattle.rules.specs.Kept.{may-be-solid}
+use Rattle.diagram.specs.declared.Kind.{Kind}
+use Rattle.walked.specs.Rows.{kind-code}
+use Rattle.names.specs.code.Kinds.{solid-code}
 
 -- With one more child, whose keyword is c.
 abbrev pub heavier : ℕ → ℕ → ℕ
-heavier w c = cond (eqb w 0 && may-be-solid c) 1 2
+heavier w c = cond (eqb w 0 && solid-code c) 1 2
 
--- By the keywords of the solid children: 0 none, 1 one that may be solid, 2 otherwise.
-unfoldable pub weight : List ℕ → ℕ
+-- By the kinds of the solid children: 0 none, 1 one that may be solid, 2 otherwise.
+unfoldable pub weight : List Kind → ℕ
 weight [] = 0
-weight (c ∷ cs) = heavier (weight cs) c
+weight (k ∷ ks) = heavier (weight ks) (kind-code k)

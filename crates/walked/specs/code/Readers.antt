@@ -4,8 +4,8 @@ use mathlib.Core.List.{List, [], _∷_, _++_}
 use Prim.Native.Nat.{ℕ, _-_, _≤_, _<_}
 use lib.ListN.{length}
 use Rattle.tokens.specs.Rest.{Next}
-use Rattle.tokens.specs.declared.Token.{Token}
-use Rattle.grammar.specs.Machine.{Want, node, ref}
+use Rattle.tokens.specs.declared.Lexeme.{Lexeme}
+use Rattle.grammar.specs.Machine.{Place, Want, node, ref}
 use Rattle.walked.specs.Walk.{State, state, waiting, End, whole, stop, from}
 use Rattle.walked.specs.declared.Step.{Step}
 use Rattle.walked.specs.declared.Step.the-variants.{Go, Stop}
@@ -15,7 +15,7 @@ use Rattle.walked.specs.declared.Walk.the-variants.{Whole, Refused}
 -- Whether a `)` comes next: the position past it, or 0.
 pub record Closing (text : List ℕ) (at r : ℕ) : Type 0 where
   pub shut : 0 < r → Next text at (record { code = 2; start = r - 1; end = r })
-  pub another : r ≡ 0 → (t : Token) × (Next text at t × (t .code ≡ 2 → ⊥))
+  pub another : r ≡ 0 → (t : Lexeme) × (Next text at t × (t .code ≡ 2 → ⊥))
 
 -- Where a step leaves the machine that still wants ws.
 abbrev pub left-at : List ℕ → List Want → State → Step → End
@@ -36,8 +36,8 @@ Reads text ws n at r = (st : State) → Writes text ws n at st r st
 abbrev pub Fills : List ℕ → List Want → ℕ → ℕ → List ℕ → Step → List ℕ → Type 0
 Fills text ws n at rows r rows′ = (s : List ℕ) → Writes text ws n at (state rows s) r (state rows′ s)
 
-abbrev pub Opens : List ℕ → ℕ → ℕ → ℕ → ℕ → List ℕ → Step → List ℕ → Type 0
-Opens text top d n at rows r rows′ = (s : List ℕ) → Writes text (node top d ∷ []) n at (state rows s) r (state rows′ (waiting top n s))
+abbrev pub Opens : List ℕ → Place → ℕ → ℕ → ℕ → List ℕ → Step → List ℕ → Type 0
+Opens text place d n at rows r rows′ = (s : List ℕ) → Writes text (node place d ∷ []) n at (state rows s) r (state rows′ (waiting place n s))
 
 abbrev pub Marks : List ℕ → ℕ → ℕ → ℕ → List ℕ → Step → List ℕ → Type 0
 Marks text i n at rows r rows′ = (s : List ℕ) → Writes text ref n at (state rows (i ∷ s)) r (state rows′ s)

@@ -1,7 +1,0 @@
-pub mod Tokens
-pub mod Named
-pub mod Machine
-pub mod Derives
-pub mod Printed
-pub mod Worked
-pub mod code
