@@ -10,7 +10,6 @@ use lib.ListN.{length, take, drop, take-append-drop}
 use lib.Seq.{take-take}
 use borrow.Author.Tests.{ltb-true, ltb-false}
 use Rattle.diagram.specs.Tree.{Name, Flow, Child, plain, loop, group, replicator, leaf, inner}
-use Rattle.base.proofs.Truth.{cases}
 use Rattle.tokens.specs.Token.{Token, all-proper, sound}
 use Rattle.grammar.proofs.Spelled.{spare-name}
 use Rattle.grammar.specs.Tokens.{child-tokens, member-tokens}
@@ -102,21 +101,6 @@ module _ (words : List Name) (fine : sound words ≡ true) (ts : List Token) (h 
   -- A node too many or too deep is on grammar.
   pub big-viable : (k : ℕ) → outcome ts ≡ stop 6 k → (k < length ts) × Viable words (take (suc k) ts)
   big-viable k e = let b = answered-big k e in (b .within, viable-of words (take (suc k) ts) (b .rest) (b .viable))
-
-  -- A text that derives a diagram is never off grammar.
-  never-off : (d : Flow) → Derives words ts d → (k : ℕ) → outcome ts ≡ stop 5 k → ⊥
-  never-off d g k e = ⊎-elim (λ q. off-token k e (ltb-true k (length ts) q) (derived-viable words ts d g (suc k))) at-end (cases (ltb k (length ts)))
-    where
-      at-end : ltb k (length ts) ≡ false → ⊥
-      at-end q = off-end k e (omega (arith, ltb-false k (length ts) q, off-viable k e .0)) d g
-
-  pub derived-read : (d : Flow) → Derives words ts d → ((n : ℕ) × (outcome ts ≡ whole n)) ⊎ ((k : ℕ) × (outcome ts ≡ stop 6 k))
-  derived-read d g = go answered
-    where
-      go : Answered ts → ((n : ℕ) × (outcome ts ≡ whole n)) ⊎ ((k : ℕ) × (outcome ts ≡ stop 6 k))
-      go (read n e) = inl (n, e)
-      go (strayed k e) = absurd (never-off d g k e)
-      go (outgrown k e) = inr (k, e)
 
   -- The first place where a text is off grammar is the one that is answered, unless a node too many or too deep stands before it.
   pub off-only : (k : ℕ) → Viable words (take k ts) → (k < length ts → Viable words (take (suc k) ts) → ⊥) → (k ≡ length ts → (d : Flow) → Derives words ts d → ⊥) → k ≤ length ts

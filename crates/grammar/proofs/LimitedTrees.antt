@@ -18,7 +18,7 @@ use Rattle.tokens.specs.Token.{opening, closing, comma, colon, Keyword, Token, 
 use Rattle.grammar.specs.Tokens.{bit, pars-tokens, ref-tokens, flow-tokens, children-tokens, child-tokens, member-tokens, members-tokens}
 use Rattle.grammar.specs.Machine.{is-key}
 use Rattle.grammar.proofs.Limits.{count-of, nodes-in, over-limit}
-use Rattle.grammar.proofs.LimitedFrom.{keys, opens, closes, big-at, big-nil, over-limit-in, nodes-cons, Safe, safe-cons, Balanced}
+use Rattle.grammar.proofs.LimitedFrom.{keys, opens, closes, big-at, over-limit-in, nodes-cons, Safe, safe-cons, Balanced}
 
 -- Tokens that begin no node: p parentheses are open before them, and q after them.
 abbrev Quiet : ℕ → List Token → ℕ → Type 0
@@ -181,10 +181,6 @@ module _ (d : Flow) where
   pub nodes-counted : nodes-in (flow-tokens d []) ≡ flow-nodes d
   unfolding count-of
   nodes-counted = flow-part d 0 .counted [] ∙ add-zero (flow-nodes d)
-
-  pub fits-none-big : flow-nodes d ≤ 256 → flow-depth d ≤ 12 → (j : ℕ) → over-limit (flow-tokens d []) j ≡ false
-  fits-none-big a b j =
-      over-limit-in (flow-tokens d []) j ∙ flow-part d 0 .fits 0 [] .1 (omega arith, λ k. big-nil (0 + flow-nodes d) 0 k) j
 
   pub none-big-fits : ((j : ℕ) → over-limit (flow-tokens d []) j ≡ false) → (flow-nodes d ≤ 256) × (flow-depth d ≤ 12)
   none-big-fits h =

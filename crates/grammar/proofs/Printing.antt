@@ -4,13 +4,13 @@ use mathlib.Core.Bool.{Bool, true, _&&_, false≢true}
 use mathlib.Core.List.{List, [], _∷_, _++_, map, flatten}
 use Prim.Native.Nat.{ℕ, zero, suc, _+_, _≤_, _<_}
 use native.Mathlib.Omega.{arith}
-use lib.ListN.{length, getD, take, drop, length-drop, length-map, take-append-drop, List·getD-map}
+use lib.ListN.{length, getD, take, drop, length-drop, length-map, take-append-drop}
 use Rattle.diagram.specs.Tree.{Name, Flow}
 use Rattle.base.proofs.Truth.{and-l, and-r, and-i, by-cases, not-e}
 use Rattle.tokens.specs.Classes.{class-of, worded, blank}
 use Rattle.tokens.specs.Words.{keywords, front, blanks, short, every}
 use Rattle.tokens.specs.Spans.{Span, width, cut, spans, spans-of, tokens}
-use Rattle.tokens.specs.Token.{Token, other, token-of, text-tokens, sound}
+use Rattle.tokens.specs.Token.{Token, token-of, text-tokens, sound}
 use Rattle.tokens.proofs.Front.{front-fails, front-past}
 use Rattle.tokens.proofs.Between.{in-range}
 use Rattle.tokens.proofs.Steps.{width-some}
@@ -92,10 +92,6 @@ by-bytes words text = go (spans-of text)
 
 pub tokens-many : (words : List Name) (text : List ℕ) → length (text-tokens words text) ≡ length (tokens text)
 tokens-many words text = ap length (by-bytes words text) ∙ length-map (tokens text) (token-of words)
-
-pub token-in : (words : List Name) (text : List ℕ) (k : ℕ) → getD (text-tokens words text) k other ≡ token-of words (getD (tokens text) k [])
-unfolding token-of class-of
-token-in words text k = ap (λ (ts : List Token). getD ts k other) (by-bytes words text) ∙ List·getD-map (token-of words) (tokens text) k []
 
 -- Each of these tokens can be written.
 abbrev pub all-writable : List Name → List Token → Bool

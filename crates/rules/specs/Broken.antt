@@ -19,8 +19,8 @@ use Rattle.rules.specs.Kept.{one-of}
 abbrev pub depths-of : Flow → List ℕ
 depths-of d = nodes-by (λ h. h .own .depth) d
 
--- Number 6: "node 257, or a node at depth 13", at "its keyword": of these tokens of the diagram the token t is the keyword of a node, before which as many
--- nodes stand as keywords, and that is number 257 or later, or at depth 13 or more.
+-- Number 6: "node 257, or a node at depth 13". The node before which i nodes stand is number 257 or later, or at depth 13 or more; and, at "its keyword",
+-- the token t of the diagram is the keyword of such a node, before which as many nodes stand as keywords.
 abbrev pub node-over : Flow → ℕ → Bool
 node-over d i = leb 257 (suc i) || leb 13 (getD (depths-of d) i 0)
 

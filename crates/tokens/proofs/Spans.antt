@@ -1,17 +1,14 @@
--- What the tokens of a text are, token by token: as many places as tokens, each a part of the text; and one that has the number 6 is a word.
+-- What the tokens of a text are, token by token: as many places as tokens, each a part of the text, and where a word begins, that word.
 use mathlib.Core.Path.{_≡_, refl, sym, ap, _∙_, subst}
-use mathlib.Core.Bool.{Bool, true, false, cond}
+use mathlib.Core.Bool.{true}
 use mathlib.Core.List.{List, [], _∷_}
 use Prim.Native.Nat.{ℕ, zero, suc, _+_, _<_}
 use native.Mathlib.Omega.{arith}
 use lib.ListN.{length, take, drop, getD, length-drop, length-map, List·getD-map}
 use lib.Seq.{drop-drop, getD-take}
-use Rattle.diagram.specs.Tree.{Name}
-use Rattle.base.proofs.Truth.{clash}
-use Rattle.tokens.specs.Classes.{between, class-of, worded}
-use Rattle.tokens.specs.Words.{front, blanks, word-at, word-code, code}
+use Rattle.tokens.specs.Classes.{worded}
+use Rattle.tokens.specs.Words.{front, blanks, word-at}
 use Rattle.tokens.specs.Spans.{Span, width, cut, spans, spans-of, tokens, places}
-use Rattle.tokens.proofs.Between.{between-in}
 use Rattle.tokens.proofs.Steps.{width-some}
 
 pub tokens-length : (text : List ℕ) → length (tokens text) ≡ length (spans-of text)
@@ -82,16 +79,3 @@ whole-word text s t h =
     let d = drop (s .place) text in
     let w = ap (λ (l : List ℕ). worded (getD l 0 0)) (t .is) ∙ ap worded (first-of d) in
     sym (t .is ∙ ap (λ (n : ℕ). take n d) (width-worded d (sym w ∙ h)))
-
-pub token-word : (text : List ℕ) (k : ℕ) → k < length (tokens text) → worded (getD (getD (tokens text) k []) 0 0) ≡ true
-    → word-at text (getD (places text) k 0) ≡ getD (tokens text) k []
-token-word text k h e = rw (place-at text k, token-at text k) (whole-word text (getD (spans-of text) k no-span) (stands text k h) (rw (token-at text k) at e))
-
--- The number 6.
-worded-if : (v : Bool) (c n : ℕ) → between 5 7 c ≡ v → cond v n c ≡ 6 → v ≡ true
-worded-if true c n e h = refl
-worded-if false c n e h = absurd (clash (between-in 5 7 c (omega arith) (omega arith)) e)
-
-pub code-worded : (w : Name) → code w ≡ 6 → worded (getD w 0 0) ≡ true
-unfolding code
-code-worded w h = worded-if (worded (getD w 0 0)) (class-of (getD w 0 0)) (word-code w) refl h
