@@ -41,23 +41,23 @@ fn read_child(
     let d = depth - 1;
     let m = n + 1;
     heads::begin_row(rows, m, c, t.start as u16, depth);
-    if c == 7 {
-        return read_flow(text, t.end, d, m, rows, lexicon);
-    }
     if c == 8 {
         return heads::read_leaf(text, t.end, m, rows, lexicon);
     }
-    if c < 12 {
-        return read_group(text, t.end, d, m, rows, lexicon);
-    }
-    if 14 < c {
+    if 8 < c {
+        if c < 12 {
+            return read_group(text, t.end, d, m, rows, lexicon);
+        }
+        if c < 15 {
+            let s = heads::read_copies(text, t.end, m, rows, lexicon);
+            let Step::Go(p, k) = s else {
+                return s;
+            };
+            return read_body(text, p, d, k, rows, lexicon);
+        }
         return read_body(text, t.end, d, m, rows, lexicon);
     }
-    let s = heads::read_copies(text, t.end, m, rows, lexicon);
-    let Step::Go(p, k) = s else {
-        return s;
-    };
-    read_body(text, p, d, k, rows, lexicon)
+    read_flow(text, t.end, d, m, rows, lexicon)
 }
 
 // A flow after its keyword: its children, each with its ref, up to the `)`.

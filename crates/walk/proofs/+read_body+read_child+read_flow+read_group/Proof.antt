@@ -100,16 +100,16 @@ read-child-claims t = (
   next-reads.Learnt,
   begin-row-reads.Asked,
   begin-row-reads.Learnt,
-  read-flow-below t,
-  read-flow.Post,
   read-leaf-reads.Asked,
   read-leaf-reads.Learnt,
   read-group-below t,
   read-group.Post,
-  read-body-below t,
-  read-body.Post,
   read-copies-reads.Asked,
   read-copies-reads.Learnt,
+  read-body-below t,
+  read-body.Post,
+  read-flow-below t,
+  read-flow.Post,
 )
 
 module _ (t : ℕ) where
@@ -141,59 +141,59 @@ module _ (t : ℕ) where
       let b = c .before .before .before in
       let k = b .before .before .before in
       let u = k .before .before in
-      ends (c .read-flow .ensures _)
+      ends (c .read-leaf .ensures _)
       (opens p _ (u .before .before .next .ensures) (b .begin-row .ensures _ refl) (u .before .if1 .left) (rw e (u .if2 .left)) (k .before .if3 .left)
-      (k .if4 .left) (flow-follows _ _ (c .before .before .if5 .taken)))
+      (k .if4 .left) (leaf-follows _ _ (c .before .before .if5 .taken)))
 
   read-child-returns-6 : read-child-lts.Need-returns-6 (read-child-claims t) (read-child-at t) read-child.Post
   read-child-returns-6 c p e s =
-      let b = c .before .before .before .before in
-      let k = b .before .before .before in
-      let u = k .before .before in
-      ends (c .read-leaf .ensures _)
-      (opens p _ (u .before .before .next .ensures) (b .begin-row .ensures _ refl) (u .before .if1 .left) (rw e (u .if2 .left)) (k .before .if3 .left)
-      (k .if4 .left) (leaf-follows _ _ (c .before .before .if6 .taken)))
-
-  read-child-returns-7 : read-child-lts.Need-returns-7 (read-child-claims t) (read-child-at t) read-child.Post
-  read-child-returns-7 c p e s =
       let v = c .before .before .before in
       let b = v .before .before in
       let k = b .before .before .before in
       let u = k .before .before in
       ends (c .read-group .ensures _)
       (opens p _ (u .before .before .next .ensures) (b .begin-row .ensures _ refl) (u .before .if1 .left) (rw e (u .if2 .left)) (k .before .if3 .left)
-      (k .if4 .left) (group-follows _ _ (omega (arith, v .if6 .left, v .before .if5 .left, u .before .if1 .left)) (c .before .before .if7 .taken)))
+      (k .if4 .left) (group-follows _ _ (v .if6 .taken) (c .before .before .if7 .taken)))
 
-  read-child-returns-8 : read-child-lts.Need-returns-8 (read-child-claims t) (read-child-at t) read-child.Post
-  read-child-returns-8 c p e s =
-      let b = c .before .before .before .before .before .before in
-      let k = b .before .before .before in
-      let u = k .before .before in
-      ends (c .read-body .ensures _)
-      (opens p _ (u .before .before .next .ensures) (b .begin-row .ensures _ refl) (u .before .if1 .left) (rw e (u .if2 .left)) (k .before .if3 .left)
-      (k .if4 .left) (loop-follows _ _ (c .before .before .if8 .taken)))
-
-  read-child-returns-9 : read-child-lts.Need-returns-9 (read-child-claims t) (read-child-at t) read-child.Post
-  read-child-returns-9 c p e s =
+  read-child-returns-7 : read-child-lts.Need-returns-7 (read-child-claims t) (read-child-at t) read-child.Post
+  read-child-returns-7 c p e s =
       let f = c .before .before .before .before in
       let b = f .before .before .before .before in
       let k = b .before .before .before in
       let u = k .before .before in
       halts (c .before .before .read-copies .ensures _) (c .enum-told .given .1) _
       (opens p _ (u .before .before .next .ensures) (b .begin-row .ensures _ refl) (u .before .if1 .left) (rw e (u .if2 .left)) (k .before .if3 .left)
-      (k .if4 .left) (replicator-follows _ _ (f .before .if7 .left) (omega (arith, f .if8 .left))))
+      (k .if4 .left) (replicator-follows _ _ (f .before .if7 .left) (f .if8 .taken)))
 
-  read-child-returns-10 : read-child-lts.Need-returns-10 (read-child-claims t) (read-child-at t) read-child.Post
-  read-child-returns-10 c p e s =
+  read-child-returns-8 : read-child-lts.Need-returns-8 (read-child-claims t) (read-child-at t) read-child.Post
+  read-child-returns-8 c p e s =
       let q = c .before .before .before in
       let f = q .before .before .before .before in
       let b = f .before .before .before .before in
       let k = b .before .before .before in
       let u = k .before .before in
-      ends (c .read-body2 .ensures _)
+      ends (c .read-body .ensures _)
       (goes (q .before .before .read-copies .ensures _) (q .s .given .1) _
       (opens p _ (u .before .before .next .ensures) (b .begin-row .ensures _ refl) (u .before .if1 .left) (rw e (u .if2 .left)) (k .before .if3 .left)
-      (k .if4 .left) (replicator-follows _ _ (f .before .if7 .left) (omega (arith, f .if8 .left)))))
+      (k .if4 .left) (replicator-follows _ _ (f .before .if7 .left) (f .if8 .taken))))
+
+  read-child-returns-9 : read-child-lts.Need-returns-9 (read-child-claims t) (read-child-at t) read-child.Post
+  read-child-returns-9 c p e s =
+      let b = c .before .before .before .before .before .before in
+      let k = b .before .before .before in
+      let u = k .before .before in
+      ends (c .read-body2 .ensures _)
+      (opens p _ (u .before .before .next .ensures) (b .begin-row .ensures _ refl) (u .before .if1 .left) (rw e (u .if2 .left)) (k .before .if3 .left)
+      (k .if4 .left) (loop-follows _ _ (c .before .before .if8 .left)))
+
+  read-child-returns-10 : read-child-lts.Need-returns-10 (read-child-claims t) (read-child-at t) read-child.Post
+  read-child-returns-10 c p e s =
+      let b = c .before .before .before .before in
+      let k = b .before .before .before in
+      let u = k .before .before in
+      ends (c .read-flow .ensures _)
+      (opens p _ (u .before .before .next .ensures) (b .begin-row .ensures _ refl) (u .before .if1 .left) (rw e (u .if2 .left)) (k .before .if3 .left)
+      (k .if4 .left) (flow-follows _ _ (omega (arith, c .before .before .before .if5 .left, u .before .if1 .left))))
 
 abbrev read-flow-claims : ℕ → read-flow-lts.Claims
 read-flow-claims t = (
@@ -330,8 +330,8 @@ pub +read-body+read-child+read-flow+read-group-spec : {M : Type 1} → statement
     (read-body-returns-3 t))
     (λ t. read-child-lts.spec (read-child-claims t) (read-child-at t) read-child.Post (λ c κs. search needs) (read-child-returns t) (read-child-returns-2 t)
     (read-child-returns-3 t) (read-child-returns-4 t) (λ c. search needs) (λ c. search needs) (read-child-cast-begin-row t) (λ c κs. search needs)
-    (λ c κs. search needs) (read-child-returns-5 t) (λ c κs. search needs) (read-child-returns-6 t) (λ c κs. search needs) (read-child-returns-7 t)
-    (λ c κs. search needs) (read-child-returns-8 t) (λ c κs. search needs) (λ c. search needs) (λ c. search needs) (read-child-returns-9 t)
+    (λ c κs. search needs) (read-child-returns-5 t) (λ c κs. search needs) (read-child-returns-6 t) (λ c κs. search needs) (λ c. search needs)
+    (λ c. search needs) (read-child-returns-7 t) (λ c κs. search needs) (read-child-returns-8 t) (λ c κs. search needs) (read-child-returns-9 t)
     (λ c κs. search needs) (read-child-returns-10 t))
     (λ t. read-flow-lts.spec (read-flow-claims t) (read-flow-at t) read-flow.Post read-flow-Inv-loop read-flow-μ-loop (λ c κs. search needs)
     (λ c. search needs) (λ c. search needs) (read-flow-returns t) (λ c s. starts) (λ c κs. search needs) (λ c. search needs) (λ c. search needs)
