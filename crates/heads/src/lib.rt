@@ -4,10 +4,12 @@ ghost use Prim.Native.Nat.{ℕ, _+_, _*_, _-_, _<_};
 ghost use Rattle.tokens.specs.Token.{Sign, opening, closing as closing-sign, colon, sign-code};
 ghost use Rattle.grammar.specs.Machine.{sign as sign-of, named, number, params};
 ghost use Rattle.walked.specs.Walk.{store, begun};
-ghost use Rattle.walked.specs.code.Readers.{Closing, Reads, Fills, Marks};
+ghost use Rattle.walked.specs.code.Readers.{Closing, Reads, Fills, Begins, Marks};
 ghost use Rattle.heads.specs.code.Lent.{Lent};
 use tokens::Lexeme;
 use walked::Step;
+
+// What the lines of the thesis's Figure 5.2 have in parentheses, and the keywords before it. The lines themselves are read in `walk`.
 
 // One of the signs ( ) , : by its class. No word is looked at.
 pub fn sign(text: &[u8], at: usize, n: usize, want: u8, lexicon: &[u8; 400]) -> Step
@@ -74,12 +76,36 @@ fn depth_of(left: usize) -> u16
 
 // Begins the row of the node that is counted n with those before it: the place of its keyword c, the keyword's number, and its depth, by the depths
 // left for it.
-pub fn begin_row(rows: &mut [u16; 2056], n: usize, c: u8, place: u16, left: usize)
+fn begin_row(rows: &mut [u16; 2056], n: usize, c: u8, place: u16, left: usize)
     ensures { λ r. ⌜ ((m : ℕ) → n ≡ m + 1 → now (rows .exit) ≡ begun (now (rows .entry)) m c place left) ⌝ }
 {
     put(rows, n, 0, place);
     put(rows, n, 3, c as u16);
     put(rows, n, 5, depth_of(left));
+}
+
+// The keyword t of a node, for which so many depths are left and before which n nodes stand: number 5 where it is none of those up to the number top,
+// number 6 where the node is too deep or too many; else its row is begun.
+pub fn begin_node(t: Lexeme, top: u8, left: usize, n: usize, rows: &mut [u16; 2056]) -> Step
+    requires { ⌜ t .start < 65536 ⌝ }
+    ensures { λ r. ⌜ Begins t top left n (now (rows .entry)) r (now (rows .exit)) ⌝ }
+{
+    let c = t.code;
+    if c < 7 {
+        return Step::Stop(5, t.start);
+    }
+    if top < c {
+        return Step::Stop(5, t.start);
+    }
+    if left == 0 {
+        return Step::Stop(6, t.start);
+    }
+    if n >= 256 {
+        return Step::Stop(6, t.start);
+    }
+    let m = n + 1;
+    begin_row(rows, m, c, t.start as u16, left);
+    Step::Go(t.end, m)
 }
 
 // The name of the node n, or its par: its place, and the place past it.
@@ -108,7 +134,7 @@ fn read_named(text: &[u8], at: usize, n: usize, rows: &mut [u16; 2056], lexicon:
     read_name(text, p, m, rows, lexicon)
 }
 
-// The pars and the sw of a flow, each after a comma, and the `)`: what is no name after a comma has to be the sw.
+// Figure 5.2, flow: the pars and the sw, each after a comma, and the `)`. What is no name after a comma has to be the sw.
 fn read_params(
     text: &[u8],
     at: usize,
@@ -140,7 +166,7 @@ fn read_params(
     }
 }
 
-// What stands before the children of a flow, after its keyword.
+// Figure 5.2, flow: what stands between the keyword and the children, which is the name, the pars and the sw, and a `(`.
 pub fn read_flow_head(
     text: &[u8],
     at: usize,
@@ -162,7 +188,7 @@ pub fn read_flow_head(
     sign(text, p, m, 1, lexicon)
 }
 
-// The size of the node n, from 1 to 16, and the `)`.
+// Document 01's addition to the par of Figure 5.2, constructor: the size of the node n, from 1 to 16, and the `)`.
 fn read_size(text: &[u8], at: usize, n: usize, rows: &mut [u16; 2056], lexicon: &[u8; 400]) -> Step
     requires { ⌜ Lent (now text) (now lexicon) ⌝ }
     ensures { λ r. ⌜ Fills (now (text .entry)) (number 1 16 ∷ sign-of closing-sign ∷ []) n at (now (rows .entry)) r (now (rows .exit)) ⌝ }
@@ -178,7 +204,7 @@ fn read_size(text: &[u8], at: usize, n: usize, rows: &mut [u16; 2056], lexicon: 
     sign(text, t.end, n, 2, lexicon)
 }
 
-// What stands before the body of a replicator, after its keyword.
+// Figure 5.2, constructor: what stands between all, some, one and the member, which is a par with its size.
 pub fn read_copies(
     text: &[u8],
     at: usize,
@@ -200,7 +226,7 @@ pub fn read_copies(
     read_size(text, p, m, rows, lexicon)
 }
 
-// A leaf after its keyword.
+// Figure 5.2, child and cons-child: what follows leaf, a name in parentheses.
 pub fn read_leaf(
     text: &[u8],
     at: usize,
@@ -218,7 +244,7 @@ pub fn read_leaf(
     sign(text, p, m, 2, lexicon)
 }
 
-// The ref of the child before which i nodes stand, `(0)` or `(1)`: its solid mark.
+// Figure 5.2, flow: the ref of the child before which i nodes stand, `(0)` or `(1)`, which is its solid mark.
 pub fn read_ref(
     text: &[u8],
     at: usize,

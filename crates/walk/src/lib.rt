@@ -1,6 +1,7 @@
 ghost use mathlib.Core.Path.{_≡_};
-ghost use Rattle.grammar.specs.Machine.{Place, flow-parts, group-parts, loop-parts};
-ghost use Rattle.grammar.specs.code.Coded.{top as last-in};
+ghost use Prim.Native.Nat.{_<_};
+ghost use Rattle.grammar.specs.Machine.{root, member, child, flow-parts, group-parts, loop-parts};
+ghost use Rattle.grammar.specs.code.Coded.{coded-parts};
 ghost use Rattle.walked.specs.Walk.{ending};
 ghost use Rattle.walked.specs.code.Readers.{Fills, Opens, told};
 ghost use Rattle.heads.specs.code.Lent.{Lent};
@@ -8,59 +9,22 @@ use tokens::Lexeme;
 use walked::Step;
 use walked::Walk;
 
-// The readers take the tokens straight from the text, and write the rows of the nodes as they go. A keyword's number is 7 flow, 8 leaf, 9 to 11 the
-// groups, 12 to 14 the replicators, 15 loop.
+// Figure 5.2 of the thesis has four lines: flow, child, cons-child and constructor. Each has its reader here, in the figure's order, and each reader tries
+// what its line names in the line's order. By document 01 one flow stands where the figure has one or more, and a replicator's par has a size.
+// The readers take the tokens straight from the text, and write the rows of the nodes as they go.
 
-// A node whose keyword has at most the number top: the one choice between flow, leaf and constructor.
-fn read_child(
-    text: &[u8],
-    at: usize,
-    top: u8,
-    depth: usize,
-    n: usize,
-    rows: &mut [u16; 2056],
-    lexicon: &[u8; 400],
-) -> Step
-    requires { ⌜ Lent (now text) (now lexicon) ⌝ }
-    ensures { λ r. ⌜ ((p : Place) → last-in p ≡ top → Opens (now (text .entry)) p depth n at (now (rows .entry)) r (now (rows .exit))) ⌝ }
-{
-    let t: Lexeme = lexer::next(text, at, lexicon);
-    let c = t.code;
-    if c < 7 {
-        return Step::Stop(5, t.start);
-    }
-    if top < c {
-        return Step::Stop(5, t.start);
-    }
-    if depth == 0 {
-        return Step::Stop(6, t.start);
-    }
-    if n >= 256 {
-        return Step::Stop(6, t.start);
-    }
-    let d = depth - 1;
-    let m = n + 1;
-    heads::begin_row(rows, m, c, t.start as u16, depth);
-    if c == 8 {
-        return heads::read_leaf(text, t.end, m, rows, lexicon);
-    }
-    if 8 < c {
-        if c < 12 {
-            return read_group(text, t.end, d, m, rows, lexicon);
-        }
-        if c < 15 {
-            let s = heads::read_copies(text, t.end, m, rows, lexicon);
-            let Step::Go(p, k) = s else {
-                return s;
-            };
-            return read_body(text, p, d, k, rows, lexicon);
-        }
-        return read_body(text, t.end, d, m, rows, lexicon);
-    }
-    read_flow(text, t.end, d, m, rows, lexicon)
-}
+// Numbers of keywords. They go in document 01's order: and, or stand between LEAF and XOR, all, some between XOR and ONE.
+const FLOW: u8 = 7;
 
-// A flow after its keyword: its children, each with its ref, up to the `)`.
+const LEAF: u8 = 8;
+
+const XOR: u8 = 11;
+
+const ONE: u8 = 14;
+
+const LOOP: u8 = 15;
+
+// Figure 5.2, flow, after the keyword: the name, the pars and the sw; one or more children, each with its ref, up to the `)`.
 fn read_flow(
     text: &[u8],
     at: usize,
@@ -77,7 +41,7 @@ fn read_flow(
         return s;
     };
     loop {
-        let s = read_child(text, p, 15, depth, m, rows, lexicon);
+        let s = read_child(text, p, depth, m, rows, lexicon);
         let Step::Go(q, k) = s else {
             return s;
         };
@@ -94,7 +58,86 @@ fn read_flow(
     }
 }
 
-// `and`, `or`, `xor` after the keyword: two members, and others up to the `)`.
+// Figure 5.2, child: leaf, constructor, flow.
+fn read_child(
+    text: &[u8],
+    at: usize,
+    depth: usize,
+    n: usize,
+    rows: &mut [u16; 2056],
+    lexicon: &[u8; 400],
+) -> Step
+    requires { ⌜ Lent (now text) (now lexicon) ⌝ }
+    ensures { λ r. ⌜ Opens (now (text .entry)) child depth n at (now (rows .entry)) r (now (rows .exit)) ⌝ }
+{
+    let t: Lexeme = lexer::next(text, at, lexicon);
+    let s = heads::begin_node(t, LOOP, depth, n, rows);
+    let Step::Go(p, m) = s else {
+        return s;
+    };
+    let c = t.code;
+    let d = depth - 1;
+    if c == LEAF {
+        return heads::read_leaf(text, p, m, rows, lexicon);
+    }
+    if LEAF < c {
+        return read_constructor(text, p, c, d, m, rows, lexicon);
+    }
+    read_flow(text, p, d, m, rows, lexicon)
+}
+
+// Figure 5.2, cons-child, which document 01 calls a member: leaf, flow.
+fn read_member(
+    text: &[u8],
+    at: usize,
+    depth: usize,
+    n: usize,
+    rows: &mut [u16; 2056],
+    lexicon: &[u8; 400],
+) -> Step
+    requires { ⌜ Lent (now text) (now lexicon) ⌝ }
+    ensures { λ r. ⌜ Opens (now (text .entry)) member depth n at (now (rows .entry)) r (now (rows .exit)) ⌝ }
+{
+    let t: Lexeme = lexer::next(text, at, lexicon);
+    let s = heads::begin_node(t, LEAF, depth, n, rows);
+    let Step::Go(p, m) = s else {
+        return s;
+    };
+    let c = t.code;
+    let d = depth - 1;
+    if c == LEAF {
+        return heads::read_leaf(text, p, m, rows, lexicon);
+    }
+    read_flow(text, p, d, m, rows, lexicon)
+}
+
+// Figure 5.2, constructor, after the keyword c: and, or, xor over members; all, some, one with a par over a member; loop over a member.
+fn read_constructor(
+    text: &[u8],
+    at: usize,
+    c: u8,
+    depth: usize,
+    n: usize,
+    rows: &mut [u16; 2056],
+    lexicon: &[u8; 400],
+) -> Step
+    requires { ⌜ Lent (now text) (now lexicon) ⌝ }
+    ensures { λ r. ⌜ (8 < c → Fills (now (text .entry)) (coded-parts c depth) n at (now (rows .entry)) r (now (rows .exit))) ⌝ }
+{
+    if c <= XOR {
+        return read_group(text, at, depth, n, rows, lexicon);
+    }
+    if c <= ONE {
+        let s = heads::read_copies(text, at, n, rows, lexicon);
+        let Step::Go(p, m) = s else {
+            return s;
+        };
+        return read_body(text, p, depth, m, rows, lexicon);
+    }
+    read_body(text, at, depth, n, rows, lexicon)
+}
+
+// Figure 5.2, constructor, the first way: after and, or, xor two members, and others up to the `)`.
 fn read_group(
     text: &[u8],
     at: usize,
@@ -110,12 +153,12 @@ fn read_group(
     let Step::Go(p, m) = s else {
         return s;
     };
-    let s = read_child(text, p, 8, depth, m, rows, lexicon);
+    let s = read_member(text, p, depth, m, rows, lexicon);
     let Step::Go(mut p, mut m) = s else {
         return s;
     };
     loop {
-        let s = read_child(text, p, 8, depth, m, rows, lexicon);
+        let s = read_member(text, p, depth, m, rows, lexicon);
         let Step::Go(q, k) = s else {
             return s;
         };
@@ -128,7 +171,7 @@ fn read_group(
     }
 }
 
-// One member in parentheses: the body of a loop or a replicator.
+// Figure 5.2, constructor, the end of the second and the third way: one member in parentheses.
 fn read_body(
     text: &[u8],
     at: usize,
@@ -144,11 +187,24 @@ fn read_body(
     let Step::Go(p, m) = s else {
         return s;
     };
-    let s = read_child(text, p, 8, depth, m, rows, lexicon);
+    let s = read_member(text, p, depth, m, rows, lexicon);
     let Step::Go(p, m) = s else {
         return s;
     };
     heads::sign(text, p, m, 2, lexicon)
+}
+
+// Figure 5.2, flow, with the keyword: the root.
+fn read_root(text: &[u8], rows: &mut [u16; 2056], lexicon: &[u8; 400]) -> Step
+    requires { ⌜ Lent (now text) (now lexicon) ⌝ }
+    ensures { λ r. ⌜ Opens (now (text .entry)) root 12 0 0 (now (rows .entry)) r (now (rows .exit)) ⌝ }
+{
+    let t: Lexeme = lexer::next(text, 0, lexicon);
+    let s = heads::begin_node(t, FLOW, 12, 0, rows);
+    let Step::Go(p, m) = s else {
+        return s;
+    };
+    read_flow(text, p, 11, m, rows, lexicon)
 }
 
 // The text is one flow, and nothing stands after it: its nodes are written over the rows, from the second on.
@@ -156,7 +212,7 @@ pub fn parse(text: &[u8], rows: &mut [u16; 2056], lexicon: &[u8; 400]) -> Walk
     requires { ⌜ Lent (now text) (now lexicon) ⌝ }
     ensures { λ r. ⌜ ending (now (text .entry)) (now (rows .entry)) ≡ told r (now (rows .exit)) ⌝ }
 {
-    let s = read_child(text, 0, 7, 12, 0, rows, lexicon);
+    let s = read_root(text, rows, lexicon);
     match s {
         Step::Stop(number, place) => Walk::Refused(number, place),
         Step::Go(p, m) => {

@@ -27,7 +27,7 @@ use Rattle.walked.specs.declared.Walk.the-variants.{Refused}
 use Rattle.walked.specs.Walk.{State, state, begun, waiting, beginning, switching, spelled, effect, End, whole, stop, proceed, walk, from, ending}
 use Rattle.walked.specs.code.Coded.{coded-effect}
 use Rattle.walked.proofs.Past.{name-bytes}
-use Rattle.walked.specs.code.Readers.{Closing, left-at, Writes, told}
+use Rattle.walked.specs.code.Readers.{Closing, left-at, Turns, Writes, Fills, Opens, Begins, told}
 
 and-no : (b : Bool) → (b && false) ≡ false
 and-no true = refl
@@ -156,13 +156,16 @@ pub record Leads (text : List ℕ) (ws : List Want) (n k : ℕ) (st : State) (vs
 pub starts : {text : List ℕ} {ws : List Want} {n k : ℕ} {st : State} → Leads text ws n k st ws n k st
 starts = record { machine = λ rest. refl; onward = omega arith }
 
+pub stands : {text : List ℕ} {ws vs : List Want} {n k : ℕ} {st : State} → ws ≡ vs → Leads text ws n k st vs n k st
+stands e = rw e starts
+
 module _ {text : List ℕ} {ws : List Want} {n k : ℕ} {st : State} {m j : ℕ} {st₁ : State} where
   -- A reader of what is wanted first refuses, or goes on; one of all that is wanted ends it.
-  pub halts : {vs : List Want} {r : Step} {c i : ℕ} {st₂ st₃ : State} → Writes text vs m j st₁ r st₂ → r ≡ Stop c i
+  pub halts : {vs xs : List Want} {r : Step} {c i : ℕ} {st₂ st₃ : State} → Turns text vs m j st₁ r xs st₂ → r ≡ Stop c i
       → (us : List Want) → Leads text ws n k st (vs ++ us) m j st₁ → Writes text ws n k st r st₃
-  halts {vs} {r} {c} {i} {st₂} {st₃} q e us l = record {
+  halts {vs} {xs} {r} {c} {i} {st₂} {st₃} q e us l = record {
     machine = λ rest. l .machine rest ∙ ap (λ (x : List Want). from text x m st₁ j) (append-assoc vs us rest) ∙ q .machine (us ++ rest)
-        ∙ ap (left-at text (us ++ rest) st₂) e ∙ sym (ap (left-at text rest st₃) e);
+        ∙ ap (left-at text (xs ++ (us ++ rest)) st₂) e ∙ sym (ap (left-at text rest st₃) e);
     onward = λ j′ m′ g. go-not-stop (sym e ∙ g);
   }
 
@@ -180,7 +183,7 @@ module _ {text : List ℕ} {ws : List Want} {n k : ℕ} {st : State} {m j : ℕ}
     onward = λ j′ m′ e. let o = q .onward j′ m′ e in let b = l .onward in (omega arith, o .1);
   }
 
-  pub arrives : Leads text ws n k st [] m j st₁ → k < j → j ≤ length text → Writes text ws n k st (Go j m) st₁
+  pub arrives : {vs : List Want} → Leads text ws n k st vs m j st₁ → k < j → j ≤ length text → Turns text ws n k st (Go j m) vs st₁
   arrives l a b = record {
     machine = l .machine;
     onward = λ j′ m′ e. let z : j ≡ j′ = cc in (omega arith, omega arith);
@@ -188,18 +191,18 @@ module _ {text : List ℕ} {ws : List Want} {n k : ℕ} {st : State} {m j : ℕ}
 
   -- The next token, t, is refused, or taken.
   module _ {w : Want} {vs : List Want} (l : Leads text ws n k st (w ∷ vs) m j st₁) {t : Lexeme} (q : Next text j t) where
-    stops : {v : Move} {st₃ : State} (x : ℕ) → coded w m (t .code) ≡ v → ((go : ℕ → List Want → End) → proceed v (t .start) go ≡ stop x (t .start))
-        → Writes text ws n k st (Stop x (t .start)) st₃
+    stops : {v : Move} {xs : List Want} {st₃ : State} (x : ℕ) → coded w m (t .code) ≡ v
+        → ((go : ℕ → List Want → End) → proceed v (t .start) go ≡ stop x (t .start)) → Turns text ws n k st (Stop x (t .start)) xs st₃
     stops x e f = record {
       machine = λ rest. l .machine rest ∙ at-token q w (vs ++ rest) m st₁
           ∙ rw e (f (λ u us. from text (us ++ (vs ++ rest)) (m + u) (written-by w m t st₁) (t .end)));
       onward = λ j′ m′ g. go-not-stop g;
     }
 
-    pub off-grammar : {st₃ : State} → coded w m (t .code) ≡ off → Writes text ws n k st (Stop 5 (t .start)) st₃
+    pub off-grammar : {xs : List Want} {st₃ : State} → coded w m (t .code) ≡ off → Turns text ws n k st (Stop 5 (t .start)) xs st₃
     off-grammar e = stops 5 e (λ go. refl)
 
-    pub over-limit : {st₃ : State} → coded w m (t .code) ≡ big → Writes text ws n k st (Stop 6 (t .start)) st₃
+    pub over-limit : {xs : List Want} {st₃ : State} → coded w m (t .code) ≡ big → Turns text ws n k st (Stop 6 (t .start)) xs st₃
     over-limit e = stops 6 e (λ go. refl)
 
     some : {u : ℕ} {us : List Want} → coded w m (t .code) ≡ push u us → (j < t .end) × (t .end ≤ length text)
@@ -396,16 +399,33 @@ module _ {text : List ℕ} {ws : List Want} {n k m j : ℕ} {st st₁ : State} {
   another-member {d} l h = another member d (others d ∷ []) (rw (ne-eqb (t .code) 2 h)) (rw (ne-eqb (t .code) 2 h)) l
 
 -- A keyword that is taken leaves the parts of its node, with its row begun.
-pub opens : {text : List ℕ} {n k : ℕ} {rows rows₁ pending : List ℕ} {t : Lexeme} {ws : List Want} (p : Place) (d : ℕ) → Next text k t
-    → rows₁ ≡ begun rows n (t .code) (t .start) d → 7 ≤ t .code → t .code ≤ top p → (d ≡ 0 → ⊥) → n < 256 → coded-parts (t .code) (d - 1) ≡ ws
-    → Leads text (node p d ∷ []) n k (state rows pending) ws (n + 1) (t .end) (state rows₁ (waiting p n pending))
+pub opens : {text : List ℕ} {n k : ℕ} {rows rows₁ pending : List ℕ} {t : Lexeme} (p : Place) (d : ℕ) → Next text k t
+    → rows₁ ≡ begun rows n (t .code) (t .start) d → 7 ≤ t .code → t .code ≤ top p → (d ≡ 0 → ⊥) → n < 256
+    → Turns text (node p d ∷ []) n k (state rows pending) (Go (t .end) (n + 1)) (coded-parts (t .code) (d - 1)) (state rows₁ (waiting p n pending))
 unfolding coded-effect
-opens {text} {n} {k} {rows} {rows₁} {pending} {t} {ws} p d q r l h f g e =
+opens {text} {n} {k} {rows} {rows₁} {pending} {t} p d q r l h f g =
     let b = beginning p d n (t .code) (t .start) (state rows pending) in
     let o : Leads text (node p d ∷ []) n k (state rows pending) ((coded-parts (t .code) (d - 1) ++ []) ++ []) (n + 1) (t .end) b =
     counted starts q (node-opens n (t .code) d p l h f g) in
     let v : Leads text (node p d ∷ []) n k (state rows pending) (coded-parts (t .code) (d - 1)) (n + 1) (t .end) b = simp append-nil at o in
-    rw (r, ← e) v
+    let w = q .onward (λ z. omega arith) in
+    rw r (arrives v (w .0) (w .1))
+
+-- A node of which the keyword was looked at: it is refused with it, or its parts are read after it.
+module _ {t : Lexeme} {last d n : ℕ} {rows rows₁ : List ℕ} {r : Step} (b : Begins t last d n rows r rows₁) (p : Place) (e : top p ≡ last) {text : List ℕ} {k : ℕ}
+    (q : Next text k t) where
+  pub node-refused : {c i : ℕ} {rows₂ : List ℕ} → r ≡ Stop c i → Opens text p d n k rows r rows₂
+  node-refused g s = halts (b .turns p e q s) g [] starts
+
+  pub node-read : {j m : ℕ} {ws : List Want} {r₂ : Step} {rows₂ : List ℕ} → r ≡ Go j m → coded-parts (t .code) (d - 1) ≡ ws → Fills text ws m j rows₁ r₂ rows₂
+      → Opens text p d n k rows r₂ rows₂
+  node-read {j} {m} {ws} g f h s =
+      let o = b .turns p e q s in
+      ends (h (waiting p n s)) (record {
+        machine = λ rest. o .machine rest ∙ ap (left-at text (coded-parts (t .code) (d - 1) ++ rest) (state rows₁ (waiting p n s))) g
+            ∙ ap (λ (x : List Want). from text (x ++ rest) m (state rows₁ (waiting p n s)) j) f;
+        onward = let z = o .onward j m g in omega arith;
+      })
 
 -- The `)` of a flow and of a group writes nothing.
 module _ {text : List ℕ} {ws : List Want} {n k m j : ℕ} {st st₁ : State} {t : Lexeme} (q : Next text j t) where
