@@ -9,7 +9,7 @@ ghost use Rattle.heads.specs.code.Lent.{Lent};
 use tokens::Lexeme;
 use walked::Step;
 
-// What the lines of the thesis's Figure 5.2 have in parentheses, and the keywords before it. The lines themselves are read in `walk`.
+// What the lines of the thesis's Figure 5.2 have in parentheses, and a node's keyword. The lines themselves are read in `walk`.
 
 // One of the signs ( ) , : by its class. No word is looked at.
 pub fn sign(text: &[u8], at: usize, n: usize, want: u8, lexicon: &[u8; 400]) -> Step

@@ -1,13 +1,12 @@
--- The readers that call each other meet their contracts. The measure is three times the depth left, and one or two more for those that call others with the same depth. The
--- invariants say how the machine got from where the loop began to where it is. Assumes nothing.
+-- The readers that call each other meet their contracts. The measure is three times the depth left, and one or two more for those that call others with
+-- the same depth. The invariants say how the machine got from where the loop began to where it is. Assumes nothing.
 use borrow.Author.Needs.{needs}
 use native.Mathlib.Omega.{arith}
-use Prim.Native.Nat.{ℕ, _<_}
+use Prim.Native.Nat.{ℕ, _+_, _*_, _-_, _<_}
 use borrow.Fn.Kinds.{In}
 use borrow.Fn.PlainCycle.{Measures, is, falls, and}
 use mathlib.Core.Path.{refl}
 use mathlib.Core.List.{List, [], _∷_, _++_}
-use Prim.Native.Nat.{_+_, _*_, _-_}
 use lib.ListN.{length}
 use Rattle.tokens.specs.Token.{opening, closing}
 use Rattle.grammar.specs.Machine.{member, child, node, more, others, ref}
@@ -159,7 +158,7 @@ module _ (t : ℕ) where
       let g = c .before .before .before .before .before in
       let b = g .before .before in
       node-read (b .begin-node .ensures) child refl (b .before .before .next .ensures) (g .s .given .1) refl
-      (c .read-constructor .ensures (c .before .before .if2 .taken))
+      (c .read-constructor .ensures (omega arith))
 
   read-child-read-flow-requires : read-child-lts.Need-read-flow-requires (read-child-claims t) (read-child-at t) read-child.Post
   read-child-read-flow-requires c κs =
