@@ -1,7 +1,8 @@
 /* Reading and printing, see plain_text.h.
  *
- * The bytes are gone through once for 3 and 4. Then each node's reader calls those of the nodes below it. The rules beyond grammar are
- * looked at on the way; where each is first broken is kept until the whole text is known to be grammatical.
+ * The bytes are gone through once for 3 and 4, those of remarks too. Then each node's reader calls those of the nodes below it. The
+ * rules beyond grammar are looked at on the way; where each is first broken is kept until the whole text is known to be
+ * grammatical.
  */
 #include "plain_diagram.h"
 #include "plain_text.h"
@@ -14,15 +15,15 @@ uint64_t refusal(unsigned number, size_t place) {
 
 /* Bytes: 3 and 4. */
 
-enum { FOREIGN, BLANK, MARK, WORD };
+enum { FOREIGN, BLANK, MARK, WORD, REMARK };
 
 #define ROW(a, b, c, d, e, f, g, h, i, j, k, l, m, n, o, p) a, b, c, d, e, f, g, h, i, j, k, l, m, n, o, p
 
-/* The class of each byte; those past 127 are foreign. */
+/* The class of each byte outside of remarks; those past 127 are foreign, and # starts a remark. */
 static const uint8_t classes[256] = {
     ROW(0, 0, 0, 0, 0, 0, 0, 0, 0, 0, 1, 0, 0, 0, 0, 0), /* 10 */
     ROW(0, 0, 0, 0, 0, 0, 0, 0, 0, 0, 0, 0, 0, 0, 0, 0),
-    ROW(1, 0, 0, 0, 0, 0, 0, 0, 2, 2, 0, 0, 2, 0, 0, 0), /* 32 ( ) , */
+    ROW(1, 0, 0, 4, 0, 0, 0, 0, 2, 2, 0, 0, 2, 0, 0, 0), /* 32 # ( ) , */
     ROW(3, 3, 3, 3, 3, 3, 3, 3, 3, 3, 2, 0, 0, 0, 0, 0), /* digits : */
     ROW(0, 3, 3, 3, 3, 3, 3, 3, 3, 3, 3, 3, 3, 3, 3, 3), /* A to O */
     ROW(3, 3, 3, 3, 3, 3, 3, 3, 3, 3, 3, 0, 0, 0, 0, 3), /* P to Z _ */
@@ -30,11 +31,22 @@ static const uint8_t classes[256] = {
     ROW(3, 3, 3, 3, 3, 3, 3, 3, 3, 3, 3, 0, 0, 0, 0, 0), /* p to z */
 };
 
+/* From within a remark to where it ends, at the next byte 10 or the end of the text; a foreign byte is come to before that. */
+static size_t skip_remark(const uint8_t *text, size_t len, size_t at) {
+    while (at < len && text[at] >= 32 && text[at] <= 126) at++;
+    return at;
+}
+
 /* A foreign byte anywhere comes before a long word. */
 static uint64_t check_bytes(const uint8_t *text, size_t len) {
     size_t run = 0, long_word = len;
     for (size_t at = 0; at < len; at++) {
         uint8_t class = classes[text[at]];
+        if (class == REMARK) {
+            at = skip_remark(text, len, at);
+            if (at == len) break;
+            class = text[at] == '\n' ? BLANK : FOREIGN;
+        }
         if (class == FOREIGN) return refusal(FOREIGN_BYTE, at);
         run = class == WORD ? run + 1 : 0;
         if (run == MOST_WORD + 1 && long_word == len) long_word = at - MOST_WORD;
@@ -61,9 +73,19 @@ struct reader {
     uint16_t names[NAME_SLOTS]; /* nodes whose names were met, each plus 1, where its name's hash puts it */
 };
 
+/* Blanks and remarks, of which none has a foreign byte. */
+static size_t skip_blanks(const uint8_t *text, size_t len, size_t at) {
+    while (at < len) {
+        uint8_t class = classes[text[at]];
+        if (class == BLANK) at++;
+        else if (class == REMARK) at = skip_remark(text, len, at);
+        else break;
+    }
+    return at;
+}
+
 static void advance(struct reader *r) {
-    size_t at = r->end;
-    while (at < r->length && classes[r->text[at]] == BLANK) at++;
+    size_t at = skip_blanks(r->text, r->length, r->end);
     r->at = r->end = at;
     r->token = TEXT_END;
     if (at == r->length) return;
@@ -315,7 +337,7 @@ uint64_t plain_read(const uint8_t *text, size_t len) {
     return (uint64_t)root->end << 20 | (uint64_t)root->copies << 10 | root->events;
 }
 
-/* An accepted text has nothing but its tokens and blanks. */
+/* An accepted text has nothing but its tokens, blanks and remarks. What ends a remark is a blank, or the end. */
 uint64_t plain_print(const uint8_t *text, size_t len, uint8_t *out, size_t out_len) {
     struct diagram diagram;
     if (out_len < MOST_TEXT) return refusal(SHORT_SHEET, 0);
@@ -323,7 +345,9 @@ uint64_t plain_print(const uint8_t *text, size_t len, uint8_t *out, size_t out_l
     if (refused) return refused;
     size_t written = 0;
     for (size_t at = 0; at < len; at++) {
-        if (classes[text[at]] != BLANK) out[written++] = text[at];
+        uint8_t class = classes[text[at]];
+        if (class == REMARK) at = skip_remark(text, len, at);
+        else if (class != BLANK) out[written++] = text[at];
     }
     return written;
 }

@@ -153,7 +153,7 @@ fn length_foreign_bytes_and_long_words() {
     assert_eq!(counts(&format!("){word}){word}")), Err((4, 1)));
     assert_eq!(counts(&root(&format!("leaf({})(1)", &word[1..]))), Ok((1, 2)));
     for byte in 0..=255u8 {
-        let allowed = byte.is_ascii_alphanumeric() || b"_(),: \n".contains(&byte);
+        let allowed = byte.is_ascii_alphanumeric() || b"_(),: \n#".contains(&byte);
         assert_eq!(read(&[byte]) == Err((3, 0)), !allowed, "byte {byte}");
     }
 }
@@ -272,12 +272,15 @@ fn limits_of_copies_and_events() {
     assert_eq!(counts(&many_copies(9)), Err((11, 0)));
 }
 
-fn without_blanks(text: &[u8]) -> Vec<u8> {
-    text.iter().copied().filter(|byte| *byte != b' ' && *byte != b'\n').collect()
+/// The tokens alone; a remark takes the rest of its line.
+fn without_blanks_and_remarks(text: &[u8]) -> Vec<u8> {
+    let lines = text.split(|byte| *byte == b'\n');
+    let before_remarks = lines.flat_map(|line| line.iter().take_while(|byte| **byte != b'#'));
+    before_remarks.copied().filter(|byte| *byte != b' ').collect()
 }
 
 #[test]
-fn printing_takes_the_blanks_out() {
+fn printing_takes_blanks_and_remarks_out() {
     assert_eq!(print(T.as_bytes(), TEXT_LIMIT), Ok(T.as_bytes().to_vec()));
     assert_eq!(print(T.as_bytes(), TEXT_LIMIT - 1), Err((1, 0)));
     assert_eq!(print(b"", 0), Err((1, 0)));
@@ -287,11 +290,12 @@ fn printing_takes_the_blanks_out() {
     for text in edge_texts().into_iter().chain((0..2000).map(random_text)) {
         match (read(&text), print(&text, TEXT_LIMIT)) {
             (Ok(mut summary), Ok(printed)) => {
-                assert_eq!(printed, without_blanks(&text));
-                // Each place is now less by the blanks before it.
+                assert_eq!(printed, without_blanks_and_remarks(&text));
+                // Each place is now less by what is taken out before it.
+                let moved = |place: usize| without_blanks_and_remarks(&text[..place]).len();
                 for node in &mut summary.nodes {
-                    node.place = without_blanks(&text[..node.place]).len();
-                    node.word_place = node.word_place.map(|place| without_blanks(&text[..place]).len());
+                    node.place = moved(node.place);
+                    node.word_place = node.word_place.map(moved);
                 }
                 assert_eq!(read(&printed), Ok(summary));
                 accepted += 1;

@@ -2,6 +2,7 @@
 //! constructor inside every other, small ones and ones at the limits.
 
 use crate::generate::{pad_between, Random};
+use crate::remarks::with_remarks;
 use crate::{read, Kind, NodeInfo, TEXT_LIMIT, WORD_LIMIT};
 
 /// How large a drawing shall be.
@@ -77,12 +78,12 @@ fn room(size: Size, random: &mut Random) -> Room {
 
 const LIMITS: (usize, usize, usize) = (256, 768, 512);
 
-/// A text that is accepted. It has blanks now and then.
+/// A text that is accepted. It has blanks now and then, or remarks.
 pub fn accepted_text(size: Size, random: &mut Random) -> Vec<u8> {
     loop {
         let text = drawing(size, random).into_bytes();
         if fits(&text, size) {
-            return with_blanks(text, random);
+            return with_gaps(text, random);
         }
     }
 }
@@ -95,10 +96,11 @@ fn fits(text: &[u8], size: Size) -> bool {
     }
 }
 
-fn with_blanks(text: Vec<u8>, random: &mut Random) -> Vec<u8> {
+fn with_gaps(text: Vec<u8>, random: &mut Random) -> Vec<u8> {
     let most = match random.below(12) {
         0 => TEXT_LIMIT,
         1 | 2 => (2 * text.len()).min(TEXT_LIMIT),
+        3 | 4 => return with_remarks(text, random),
         _ => return text,
     };
     let length = random.within(text.len(), most);
@@ -117,12 +119,13 @@ fn drawing(size: Size, random: &mut Random) -> String {
     })
 }
 
-/// A text that is accepted and has no replicator. It has blanks now and then.
+/// A text that is accepted and has no replicator. It has blanks now and then, or
+/// remarks.
 pub fn machine_text(machine: Machine, random: &mut Random) -> Vec<u8> {
     loop {
         let text = machine_drawing(machine, random).into_bytes();
         if fits_machine(&text, machine) {
-            return with_blanks(text, random);
+            return with_gaps(text, random);
         }
     }
 }

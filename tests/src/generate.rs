@@ -1,6 +1,9 @@
 //! Texts to hold the two readers against each other: random ones, each made
 //! from a single seed, and a fixed list of edge texts.
 
+use crate::remarks::{
+    damage_by_a_remark, hardly_a_token, padded_by_a_remark, remark_texts, spoil, spread_with_remarks,
+};
 use crate::TEXT_LIMIT;
 
 /// The drawing called T in document 01.
@@ -66,6 +69,7 @@ pub enum Sort {
     DamagedTokens,
     DamagedBytes,
     TokenSoup,
+    Remarks,
     Bytes,
 }
 
@@ -81,7 +85,8 @@ pub fn random_sort(random: &mut Random) -> Sort {
         0..=54 => Sort::Drawing,
         55..=69 => Sort::DamagedTokens,
         70..=84 => Sort::DamagedBytes,
-        85..=93 => Sort::TokenSoup,
+        85..=92 => Sort::TokenSoup,
+        93 => Sort::Remarks,
         _ => Sort::Bytes,
     }
 }
@@ -92,6 +97,7 @@ pub fn text_of(sort: Sort, random: &mut Random) -> Vec<u8> {
         Sort::DamagedTokens => damage_tokens(random),
         Sort::DamagedBytes => damage_bytes(random),
         Sort::TokenSoup => token_soup(random),
+        Sort::Remarks => hardly_a_token(random),
         Sort::Bytes => random_bytes(random),
     }
 }
@@ -141,7 +147,7 @@ pub fn damaged_by_a_token(text: &[u8], random: &mut Random) -> Vec<u8> {
     spread(&tokens, random)
 }
 
-fn tokens_of(text: &[u8]) -> Tokens {
+pub(crate) fn tokens_of(text: &[u8]) -> Tokens {
     crate::cut(text).iter().map(|token| token.word.to_string()).collect()
 }
 
@@ -159,6 +165,9 @@ fn damage_one_byte(text: &mut Vec<u8>, random: &mut Random) {
     if text.is_empty() {
         return;
     }
+    if random.once_in(8) {
+        return damage_by_a_remark(text, random);
+    }
     let at = random.below(text.len());
     match random.below(6) {
         0 => text[at] = near_byte(random),
@@ -173,11 +182,12 @@ fn damage_one_byte(text: &mut Vec<u8>, random: &mut Random) {
     }
 }
 
-/// One to three bytes changed, removed or doubled.
+/// One to three bytes changed, removed or doubled, now and then a remark put in.
 pub fn damaged(mut text: Vec<u8>, random: &mut Random) -> Vec<u8> {
     for _ in 0..random.within(1, 3) {
         let at = random.below(text.len());
         match random.below(4) {
+            _ if random.once_in(8) => damage_by_a_remark(&mut text, random),
             0 => text[at] = *random.pick(b"(),:01lf \n!"),
             1 => text.truncate(at + 1),
             2 => text.insert(at, text[at]),
@@ -242,7 +252,10 @@ pub fn random_bytes(random: &mut Random) -> Vec<u8> {
         _ => random.within(0, 40),
     };
     let any = random.once_in(2);
-    let of_the_language = b"flow(a,1)(leaf(b)(1))leaf loop:xor\n_09AZaz(),:";
+    let of_the_language = match random.once_in(4) {
+        true => &b"flow(a,1)(leaf(b)(1))leaf loop:xor\n_09AZaz(),:#\n\n\n"[..],
+        false => b"flow(a,1)(leaf(b)(1))leaf loop:xor\n_09AZaz(),:",
+    };
     let byte = |random: &mut Random| match any {
         true => random.number() as u8,
         false => *random.pick(of_the_language),
@@ -254,8 +267,23 @@ pub fn random_bytes(random: &mut Random) -> Vec<u8> {
 // Blanks between tokens
 // ---------------------------------------------------------------------------
 
-/// Joins tokens with random blanks before, between and after them.
+/// Joins tokens with blanks and, in one text of five, remarks before, between and
+/// after them; some of these have a foreign byte.
 fn spread(tokens: &Tokens, random: &mut Random) -> Vec<u8> {
+    let mut text = match random.once_in(5) {
+        true => spread_with_remarks(tokens, random),
+        false => spread_with_blanks(tokens, random),
+    };
+    if random.once_in(5) {
+        spoil(&mut text, random);
+    }
+    if random.once_in(60) {
+        return pad_somewhere(text, random);
+    }
+    text
+}
+
+fn spread_with_blanks(tokens: &Tokens, random: &mut Random) -> Vec<u8> {
     let (one_in, longest) = *random.pick(&[(0, 0), (0, 0), (8, 1), (3, 2), (1, 1), (2, 6)]);
     let mut text = Vec::new();
     for token in tokens {
@@ -267,9 +295,6 @@ fn spread(tokens: &Tokens, random: &mut Random) -> Vec<u8> {
     if one_in > 0 && random.once_in(2) {
         add_blanks(random.within(1, longest), &mut text, random);
     }
-    if random.once_in(60) {
-        return pad_somewhere(text, random);
-    }
     text
 }
 
@@ -277,22 +302,23 @@ fn add_blanks(count: usize, text: &mut Vec<u8>, random: &mut Random) {
     text.extend((0..count).map(|_| *random.pick(b" \n")));
 }
 
-/// Blanks at the front or the end up to a length around the limit.
+/// Blanks or a remark at the front or the end up to a length around the limit.
 fn pad_somewhere(text: Vec<u8>, random: &mut Random) -> Vec<u8> {
     let length = *random.pick(&[16_383, 16_384, 16_384, 16_385, 16_386, 20_000]);
-    match random.once_in(2) {
-        true => pad_front(&text, length),
-        false => pad_end(&text, length),
+    match random.below(6) {
+        0 | 1 => pad_front(&text, length),
+        2 | 3 => pad_end(&text, length),
+        remark => padded_by_a_remark(&text, length, remark == 4),
     }
 }
 
-fn pad_front(text: &[u8], length: usize) -> Vec<u8> {
+pub(crate) fn pad_front(text: &[u8], length: usize) -> Vec<u8> {
     let mut padded = vec![b' '; length.saturating_sub(text.len())];
     padded.extend_from_slice(text);
     padded
 }
 
-fn pad_end(text: &[u8], length: usize) -> Vec<u8> {
+pub(crate) fn pad_end(text: &[u8], length: usize) -> Vec<u8> {
     let mut padded = text.to_vec();
     padded.resize(length.max(text.len()), b'\n');
     padded
@@ -671,6 +697,7 @@ pub fn edge_texts() -> Vec<Vec<u8>> {
     texts.extend(solid_and_weak_texts());
     texts.extend(copies_texts());
     texts.extend(order_texts());
+    texts.extend(remark_texts());
     texts
 }
 
@@ -768,7 +795,7 @@ fn byte_texts() -> Vec<Vec<u8>> {
         texts.push(with_byte(T, 0, byte));
     }
     let mut two = with_byte(T, T.len(), b'!');
-    two.insert(20, b'#');
+    two.insert(20, b'?');
     texts.push(two);
     texts
 }

@@ -2,15 +2,15 @@
 //! guard tables and a reader and player of Event-B text, written from documents 01
 //! and 02 alone.
 //!
-//! The text is cut into tokens, the tokens are made into an owned tree by
-//! recursive descent, and the rules beyond grammar are looked at on the
-//! finished tree, one after the other, in the order of the table "Numbers for
-//! what is turned away".
+//! The text is cut into tokens, between which blanks and remarks stand, the
+//! tokens are made into an owned tree by recursive descent, and the rules beyond
+//! grammar are looked at on the finished tree, one after the other, in the order
+//! of the table "Numbers for what is turned away".
 //!
 //! - `cargo test --lib`: the reference on the drawings of document 01, and its
-//!   grammar and the meaning of drawings checked a second time in another way;
-//!   the comparison of Event-B text on a plain writer of it and on wrong ones;
-//!   needs no archive.
+//!   remarks, its grammar and the meaning of drawings checked a second time in
+//!   another way; the comparison of Event-B text on a plain writer of it and on
+//!   wrong ones; needs no archive.
 //! - `ADL_ARCHIVE=1 cargo test --release --test fuzz -- --nocapture`: the
 //!   proved library against the reference, on texts, runs, tables and Event-B
 //!   machines. ADL_CASES and ADL_SEED say how many generated cases and from which
@@ -38,6 +38,7 @@ pub mod plain_listing;
 pub mod player;
 #[cfg(adl_archive)]
 pub mod proved;
+pub mod remarks;
 pub mod table;
 pub mod worked;
 
@@ -51,6 +52,8 @@ mod check_grammar;
 mod check_listing;
 #[cfg(test)]
 mod check_meaning;
+#[cfg(test)]
+mod check_remarks;
 #[cfg(test)]
 mod check_table;
 
@@ -109,7 +112,8 @@ pub fn read(text: &[u8]) -> Result<Summary, Refusal> {
     summarize(&accept(text)?)
 }
 
-/// Prints a text without its blanks, for a lent buffer of the given length.
+/// Prints a text without its blanks and remarks, for a lent buffer of the given
+/// length.
 pub fn print(text: &[u8], buffer_len: usize) -> Result<Vec<u8>, Refusal> {
     if buffer_len < TEXT_LIMIT {
         return Err((1, 0));
@@ -146,11 +150,24 @@ fn check_length(text: &[u8]) -> Result<(), Refusal> {
     Ok(())
 }
 
+/// Every byte is looked at, those of remarks too: what may stand in them is
+/// wider than what may stand outside.
 fn check_bytes(text: &[u8]) -> Result<(), Refusal> {
-    match text.iter().position(|&byte| is_foreign(byte)) {
-        Some(place) => Err((3, place)),
-        None => Ok(()),
+    let mut in_remark = false;
+    for (place, &byte) in text.iter().enumerate() {
+        in_remark = is_in_remark(in_remark, byte);
+        let foreign = if in_remark { !(32..=126).contains(&byte) } else { is_foreign(byte) };
+        if foreign {
+            return Err((3, place));
+        }
     }
+    Ok(())
+}
+
+/// Whether a byte is in a remark, given whether the byte before it is. A # starts
+/// one, byte 10 ends it and is not in it.
+fn is_in_remark(before: bool, byte: u8) -> bool {
+    byte != b'\n' && (before || byte == b'#')
 }
 
 fn is_word_byte(byte: u8) -> bool {
@@ -165,6 +182,7 @@ fn is_blank(byte: u8) -> bool {
     byte == b' ' || byte == b'\n'
 }
 
+/// Outside of remarks.
 fn is_foreign(byte: u8) -> bool {
     !is_word_byte(byte) && !is_mark(byte) && !is_blank(byte)
 }
@@ -176,27 +194,38 @@ pub(crate) struct Token<'t> {
     pub(crate) word: &'t str,
 }
 
-/// Cuts a text without foreign bytes into its tokens.
+/// Cuts a text without foreign bytes into its tokens; remarks and blanks are
+/// passed over.
 pub(crate) fn cut(text: &[u8]) -> Vec<Token<'_>> {
     let text = std::str::from_utf8(text).expect("no byte is foreign");
     let mut tokens = Vec::new();
     let mut place = 0;
     while place < text.len() {
-        let length = token_length(&text.as_bytes()[place..]);
+        let rest = &text.as_bytes()[place..];
+        let length = token_length(rest);
         if length > 0 {
             tokens.push(Token { place, word: &text[place..place + length] });
         }
-        place += length.max(1);
+        place += length.max(remark_length(rest)).max(1);
     }
     tokens
 }
 
-/// How long the token at the start of these bytes is, 0 at a blank.
+/// How long the token at the start of these bytes is, 0 at a blank or a remark.
 fn token_length(bytes: &[u8]) -> usize {
     if is_mark(bytes[0]) {
         return 1;
     }
     bytes.iter().take_while(|&&byte| is_word_byte(byte)).count()
+}
+
+/// How long the remark at the start of these bytes is, 0 if there is none: up to
+/// the next byte 10, or the end.
+fn remark_length(bytes: &[u8]) -> usize {
+    if bytes[0] != b'#' {
+        return 0;
+    }
+    bytes.iter().take_while(|&&byte| byte != b'\n').count()
 }
 
 fn check_words(tokens: &[Token]) -> Result<(), Refusal> {

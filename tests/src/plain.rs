@@ -19,24 +19,28 @@ pub mod c;
 #[cfg(adl_archive)]
 pub mod calls;
 
-use crate::{accept, is_blank, summarize, Group, Node, Refusal, Replicator, Shape, Summary, TEXT_LIMIT};
+use crate::{accept, is_blank, is_in_remark, summarize, Group, Node, Refusal, Replicator, Shape, Summary, TEXT_LIMIT};
 use std::ops::Range;
 use std::slice::from_ref;
 
 /// The shortest buffer that translation takes.
 pub const TABLE_LIMIT: usize = 51_204;
 
-/// Writes a text without its blanks to a lent buffer and tells its length. An
-/// accepted text has nothing but its tokens and blanks.
+/// Writes a text without its blanks and remarks to a lent buffer and tells its
+/// length. An accepted text has nothing but them and its tokens.
 pub fn print(text: &[u8], out: &mut [u8]) -> Result<usize, Refusal> {
     if out.len() < TEXT_LIMIT {
         return Err((1, 0));
     }
     summarize(&accept(text)?)?;
     let mut length = 0;
-    for byte in text.iter().filter(|byte| !is_blank(**byte)) {
-        out[length] = *byte;
-        length += 1;
+    let mut in_remark = false;
+    for &byte in text {
+        in_remark = is_in_remark(in_remark, byte);
+        if !in_remark && !is_blank(byte) {
+            out[length] = byte;
+            length += 1;
+        }
     }
     Ok(length)
 }

@@ -4,6 +4,7 @@
 
 use crate::generate::{many_copies, many_events, nested_flows, pad_between, root, root_with_leaves, T, U};
 use crate::listing::Values;
+use crate::remarks::{after_each_token, padded_by_a_remark};
 use crate::{Refusal, TEXT_LIMIT};
 use std::ops::Range;
 
@@ -50,6 +51,8 @@ pub fn accepted() -> Vec<(Vec<u8>, String)> {
         (T.to_string(), T_LISTING.to_string()),
         (U.to_string(), U_LISTING.to_string()),
         (format!(" \n{}\n", U.replace('(', " ( ")), U_LISTING.to_string()),
+        (after_each_token(T, "# a note"), T_LISTING.to_string()),
+        (format!("#\n# reset r\n{} # c", after_each_token(U, " #, # 1)\n")), U_LISTING.to_string()),
         (root(NESTED), NESTED_LISTING.to_string()),
         (root(THREE_DEEP), THREE_DEEP_LISTING.to_string()),
         (nested_flows(11), "events 1 copies 12\n0 a\n".to_string()),
@@ -59,6 +62,9 @@ pub fn accepted() -> Vec<(Vec<u8>, String)> {
     ];
     let mut accepted: Vec<_> = drawings.map(|(text, listing)| (text.into_bytes(), listing)).into();
     accepted.push((pad_between(T.as_bytes(), TEXT_LIMIT), T_LISTING.to_string()));
+    for before in [true, false] {
+        accepted.push((padded_by_a_remark(T.as_bytes(), TEXT_LIMIT, before), T_LISTING.to_string()));
+    }
     accepted
 }
 
@@ -97,9 +103,32 @@ fn refused() -> Vec<(Vec<u8>, Refusal)> {
     let mut refused: Vec<_> = refused.map(|(text, refusal)| (text.as_bytes().to_vec(), refusal)).into();
     for length in [TEXT_LIMIT + 1, 200_000] {
         refused.push((pad_between(T.as_bytes(), length), (2, TEXT_LIMIT)));
+        refused.push((padded_by_a_remark(T.as_bytes(), length, false), (2, TEXT_LIMIT)));
         refused.push((vec![0; length], (2, TEXT_LIMIT)));
     }
+    refused.extend(refused_with_remarks());
     refused
+}
+
+/// The same with remarks: places are counted in the text as it stands.
+fn refused_with_remarks() -> Vec<(Vec<u8>, Refusal)> {
+    let refused: [(&[u8], Refusal); 14] = [
+        (b"#\t", (3, 1)),
+        (b"flow #\x1f\n", (3, 6)),
+        (b"# a\r\n", (3, 3)),
+        (b") # \x7f\n!", (3, 4)),
+        (b"# a note\n!#\xff", (3, 9)),
+        (b"#a_word_of_26_bytes_is_here\na_word_of_26_bytes_is_here", (4, 28)),
+        (b"#", (5, 1)),
+        (b"# a note\n#\n", (5, 11)),
+        (b"#(\n)#", (5, 3)),
+        (b"flow(a,1)(le#x\naf(b)(1))", (5, 10)),
+        (b"flow(a,1)(leaf(a# a note\n)(1))", (7, 15)),
+        (b"#\nflow(a#\n,v,1)(leaf(b)(1))", (8, 2)),
+        (b"flow(a,1)(# a note\nflow(b,1)(leaf(c)(0))(1))", (9, 19)),
+        (b"flow(a,1)(#\n#\nflow(b,0)(leaf(c)(1))(1))", (10, 14)),
+    ];
+    refused.map(|(text, refusal)| (text.to_vec(), refusal)).into()
 }
 
 // ---------------------------------------------------------------------------
@@ -134,6 +163,8 @@ fn event_answers() -> Vec<Answer> {
         leaf(T, 4, "leaf(free)", &[]),
         reset(U, 2, "flow(r,", &[]),
         reset(spread, 2, "r", &[]),
+        leaf(&after_each_token(T, "# a note"), 2, "send", &[]),
+        reset(&after_each_token(U, "#!"), 2, "r", &[]),
         leaf(U, 3, "leaf(c)", &[]),
         leaf(&root(NESTED), 1, "leaf(l)", &[0, 1]),
         leaf(&root(NESTED), 4, "leaf(l)", &[1, 0]),

@@ -1,6 +1,6 @@
 -- What an event is called says which event it is: its mark, name and values can be read back.
 use mathlib.Core.Path.{_≡_, refl, sym, ap, ap₂, _∙_}
-use mathlib.Core.Bool.{Bool, true, false, not, _&&_, _||_, cond, false≢true}
+use mathlib.Core.Bool.{Bool, true, false, not, _&&_, false≢true}
 use mathlib.Core.List.{List, [], _∷_, _++_, nil≢cons, cons≢nil, head-eq-of-cons-eq, tail-eq-of-cons-eq, append-cancel-left}
 use Prim.Native.Nat.{ℕ, suc, _^_, _≤_, _<_}
 use native.Mathlib.Omega.{arith}
@@ -10,8 +10,8 @@ use borrow.Author.Tests.{eq-eqb, ne-eqb, ltb-true, ltb-false}
 use Rattle.base.proofs.Truth.{by-cases, clash, and-l, and-r, not-e}
 use Rattle.base.specs.Text.{bytes}
 use Rattle.diagram.specs.Tree.{Name}
-use Rattle.tokens.specs.Classes.{between, class-of, letter, worded}
-use Rattle.tokens.proofs.Between.{between-low}
+use Rattle.tokens.specs.Classes.{class-of, letter, worded}
+use Rattle.tokens.proofs.Below.{at-below}
 use Rattle.tokens.specs.Words.{lettered, every}
 use Rattle.process.specs.Process.{Event}
 use Rattle.output.specs.Decimal.{decimal, value}
@@ -51,19 +51,9 @@ unfolding class-of
 blanks-no-words = (refl, refl)
 
 -- A digit is no letter.
-no-five : (t : Bool) (x y : ℕ) → between 5 5 x ≡ false → between 5 5 y ≡ false → between 5 5 (cond t x y) ≡ false
-no-five true x y h k = h
-no-five false x y h k = k
-
 letter-no : (b : ℕ) → b ≤ 57 → letter b ≡ false
 unfolding class-of
-letter-no b h =
-    rw (between-low 65 90 b (omega arith), between-low 97 122 b (omega arith))
-    (no-five (eqb b 40) 1 _ refl
-    (no-five (eqb b 41) 2 _ refl
-    (no-five (eqb b 44) 3 _ refl
-    (no-five (eqb b 58) 4 _ refl
-    (no-five (between 48 57 b) 6 _ refl (no-five (eqb b 95) 7 _ refl (no-five (eqb b 32 || eqb b 10) 8 0 refl refl)))))))
+letter-no b h = not-e (letter b) (at-below (λ b. not (letter b)) 58 refl b (omega arith))
 
 letter-above : (b : ℕ) → letter b ≡ true → 57 < b
 letter-above b h = by-cases (ltb 57 b) (λ e. ltb-true 57 b e) (λ e. absurd (clash h (letter-no b (ltb-false 57 b e))))

@@ -9,11 +9,12 @@ use lib.ListN.{length, getD, length-append}
 use lib.Seq.{take-append-seam, drop-append-seam}
 use Rattle.diagram.specs.Tree.{Name}
 use Rattle.base.proofs.Truth.{and-l, and-r, and-i, by-cases, not-e, clash, or-e}
-use Rattle.tokens.specs.Classes.{class-of, worded, blank}
-use Rattle.tokens.specs.Words.{front, blanks, every}
+use Rattle.tokens.specs.Classes.{worded}
+use Rattle.tokens.specs.Remarks.{stretch, blanks}
+use Rattle.tokens.specs.Words.{front, every}
 use Rattle.tokens.specs.Spans.{Span, width, cut, spans, spans-of}
 use Rattle.tokens.specs.Token.{Token, token-of, text-tokens, bytes-of, sound}
-use Rattle.tokens.proofs.Between.{in-range, between-low}
+use Rattle.tokens.proofs.Remarks.{worded-unbroken, none-skipped}
 use Rattle.tokens.proofs.Tokens.{token}
 use Rattle.grammar.proofs.Spelled.{wordy, writable, spelled}
 use Rattle.grammar.specs.Printed.{render}
@@ -33,14 +34,10 @@ unfolding front
 front-stops t [] bs p q = q
 front-stops t (x ∷ w) bs p q = rw (and-l (t x) (every t w) p, front-stops t w bs (and-r (t x) (every t w) p) q)
 
-pub worded-no-blank : (b : ℕ) → worded b ≡ true → blank b ≡ false
-worded-no-blank b p = let r = in-range 5 7 (class-of b) p in between-low 8 8 (class-of b) (omega arith)
-
 token-blanks : (w r : List ℕ) → token w ≡ true → blanks (w ++ r) ≡ 0
-unfolding front
 token-blanks [] r p = absurd (false≢true p)
-token-blanks (b ∷ []) r p = rw (not-e (blank b) p)
-token-blanks (b ∷ c ∷ w) r p = rw (worded-no-blank b (and-l (worded b) (every worded (c ∷ w)) p))
+token-blanks (b ∷ []) r p = none-skipped b r p
+token-blanks (b ∷ c ∷ w) r p = none-skipped b (c ∷ w ++ r) (worded-unbroken b (and-l (worded b) (every worded (c ∷ w)) p))
 
 -- A token's bytes, before what does not go on with its word.
 token-width : (w r : List ℕ) → token w ≡ true → (worded (getD w 0 0) ≡ false) ⊎ (front worded r ≡ 0) → width (w ++ r) ≡ length w
@@ -62,7 +59,7 @@ unfolding spans
 spans-token f at w r p e = rw (token-blanks w r p) (cut-token (λ at bs. spans f at bs) (at + 0) w r p e)
 
 spans-empty : (f at : ℕ) → spans f at [] ≡ []
-unfolding spans front
+unfolding spans stretch
 spans-empty zero at = refl
 spans-empty (suc f) at = refl
 

@@ -13,12 +13,12 @@ use Rattle.diagram.specs.Tree.{Name}
 use Rattle.diagram.specs.Names.{same, new, differ}
 use Rattle.base.proofs.Truth.{clash, is-false, and-l, and-r, and-i, not-e}
 use Rattle.base.proofs.Decided.{same-decides}
-use Rattle.tokens.specs.Classes.{between, class-of, letter, worded}
+use Rattle.tokens.specs.Classes.{between, class-of, foreign, letter, worded}
 use Rattle.tokens.specs.Words.{numerals, place-in, short, every, lettered}
 use Rattle.tokens.specs.Token.{Sign, opening, closing, comma, colon, Keyword, Token, sign, key, name, numeral, other, key-place, keyed, named, word-token, token-of, sign-bytes, bytes-of, lettering, all-lettering, sound}
 use Rattle.tokens.proofs.Below.{at-below}
 use Rattle.tokens.proofs.Between.{in-range, between-in}
-use Rattle.tokens.proofs.Foreign.{usual, usual-class}
+use Rattle.tokens.proofs.Foreign.{known-class}
 use Rattle.tokens.proofs.Tokens.{token, whole-word, Found, nowhere, there, found, key-back, written}
 
 -- The token can be written.
@@ -37,16 +37,11 @@ wordy (name w) = true
 wordy (numeral n) = true
 wordy other = true
 
-every-usual : (w : List ℕ) → every worded w ≡ true → every usual w ≡ true
-every-usual [] h = refl
-every-usual (b ∷ w) h =
-    and-i (usual-class b (omega (arith, in-range 5 7 (class-of b) (and-l (worded b) (every worded w) h)))) (every-usual w (and-r (worded b) (every worded w) h))
-
 -- Bytes of a token for which no text is refused, and which are read as this one.
 pub record Spelled (words : List Name) (t : Token) (w : Name) : Type 0 where
   pub taken : token w ≡ true
   pub small : short w ≡ true
-  pub known : every usual w ≡ true
+  pub known : foreign (getD w 0 0) ≡ false
   pub first : worded (getD w 0 0) ≡ wordy t
   pub back : token-of words w ≡ t
 
@@ -99,7 +94,7 @@ place-back (n ∷ ns) (suc i) k none h l =
 module _ (words : List Name) where
   a-word : (t : Token) (w : Name) → every worded w ≡ true → worded (getD w 0 0) ≡ true → short w ≡ true → wordy t ≡ true → word-token words w ≡ t → Spelled words t w
   unfolding token-of
-  a-word t w h p s v e = record { taken = whole-word w h p; small = s; known = every-usual w h; first = p ∙ sym v; back = rw p e }
+  a-word t w h p s v e = record { taken = whole-word w h p; small = s; known = known-class (getD w 0 0) (omega (arith, in-range 5 7 (class-of (getD w 0 0)) p)); first = p ∙ sym v; back = rw p e }
 
   spelled-sign : (s : Sign) → Spelled words (sign s) (sign-bytes s)
   unfolding token-of class-of

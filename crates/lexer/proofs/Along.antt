@@ -8,7 +8,7 @@ use lib.ListN.{length, take, drop, getD}
 use borrow.Author.Tests.{le-leb, lt-leb}
 use Rattle.base.proofs.Truth.{is-false}
 use Rattle.tokens.specs.Classes.{between, class-of}
-use Rattle.tokens.specs.Words.{blanks}
+use Rattle.tokens.specs.Remarks.{blanks}
 use Rattle.tokens.specs.Spans.{Span, width, spans-of}
 use Rattle.tokens.specs.Rest.{rest}
 use Rattle.tokens.specs.Scanned.{foreign-in, first-foreign, first-long}
@@ -17,7 +17,7 @@ use Rattle.tokens.proofs.Steps.{rest-start, rest-end, rest-skip, rest-token}
 use Rattle.tokens.proofs.WordCodes.{part-length, first-byte}
 use Rattle.lexer.proofs.Ways.{end-after}
 
--- What f finds in all tokens is what it finds in those from `at` on, and no blank stands there.
+-- What f finds in all tokens is what it finds in those from `at` on, and a token stands there, or the text ends.
 abbrev pub So-far : (List Span → ℕ) → List ℕ → ℕ → Type 0
 So-far f text at = (blanks (drop at text) ≡ 0) × (f (spans-of text) ≡ f (rest text at))
 

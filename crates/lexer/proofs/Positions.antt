@@ -4,18 +4,18 @@ use mathlib.Core.Bool.{Bool, true, false, cond}
 use mathlib.Core.List.{List, [], _∷_}
 use Prim.Native.Nat.{ℕ, zero, suc, _+_, _-_, _≤_, _<_}
 use native.Mathlib.Omega.{arith}
-use lib.Dec.{leb}
 use lib.ListN.{length, take, drop, getD, length-drop}
 use lib.Seq.{drop-cons}
-use borrow.Author.Tests.{leb-true, leb-false}
-use Rattle.base.proofs.Truth.{by-cases, is-false, clash}
-use Rattle.tokens.specs.Classes.{between, class-of, worded, blank}
-use Rattle.tokens.specs.Words.{front, blanks, word-code, code}
+use Rattle.base.proofs.Truth.{by-cases, is-false}
+use Rattle.tokens.specs.Classes.{class-of, worded}
+use Rattle.tokens.specs.Remarks.{blanks}
+use Rattle.tokens.specs.Words.{front, word-code, code}
 use Rattle.tokens.specs.Spans.{width}
 use Rattle.tokens.specs.Rest.{rest, Next}
 use Rattle.tokens.specs.declared.Lexeme.{Lexeme}
 use Rattle.tokens.proofs.Front.{front-le, front-more}
-use Rattle.tokens.proofs.Between.{between-in, between-low, in-range, class-small}
+use Rattle.tokens.proofs.Between.{between-in, between-low, in-range}
+use Rattle.tokens.proofs.Remarks.{token-stands}
 use Rattle.tokens.proofs.Steps.{rest-end, rest-skip, rest-token}
 use Rattle.tokens.proofs.WordCodes.{part-length, first-byte, word-code-high}
 use Rattle.lexer.proofs.Ways.{a-sign, a-word, ends-word, ends-sign, end-after}
@@ -88,12 +88,11 @@ module _ (text : List ℕ) (at i : ℕ) (I : i ≡ at + blanks (drop at text)) (
       let z : front worded (drop i text) ≡ 0 = first-front text i h worded false w in
       sign-token (i + front worded (drop i text)) refl (omega arith)
 
-  -- Any other class is a word's, since no blank stands there. It ends where the rest of it ends.
+  -- Any other class is a word's, since nothing is skipped there. It ends where the rest of it ends.
   pub word-here : (e : ℕ) → 5 ≤ c → e ≡ i + 1 + front worded (drop (i + 1) text) → (e ≡ i + front worded (drop i text)) × (i < e) × (e ≤ length text)
   word-here e l E =
-      let n : between 8 8 c ≡ false = rw C (no-front text i h blank (omega (arith, rest-skip text at i I .0))) in
-      let m : c ≤ 8 = rw C (class-small (getD text i 0)) in
-      let u : c ≤ 7 = by-cases (leb c 7) (leb-true c 7) (λ f. let g = leb-false c 7 f in absurd (clash (between-in 8 8 c (omega arith) m) n)) in
+      let z = token-stands (getD text i 0) (drop (suc i) text) (rw (drop-cons text i 0 h) at (rest-skip text at i I .0)) in
+      let u : c ≤ 7 = rw C (in-range 0 7 (class-of (getD text i 0)) z .1) in
       let w : worded (getD text i 0) ≡ true = rw (← C) (between-in 5 7 c l u) in
       let q = front-more worded text i h w in
       (E ∙ sym q, omega arith, omega (arith, front-end))

@@ -7,7 +7,8 @@ use native.Mathlib.Omega.{arith}
 use lib.ListN.{length, drop, getD, length-drop}
 use Rattle.diagram.specs.Tree.{Name}
 use Rattle.tokens.specs.Classes.{between, class-of, worded}
-use Rattle.tokens.specs.Words.{front, blanks, word-code, code}
+use Rattle.tokens.specs.Remarks.{blanks}
+use Rattle.tokens.specs.Words.{front, word-code, code}
 use Rattle.tokens.specs.Spans.{width}
 use Rattle.tokens.proofs.Between.{between-in}
 use Rattle.tokens.proofs.Steps.{width-some, width-le}

@@ -4,7 +4,8 @@ ghost use Prim.Native.Nat.{_+_, _-_, _≤_, _<_};
 ghost use lib.ListN.{getD, length, take, drop};
 ghost use Rattle.diagram.specs.Names.{same as alike};
 ghost use Rattle.tokens.specs.Classes.{between, class-of, within, worded as worded-byte, unbroken};
-ghost use Rattle.tokens.specs.Words.{front, blanks, word-at, keyword-in, numeral as numeral-of, word-code};
+ghost use Rattle.tokens.specs.Remarks.{opened, skipped as skips, blanks};
+ghost use Rattle.tokens.specs.Words.{front, word-at, keyword-in, numeral as numeral-of, word-code};
 ghost use Rattle.tokens.specs.Parts.{Word};
 ghost use Rattle.tokens.specs.Spans.{width, spans-of};
 ghost use Rattle.tokens.specs.Rest.{Next};
@@ -12,8 +13,8 @@ ghost use Rattle.tokens.specs.Scanned.{first-foreign, first-long};
 ghost use Rattle.lexer.specs.Lexicon.{Lexicon, word-in, words-in};
 use tokens::Lexeme;
 
-// The class of each byte: 0 foreign, 1 to 4 the signs ( ) , : in this order, 5 letter, 6 digit, 7 underscore, 8 blank. Then, from 256 on, a row of 16
-// numbers for each keyword: how many letters it has, and its letters.
+// The class of each byte: 0 foreign, 1 to 4 the signs ( ) , : in this order, 5 letter, 6 digit, 7 underscore, 8 blank, 9 the start of a remark. Then,
+// from 256 on, a row of 16 numbers for each keyword: how many letters it has, and its letters.
 const LEXICON: [u8; 400] = [
     0,
     0,
@@ -50,7 +51,7 @@ const LEXICON: [u8; 400] = [
     8,
     0,
     0,
-    0,
+    9,
     0,
     0,
     0,
@@ -450,12 +451,49 @@ fn past(text: &[u8], at: usize, low: u8, high: u8, lexicon: &[u8; 400]) -> usize
     i
 }
 
-// Past the blanks from `at` on: what stands between tokens.
+// Whether a byte stands between tokens: a blank, the # of a remark, and in an open one a byte from 32 to 126 or the byte 10 that ends it.
+fn skipped(b: u8, inside: bool, lexicon: &[u8; 400]) -> bool
+    requires { ⌜ Lexicon (now lexicon) ⌝ }
+    ensures { λ r. ⌜ r ≡ skips inside b ⌝ }
+{
+    if !inside {
+        return 7 < class(b, lexicon);
+    }
+    if b == 10 {
+        return true;
+    }
+    if b < 32 {
+        return false;
+    }
+    b < 127
+}
+
+// Whether a remark is open after a byte, by whether one was open before it.
+fn remark(b: u8, inside: bool) -> bool
+    ensures { λ r. ⌜ r ≡ opened inside b ⌝ }
+{
+    if inside {
+        return b != 10;
+    }
+    b == b'#'
+}
+
+// Past the blanks and remarks from `at` on: what stands between tokens. A byte that a remark cannot hold ends the gap, and is found foreign there.
 pub fn gap(text: &[u8], at: usize, lexicon: &[u8; 400]) -> usize
     requires { ⌜ Lexicon (now lexicon) ⌝ }
     ensures { λ r. ⌜ r ≡ at + blanks (drop at (now (text .entry))) ⌝ }
 {
-    past(text, at, 8, 8, lexicon)
+    let mut inside = false;
+    let mut i = at;
+    while i < text.len() {
+        let b = text[i];
+        if !skipped(b, inside, lexicon) {
+            return i;
+        }
+        inside = remark(b, inside);
+        i += 1;
+    }
+    i
 }
 
 // The end of the tokens that stand side by side from `at` on: where the next gap starts, or the text ends.

@@ -9,14 +9,16 @@ use lib.Dec.{ltb}
 use lib.ListN.{length, getD, take, drop}
 use lib.Seq.{drop-cons, getD-drop, length-take-le}
 use borrow.Author.Tests.{ltb-true, ltb-false}
-use Rattle.base.proofs.Truth.{by-cases, is-false, and-l}
+use Rattle.base.proofs.Truth.{by-cases, and-l}
 use Rattle.diagram.specs.Tree.{Name}
-use Rattle.tokens.specs.Classes.{class-of, worded, blank}
-use Rattle.tokens.specs.Words.{keywords, front, blanks, word-at, short, every, lettered}
+use Rattle.tokens.specs.Classes.{class-of, worded}
+use Rattle.tokens.specs.Remarks.{blanks}
+use Rattle.tokens.specs.Words.{keywords, word-at, short, every, lettered}
 use Rattle.tokens.specs.Spans.{Span, width}
 use Rattle.tokens.specs.Token.{comma, Token, sign, name, named, keyed, token-of, bytes-of}
 use Rattle.tokens.specs.Rest.{rest}
 use Rattle.tokens.proofs.Between.{in-range}
+use Rattle.tokens.proofs.Remarks.{token-stands}
 use Rattle.tokens.proofs.Cut.{cut-is-token}
 use Rattle.tokens.proofs.Steps.{rest-end, rest-skip, rest-token, width-le}
 use Rattle.tokens.proofs.Spans.{first-of, whole-word}
@@ -63,12 +65,11 @@ module _ {text : List ℕ} {at i : ℕ} {t : Token} {ts : List Token} (f : Front
   first : getD its 0 0 ≡ getD text i 0
   first = first-of (drop i text) ∙ getD-drop i text 0 0 ∙ ap (λ (k : ℕ). getD text k 0) (add-zero i)
 
-  no-blank : blank (getD text i 0) ≡ false
-  unfolding front
-  no-blank = is-false (blank (getD text i 0)) (λ e. let z = rw (drop-cons text i 0 inside, e) at (skip .0) in omega arith)
-
   whole : token its ≡ true
-  whole = rw (drop-cons text i 0 inside) (cut-is-token (getD text i 0) (drop (suc i) text) no-blank)
+  whole =
+      let b = getD text i 0 in
+      let l = drop (suc i) text in
+      rw (drop-cons text i 0 inside) (cut-is-token b l (token-stands b l (rw (drop-cons text i 0 inside) at (skip .0))))
 
   its-class : writable keywords t ≡ true → worded (getD text i 0) ≡ wordy t
   its-class w = sym (ap worded first) ∙ read-spelled keywords keywords-sound its whole (rw is w) .first ∙ ap wordy is

@@ -13,7 +13,8 @@ use Rattle.base.proofs.Truth.{and-l, and-r, agree}
 use Rattle.diagram.specs.Tree.{Name}
 use Rattle.diagram.specs.Names.{equal, same}
 use Rattle.tokens.specs.Classes.{class-of}
-use Rattle.tokens.specs.Words.{keywords, word-at, blanks}
+use Rattle.tokens.specs.Remarks.{blanks}
+use Rattle.tokens.specs.Words.{keywords, word-at}
 use Rattle.tokens.specs.Token.{closing, comma, Token, sign, name, named}
 use Rattle.grammar.specs.Tokens.{pars-tokens, bit}
 use Rattle.grammar.specs.Named.{all-named}

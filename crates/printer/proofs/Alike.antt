@@ -1,13 +1,14 @@
 -- Property 2, printing: "printing and reading again yields that diagram; two accepted texts print alike exactly if their diagrams are equal."
 use mathlib.Core.Path.{_≡_, sym, _∙_, ap, subst}
-use mathlib.Core.Logic.{⊎-elim, _↔_}
+use mathlib.Core.Logic.{_↔_}
+use mathlib.Core.Bool.{Bool, false}
 use mathlib.Core.List.{List, [], _∷_}
 use Prim.Native.Nat.{ℕ, _≤_}
 use native.Mathlib.Omega.{arith}
 use lib.ListN.{length}
 use Rattle.diagram.specs.Tree.{Flow}
-use Rattle.base.proofs.Truth.{cases}
-use Rattle.tokens.specs.Classes.{blank}
+use Rattle.base.proofs.Truth.{by-cases}
+use Rattle.tokens.specs.Remarks.{opened, skipped}
 use Rattle.tokens.specs.Words.{keywords}
 use Rattle.tokens.specs.Token.{text-tokens}
 use Rattle.tokens.proofs.Tokens.{keywords-sound}
@@ -19,14 +20,15 @@ use Rattle.grammar.proofs.Printing.{without-blanks, derived-printed}
 use Rattle.grammar.proofs.Grammar.{derived-once}
 use Rattle.reading.specs.Accepted.{Accepted}
 
-unblanked-shorter : (bs : List ℕ) → length (unblanked bs) ≤ length bs
+unblanked-shorter : (o : Bool) (bs : List ℕ) → length (unblanked o bs) ≤ length bs
 unfolding unblanked
-unblanked-shorter [] = omega arith
-unblanked-shorter (b ∷ bs) =
-    let h = unblanked-shorter bs in ⊎-elim (λ e. rw e (omega arith)) (λ e. rw e (omega arith)) (cases (blank b))
+unblanked-shorter o [] = omega arith
+unblanked-shorter o (b ∷ bs) =
+    by-cases (skipped o b) (λ e. let h = unblanked-shorter (opened o b) bs in rw e (omega arith))
+    (λ e. let h = unblanked-shorter false bs in rw e (omega arith))
 
 pub printed-shorter : (text : List ℕ) → length (printed text) ≤ length text
-printed-shorter text = rw (without-blanks text) (unblanked-shorter text)
+printed-shorter text = rw (without-blanks text) (unblanked-shorter false text)
 
 -- What is printed for a text that a diagram derives has the tokens of the diagram again.
 printed-derives : (text : List ℕ) (d : Flow) → Derives keywords (text-tokens keywords text) d → Derives keywords (text-tokens keywords (printed text)) d

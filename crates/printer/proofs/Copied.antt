@@ -1,5 +1,6 @@
 -- How far a text is printed. Assumes nothing.
 use mathlib.Core.Path.{_≡_, refl, sym, _∙_, ap}
+use mathlib.Core.Bool.{false}
 use mathlib.Core.List.{List, [], _∷_, _++_, append-assoc, append-nil}
 use Prim.Native.Nat.{ℕ, suc, _+_, _-_, _≤_, _<_}
 use native.Mathlib.Numerals.{add-one}
@@ -9,13 +10,14 @@ use lib.Seq.{drop-cons, drop-drop}
 use Rattle.base.specs.Fill.{fill}
 use Rattle.base.proofs.Truth.{by-cases}
 use Rattle.base.proofs.Filled.{fill-none, fill-next, fill-length}
-use Rattle.tokens.specs.Classes.{blank, unbroken}
-use Rattle.tokens.specs.Words.{front, blanks}
-use Rattle.tokens.proofs.Front.{front-more, front-le, front-fails, front-again}
-use Rattle.tokens.proofs.Between.{run-goes-on, no-blank-in-run}
+use Rattle.tokens.specs.Classes.{unbroken}
+use Rattle.tokens.specs.Remarks.{blanks}
+use Rattle.tokens.specs.Words.{front}
+use Rattle.tokens.proofs.Front.{front-more, front-le}
+use Rattle.tokens.proofs.Remarks.{blanks-again, token-stands}
 use Rattle.tokens.proofs.WordCodes.{part-length}
 use Rattle.grammar.specs.Printed.{printed, unblanked}
-use Rattle.grammar.proofs.Printing.{unblanked-front, without-blanks}
+use Rattle.grammar.proofs.Printing.{unblanked-front, kept, without-blanks}
 use Rattle.printer.specs.code.Over.{over}
 
 -- One byte of a part, and then the others.
@@ -48,38 +50,37 @@ over-fill lent ps (b ∷ bs) =
     rw (fill-next lent ps b, n) (over-fill lent (ps ++ (b ∷ [])) bs ∙ ap (fill lent) (append-assoc ps (b ∷ []) bs))
 
 -- Without its blanks a text is the tokens that stand side by side at its front, and then the rest of it without its blanks.
-unblanked-run : (bs : List ℕ) → unblanked bs ≡ take (front unbroken bs) bs ++ unblanked (drop (front unbroken bs) bs)
+unblanked-run : (bs : List ℕ) → unblanked false bs ≡ take (front unbroken bs) bs ++ unblanked false (drop (front unbroken bs) bs)
 unfolding unblanked front
 unblanked-run [] = refl
-unblanked-run (b ∷ bs) =
-    by-cases (unbroken b) (λ e. rw (e, no-blank-in-run b e) (ap (λ (l : List ℕ). b ∷ l) (unblanked-run bs))) (λ e. rw e)
+unblanked-run (b ∷ bs) = by-cases (unbroken b) (λ e. rw e (kept b bs e ∙ ap (λ (l : List ℕ). b ∷ l) (unblanked-run bs))) (λ e. rw e)
 
 -- From a place on: past a gap, and past the end `e` of tokens side by side.
 module _ (text : List ℕ) (at : ℕ) where
-  past-gap : (i : ℕ) → i ≡ at + blanks (drop at text) → (blanks (drop i text) ≡ 0) × (unblanked (drop at text) ≡ unblanked (drop i text))
+  past-gap : (i : ℕ) → i ≡ at + blanks (drop at text) → (blanks (drop i text) ≡ 0) × (unblanked false (drop at text) ≡ unblanked false (drop i text))
   past-gap i I =
-      (rw I (front-again blank text at), rw (I, ← drop-drop (blanks (drop at text)) at text) (sym (unblanked-front (drop at text))))
+      (rw I (blanks-again text at), rw (I, ← drop-drop (blanks (drop at text)) at text) (sym (unblanked-front (drop at text))))
 
   module _ (e : ℕ) (E : e ≡ at + front unbroken (drop at text)) where
-    past-run : unblanked (drop at text) ≡ take (e - at) (drop at text) ++ unblanked (drop e text)
+    past-run : unblanked false (drop at text) ≡ take (e - at) (drop at text) ++ unblanked false (drop e text)
     past-run =
         let n : e - at ≡ front unbroken (drop at text) = omega arith in
         rw (n, E, ← drop-drop (front unbroken (drop at text)) at text) (unblanked-run (drop at text))
 
-    -- Where no blank stands they have a byte at least, and they end within the text.
+    -- Where nothing is skipped they have a byte at least, and they end within the text.
     run-inside : at < length text → blanks (drop at text) ≡ 0 → (at < e) × (e ≤ length text)
     run-inside h z =
-        let b = front-fails blank (getD text at 0) (drop (suc at) text) (rw (drop-cons text at 0 h) at z) in
-        let m = front-more unbroken text at h (run-goes-on (getD text at 0) b) in
+        let b = token-stands (getD text at 0) (drop (suc at) text) (rw (drop-cons text at 0 h) at z) in
+        let m = front-more unbroken text at h b in
         (omega arith, omega (arith, front-le unbroken (drop at text), length-drop at text))
 
--- The tokens before `at` are written, n bytes, and no blank stands there.
+-- The tokens before `at` are written, n bytes, and nothing is skipped there.
 pub record Copied (text lent out : List ℕ) (n at : ℕ) : Type 0 where
   pub clear : blanks (drop at text) ≡ 0
   pub few : n ≤ at
   pub bytes : List ℕ
   pub count : n ≡ length bytes
-  pub whole : printed text ≡ bytes ++ unblanked (drop at text)
+  pub whole : printed text ≡ bytes ++ unblanked false (drop at text)
   pub done : out ≡ fill lent bytes
 
 pub copied-start : (text lent : List ℕ) (at : ℕ) → at ≡ 0 + blanks (drop 0 text) → Copied text lent lent 0 at
@@ -118,7 +119,7 @@ module _ (text lent out : List ℕ) (n at : ℕ) (w : Copied text lent out n at)
           count = omega (arith, length-append (w .bytes) t, w .count);
           whole =
               w .whole ∙ ap (λ (r : List ℕ). w .bytes ++ r) (past-run text at e E ∙ ap (λ (r : List ℕ). t ++ r) (s .1))
-              ∙ sym (append-assoc (w .bytes) t (unblanked (drop i text)));
+              ∙ sym (append-assoc (w .bytes) t (unblanked false (drop i text)));
           done = q ∙ rw (w .done, w .count) (over-fill lent (w .bytes) t);
         }
 

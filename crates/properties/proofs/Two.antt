@@ -1,6 +1,7 @@
 -- Property 2, from the contracts of read and print.
 use mathlib.Core.Path.{_≡_, sym, ap, _∙_}
 use mathlib.Core.Logic.{_↔_}
+use mathlib.Core.Bool.{false}
 use mathlib.Core.List.{List}
 use Prim.Native.Nat.{ℕ}
 use Rattle.diagram.specs.Tree.{Flow}
@@ -9,7 +10,9 @@ use Rattle.reading.specs.Answers.{read-of}
 use Rattle.reading.specs.Accepted.{Accepted}
 use Rattle.reading.specs.Shows.{Shows}
 use Rattle.reading.specs.declared.ReadResult.{ReadResult}
+use Rattle.tokens.specs.Remarks.{blanked}
 use Rattle.reading.proofs.Exact as exact
+use Rattle.reading.proofs.Alike.{remarks-as-blanks}
 use Rattle.reading.proofs.Shown.{accepted-shows-only}
 use Rattle.reading.proofs.Placed.{accepted-placed}
 use Rattle.printer.specs.Same.{Same, unplaced, wrote, written}
@@ -65,4 +68,5 @@ property-2 = record {
   print-alike = λ s t d e p q left other k l.
       rw (wrote-is s d p left k, wrote-is t e q other l) (left-alike s (k .lent) d t (l .lent) e (k .enough) (l .enough) (k .accepted) (l .accepted) .exactly);
   same-exactly = λ s t d e o q a b m n. rw (reads-met s o m, reads-met t q n) (same-tree s t d e a b);
+  remarks-are-blanks = λ text o q u m n. reads-met (blanked false text) q n ∙ remarks-as-blanks text u ∙ sym (reads-met text o m);
 }

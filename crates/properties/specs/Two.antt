@@ -1,14 +1,17 @@
 -- Property 2, over the calls read and print: "A text is accepted exactly if the grammar with its rules and limits derives it; its diagram is the one derived;
--- printing and reading again yields that diagram; two accepted texts print alike exactly if their diagrams are equal."
+-- printing and reading again yields that diagram; two accepted texts print alike exactly if their diagrams are equal." And document 02, card 4: "A remark is a
+-- blank wherever a blank may stand".
 use mathlib.Core.Path.{_≡_}
 use mathlib.Core.Logic.{_↔_}
+use mathlib.Core.Bool.{false}
 use mathlib.Core.List.{List, [], _∷_}
 use Prim.Native.Nat.{ℕ, _≤_}
 use lib.ListN.{length}
 use Rattle.base.specs.Reports.{result}
 use Rattle.diagram.specs.Tree.{Flow}
 use Rattle.reading.specs.Accepted.{Accepted}
-use Rattle.reading.specs.Refused.{RefusedAt}
+use Rattle.tokens.specs.Remarks.{blanked}
+use Rattle.reading.specs.Refused.{Usual, RefusedAt}
 use Rattle.reading.specs.Shows.{Shows, Shows-only}
 use Rattle.reading.specs.Places.{Placed}
 use Rattle.reading.specs.declared.Answer.the-variants.{Done, Refused}
@@ -48,3 +51,5 @@ pub record Property-2 : Type 0 where
   -- "their diagrams are equal", of what reading answered: the same, places aside, exactly if the trees are
   pub same-exactly : (s t : List ℕ) (d e : Flow) (o q : ReadResult) → Accepted s d → Accepted t e → Reads s o → Reads t q
       → Same s (o .diagram) t (q .diagram) ↔ (d ≡ e)
+  -- with blanks in place of its remarks, byte for byte, a text that has no foreign byte gets the same answer, the diagram and all places included
+  pub remarks-are-blanks : (text : List ℕ) (o q : ReadResult) → Usual text → Reads text o → Reads (blanked false text) q → q ≡ o

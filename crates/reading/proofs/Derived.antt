@@ -1,22 +1,16 @@
 -- A text that a diagram of at most 256 nodes and 12 depths derives is refused for none of its tokens, and the rows that the walk leaves tell the
 -- diagram's nodes.
 use mathlib.Core.Path.{_≡_, ap, _∙_}
-use mathlib.Core.Bool.{Bool, true}
-use mathlib.Core.List.{List, [], _∷_}
-use Prim.Native.Nat.{ℕ, zero, suc, _≤_, _<_}
-use native.Mathlib.Nat.{le-of-suc-le-suc}
-use native.Mathlib.Omega.{arith}
+use mathlib.Core.List.{List, []}
+use Prim.Native.Nat.{ℕ, _≤_}
 use lib.ListN.{length, getD}
 use borrow.Author.Tests.{leb-true}
-use Rattle.base.proofs.Truth.{and-l, and-r, not-e}
 use Rattle.diagram.specs.Tree.{Flow}
 use Rattle.diagram.specs.Count.{flow-nodes}
 use Rattle.diagram.specs.TreeNodes.{own, nodes-by}
-use Rattle.tokens.specs.Classes.{foreign}
-use Rattle.tokens.specs.Words.{every, keywords}
+use Rattle.tokens.specs.Words.{keywords}
 use Rattle.tokens.specs.Spans.{tokens}
 use Rattle.tokens.specs.Token.{text-tokens}
-use Rattle.tokens.proofs.Foreign.{usual}
 use Rattle.tokens.proofs.Tokens.{text-proper, keywords-sound}
 use Rattle.grammar.specs.Machine.{whole, outcome}
 use Rattle.grammar.proofs.Printing.{derived-usual, derived-short}
@@ -28,13 +22,8 @@ use Rattle.walked.proofs.Told.{read, told}
 use Rattle.walked.proofs.Rebuilt.{rebuilt}
 use Rattle.reading.specs.Answers.{judged, read-of}
 use Rattle.reading.specs.Refused.{Clean, Derived}
-use Rattle.reading.proofs.Scans.{clean-scan}
+use Rattle.reading.proofs.Scans.{none-usual, clean-scan}
 use Rattle.reading.proofs.Verdicts.{tree-verdict, tree-judged}
-
-every-at : (t : ℕ → Bool) (bs : List ℕ) (j : ℕ) → every t bs ≡ true → j < length bs → t (getD bs j 0) ≡ true
-every-at t [] j h l = let z : ⊥ = omega arith in absurd z
-every-at t (b ∷ bs) zero h l = and-l (t b) (every t bs) h
-every-at t (b ∷ bs) (suc j) h l = every-at t bs j (and-r (t b) (every t bs) h) (le-of-suc-le-suc l)
 
 -- A text that is read is derived by a diagram within the limits.
 pub whole-derived : (text : List ℕ) (n : ℕ) → length text ≤ 16384 → outcome (text-tokens keywords text) ≡ whole n → (d : Flow) × Derived text d
@@ -48,7 +37,7 @@ module _ (text : List ℕ) (d : Flow) (g : Derived text d) where
   pub derived-clean : Clean text
   derived-clean = record {
     size = g .size;
-    usual = λ j l. not-e (foreign (getD text j 0)) (every-at usual text j (derived-usual text d (g .derives)) l);
+    usual = none-usual text (derived-usual text d (g .derives));
     words = λ j l. leb-true (length (getD (tokens text) j [])) 24 (derived-short text d (g .derives) j l);
   }
 

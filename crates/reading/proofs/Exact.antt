@@ -75,7 +75,7 @@ accepted-read text d a =
     ))
 
 -- The texts that are turned away.
-scanned-as : (text : List ℕ) (s : Scan) → scan-of text ≡ s → read-of text ≡ scanned text s
+pub scanned-as : (text : List ℕ) (s : Scan) → scan-of text ≡ s → read-of text ≡ scanned text s
 unfolding read-of
 scanned-as text s e = ap (scanned text) e
 
@@ -84,7 +84,7 @@ parsed-stop : (text : List ℕ) (o : End) (c p : ℕ) → unwritten o ≡ Machin
 parsed-stop text (whole n st) c p e = let z : _≡_ {A = ℕ} 0 1 = cc in let y : ⊥ = omega arith in absurd y
 parsed-stop text (stop a b) c p e = let x : a ≡ c = cc in let y : b ≡ p = cc in rw (x, y)
 
-stopped : (text : List ℕ) (c k : ℕ) → Clean text → outcome (text-tokens keywords text) ≡ Machine.stop c k → read-of text ≡ refused c (place-of text k)
+pub stopped : (text : List ℕ) (c k : ℕ) → Clean text → outcome (text-tokens keywords text) ≡ Machine.stop c k → read-of text ≡ refused c (place-of text k)
 stopped text c k h e =
     scanned-as text (Tokens (length (spans-of text))) (clean-scan text h)
     ∙ parsed-stop text (ending text (replicate 2056 0)) c (place-of text k) (ends-as text (replicate 2056 0) ∙ ap (placed-by (place-of text)) e)

@@ -7,3 +7,5 @@ pub mod Placed
 pub mod Bounds
 pub mod Reading
 pub mod Worked
+pub mod Blanked
+pub mod Alike

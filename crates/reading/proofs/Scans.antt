@@ -8,76 +8,88 @@ use native.Mathlib.Omega.{arith}
 use lib.Dec.{ltb, leb}
 use lib.ListN.{length, getD, length-map, List·getD-map}
 use borrow.Author.Tests.{lt-ltb, le-ltb, le-leb, lt-leb, ltb-true, ltb-false, leb-true, leb-false, not-false}
-use Rattle.base.proofs.Truth.{clash, cases, not-i, not-e}
-use Rattle.tokens.specs.Classes.{foreign}
-use Rattle.tokens.specs.Words.{front}
+use Rattle.base.proofs.Truth.{clash, cases, by-cases, not-i, not-e}
+use Rattle.tokens.specs.Remarks.{opened, open-at, foreign-at, stretch}
 use Rattle.tokens.specs.Spans.{Span, spans-of, tokens, places}
 use Rattle.tokens.specs.Scanned.{first-foreign, first-long, scan-of}
 use Rattle.tokens.specs.declared.Scan.{Scan}
 use Rattle.tokens.specs.declared.Scan.the-variants.{Tokens, Refused}
+use Rattle.tokens.proofs.Stretch.{stretch-nil, stretch-cons, stretch-le}
 use Rattle.tokens.proofs.Foreign.{usual, foreign-along}
 use Rattle.tokens.proofs.Spans.{no-span, tokens-length, token-at, place-at, places-below}
 use Rattle.reading.specs.Refused.{Long, Foreign, Usual, Wordy, Clean}
 
+-- The test of a number of a list, which is told whether a remark is open before it.
+abbrev tested : (Bool → ℕ → Bool) → Bool → List ℕ → ℕ → Bool
+tested t o l j = t (open-at o l j) (getD l j 0)
+
 -- The first number of a list that fails a test.
-record First (t : ℕ → Bool) (l : List ℕ) (n : ℕ) : Type 0 where
+record First (t : Bool → ℕ → Bool) (o : Bool) (l : List ℕ) (n : ℕ) : Type 0 where
   inside : n < length l
-  here : t (getD l n 0) ≡ false
-  first : (j : ℕ) → j < n → t (getD l j 0) ≡ true
+  here : tested t o l n ≡ false
+  first : (j : ℕ) → j < n → tested t o l j ≡ true
 
 -- No number of the list fails it.
-abbrev All : (ℕ → Bool) → List ℕ → Type 0
-All t l = (j : ℕ) → j < length l → t (getD l j 0) ≡ true
+abbrev All : (Bool → ℕ → Bool) → Bool → List ℕ → Type 0
+All t o l = (j : ℕ) → j < length l → tested t o l j ≡ true
 
-first-later : {t : ℕ → Bool} {b : ℕ} {l : List ℕ} {n : ℕ} → First t (b ∷ l) (suc n) → First t l n
-first-later f = record { inside = omega (arith, f .inside); here = f .here; first = λ j h. f .first (suc j) (omega arith) }
+module _ (t : Bool → ℕ → Bool) where
+  first-later : (o : Bool) (b : ℕ) (l : List ℕ) {n : ℕ} → First t o (b ∷ l) (suc n) → First t (opened o b) l n
+  unfolding open-at
+  first-later o b l f = record { inside = omega (arith, f .inside); here = f .here; first = λ j h. f .first (suc j) (omega arith) }
 
-front-passes : (t : ℕ → Bool) (l : List ℕ) (j : ℕ) → j < front t l → t (getD l j 0) ≡ true
-unfolding front
-front-passes t [] j h = let z : ⊥ = omega arith in absurd z
-front-passes t (b ∷ l) zero h = ⊎-elim (λ e. e) (λ e. let g = rw e at h in let z : ⊥ = omega arith in absurd z) (cases (t b))
-front-passes t (b ∷ l) (suc j) h =
-    ⊎-elim (λ e. let g = rw e at h in front-passes t l j (omega arith)) (λ e. let g = rw e at h in let z : ⊥ = omega arith in absurd z) (cases (t b))
+  passes : (o : Bool) (l : List ℕ) (j : ℕ) → j < stretch t o l → tested t o l j ≡ true
+  unfolding open-at
+  passes o [] j h = let z : ⊥ = omega (arith, stretch-nil t o) in absurd z
+  passes o (b ∷ l) zero h = by-cases (t o b) (λ e. e) (λ e. let g = rw (stretch-cons t o b l, e) at h in let z : ⊥ = omega arith in absurd z)
+  passes o (b ∷ l) (suc j) h =
+      by-cases (t o b) (λ e. let g = rw (stretch-cons t o b l, e) at h in passes (opened o b) l j (omega arith))
+      (λ e. let g = rw (stretch-cons t o b l, e) at h in let z : ⊥ = omega arith in absurd z)
 
-front-fails : (t : ℕ → Bool) (l : List ℕ) → front t l < length l → t (getD l (front t l) 0) ≡ false
-unfolding front
-front-fails t [] h = let z : ⊥ = omega arith in absurd z
-front-fails t (b ∷ l) h = ⊎-elim (λ e. let g = rw e at h in rw e (front-fails t l (omega arith))) (λ e. rw e e) (cases (t b))
+  fails : (o : Bool) (l : List ℕ) → stretch t o l < length l → tested t o l (stretch t o l) ≡ false
+  unfolding open-at
+  fails o [] h = let z : ⊥ = omega arith in absurd z
+  fails o (b ∷ l) h =
+      by-cases (t o b)
+      (λ e. let q : stretch t o (b ∷ l) ≡ suc (stretch t (opened o b) l) = rw (stretch-cons t o b l, e) in rw q (fails (opened o b) l (omega (arith, q))))
+      (λ e. let q : stretch t o (b ∷ l) ≡ 0 = rw (stretch-cons t o b l, e) in rw q e)
 
-first-front : (t : ℕ → Bool) (l : List ℕ) → front t l < length l → First t l (front t l)
-first-front t l h = record { inside = h; here = front-fails t l h; first = front-passes t l }
+  first-stretch : (o : Bool) (l : List ℕ) → stretch t o l < length l → First t o l (stretch t o l)
+  first-stretch o l h = record { inside = h; here = fails o l h; first = passes o l }
 
-front-first : (t : ℕ → Bool) (l : List ℕ) (n : ℕ) → First t l n → front t l ≡ n
-unfolding front
-front-first t [] n f = let z : ⊥ = omega (arith, f .inside) in absurd z
-front-first t (b ∷ l) zero f = rw (f .here)
-front-first t (b ∷ l) (suc n) f = rw (f .first 0 (omega arith)) (ap suc (front-first t l n (first-later f)))
+  stretch-first : (o : Bool) (l : List ℕ) (n : ℕ) → First t o l n → stretch t o l ≡ n
+  unfolding open-at
+  stretch-first o [] n f = let z : ⊥ = omega (arith, f .inside) in absurd z
+  stretch-first o (b ∷ l) zero f = rw (stretch-cons t o b l, f .here)
+  stretch-first o (b ∷ l) (suc n) f =
+      rw (stretch-cons t o b l, f .first 0 (omega arith)) (ap suc (stretch-first (opened o b) l n (first-later o b l f)))
 
-all-front : (t : ℕ → Bool) (l : List ℕ) → length l ≤ front t l → All t l
-all-front t l h j k = front-passes t l j (omega arith)
+  all-stretch : (o : Bool) (l : List ℕ) → length l ≤ stretch t o l → All t o l
+  all-stretch o l h j k = passes o l j (omega arith)
 
-front-all : (t : ℕ → Bool) (l : List ℕ) → All t l → length l ≤ front t l
-front-all t l a =
-    ⊎-elim (λ e. let h = ltb-true (front t l) (length l) e in absurd (clash (a (front t l) h) (front-fails t l h))) (λ e. ltb-false (front t l) (length l) e)
-    (cases (ltb (front t l) (length l)))
+  stretch-all : (o : Bool) (l : List ℕ) → All t o l → length l ≤ stretch t o l
+  stretch-all o l a =
+      let n = stretch t o l in
+      by-cases (ltb n (length l)) (λ e. let h = ltb-true n (length l) e in absurd (clash (a n h) (fails o l h))) (λ e. ltb-false n (length l) e)
 
 -- Number 4: the first size over 24 among those of the tokens.
-abbrev fits : ℕ → Bool
-fits n = leb n 24
+abbrev fits : Bool → ℕ → Bool
+fits o n = leb n 24
 
 abbrev sizes : List Span → List ℕ
 sizes ss = map (λ (s : Span). length (s .bytes)) ss
 
-long-first : (ss : List Span) (none n : ℕ) → First fits (sizes ss) n → first-long ss none ≡ getD ss n no-span .place
+long-first : (o : Bool) (ss : List Span) (none n : ℕ) → First fits o (sizes ss) n → first-long ss none ≡ getD ss n no-span .place
 unfolding first-long
-long-first [] none n f = let z : ⊥ = omega (arith, f .inside) in absurd z
-long-first (s ∷ ss) none zero f = rw (f .here)
-long-first (s ∷ ss) none (suc n) f = rw (f .first 0 (omega arith)) (long-first ss none n (first-later f))
+long-first o [] none n f = let z : ⊥ = omega (arith, f .inside) in absurd z
+long-first o (s ∷ ss) none zero f = rw (f .here)
+long-first o (s ∷ ss) none (suc n) f =
+    let l = length (s .bytes) in rw (f .first 0 (omega arith)) (long-first (opened o l) ss none n (first-later fits o l (sizes ss) f))
 
-long-none : (ss : List Span) (none : ℕ) → All fits (sizes ss) → first-long ss none ≡ none
-unfolding first-long
-long-none [] none a = refl
-long-none (s ∷ ss) none a = rw (a 0 (omega arith)) (long-none ss none (λ j h. a (suc j) (omega arith)))
+long-none : (o : Bool) (ss : List Span) (none : ℕ) → All fits o (sizes ss) → first-long ss none ≡ none
+unfolding first-long open-at
+long-none o [] none a = refl
+long-none o (s ∷ ss) none a = rw (a 0 (omega arith)) (long-none (opened o (length (s .bytes))) ss none (λ j h. a (suc j) (omega arith)))
 
 module _ (text : List ℕ) where
   size-at : (k : ℕ) → getD (sizes (spans-of text)) k 0 ≡ length (getD (tokens text) k [])
@@ -86,32 +98,38 @@ module _ (text : List ℕ) where
   sizes-length : length (sizes (spans-of text)) ≡ length (tokens text)
   sizes-length = length-map (spans-of text) (λ (s : Span). length (s .bytes)) ∙ sym (tokens-length text)
 
-  short-fits : (k : ℕ) → length (getD (tokens text) k []) ≤ 24 → fits (getD (sizes (spans-of text)) k 0) ≡ true
+  short-fits : (k : ℕ) → length (getD (tokens text) k []) ≤ 24 → tested fits false (sizes (spans-of text)) k ≡ true
   short-fits k h = rw (size-at k) (le-leb (length (getD (tokens text) k [])) 24 h)
 
-  fits-short : (k : ℕ) → fits (getD (sizes (spans-of text)) k 0) ≡ true → length (getD (tokens text) k []) ≤ 24
+  fits-short : (k : ℕ) → tested fits false (sizes (spans-of text)) k ≡ true → length (getD (tokens text) k []) ≤ 24
   fits-short k h = leb-true (length (getD (tokens text) k [])) 24 (rw (size-at k) at h)
 
   foreign-first : {at : ℕ} → Foreign text at → first-foreign text ≡ at
   foreign-first {at} h =
       foreign-along text
-      ∙ front-first usual text at (record { inside = h .inside; here = rw (h .here); first = λ j k. not-i (h .first j k) })
+      ∙ stretch-first usual false text at (record { inside = h .inside; here = rw (h .here); first = λ j k. not-i (h .first j k) })
+
+  pub none-usual : first-foreign text ≡ length text → Usual text
+  none-usual e j k = not-e (foreign-at text j) (all-stretch usual false text (omega (arith, foreign-along text)) j k)
 
   usual-none : Usual text → length text ≤ first-foreign text
-  usual-none h = rw (foreign-along text) (front-all usual text (λ j k. not-i (h j k)))
+  usual-none h = rw (foreign-along text) (stretch-all usual false text (λ j k. not-i (h j k)))
+
+  pub none-strange : Usual text → stretch usual false text ≡ length text
+  none-strange h = omega (arith, usual-none h, foreign-along text, stretch-le usual false text)
 
   words-none : Clean text → first-long (spans-of text) (length text) ≡ length text
-  words-none h = long-none (spans-of text) (length text) (λ j k. short-fits j (h .words j (omega (arith, sizes-length))))
+  words-none h = long-none false (spans-of text) (length text) (λ j k. short-fits j (h .words j (omega (arith, sizes-length))))
 
   wordy-first : {at : ℕ} → Wordy text at → first-long (spans-of text) (length text) ≡ at
   wordy-first {at} h =
       let k = h .token in
-      let f : First fits (sizes (spans-of text)) k = record {
+      let f : First fits false (sizes (spans-of text)) k = record {
         inside = omega (arith, sizes-length, h .inside);
         here = rw (size-at k) (lt-leb (length (getD (tokens text) k [])) 24 (h .over));
         first = λ j l. short-fits j (h .first j l);
       } in
-      long-first (spans-of text) (length text) k f ∙ sym (h .place ∙ place-at text k)
+      long-first false (spans-of text) (length text) k f ∙ sym (h .place ∙ place-at text k)
 
   pub clean-scan : Clean text → scan-of text ≡ Tokens (length (spans-of text))
   unfolding scan-of
@@ -146,10 +164,10 @@ module _ (text : List ℕ) where
   sorted-words : length text ≤ 16384 → Usual text → Sorted text
   sorted-words s u =
       let l = sizes (spans-of text) in
-      let k = front fits l in
+      let k = stretch fits false l in
       ⊎-elim
       (λ e.
-      let f = first-front fits l (ltb-true k (length l) e) in
+      let f = first-stretch fits false l (ltb-true k (length l) e) in
       wordy-text (getD (places text) k 0)
       record {
         size = s;
@@ -161,26 +179,26 @@ module _ (text : List ℕ) where
         place = refl;
       })
       (λ e.
-      let a = all-front fits l (ltb-false k (length l) e) in
+      let a = all-stretch fits false l (ltb-false k (length l) e) in
       clean record { size = s; usual = u; words = λ j h. fits-short text j (a j (omega (arith, sizes-length text))) })
       (cases (ltb k (length l)))
 
   sorted-bytes : length text ≤ 16384 → Sorted text
   sorted-bytes s =
-      let k = front usual text in
+      let k = stretch usual false text in
       ⊎-elim
       (λ e.
-      let f = first-front usual text (ltb-true k (length text) e) in
+      let f = first-stretch usual false text (ltb-true k (length text) e) in
       foreign-byte k
       record {
         size = s;
         inside = f .inside;
-        here = not-false (foreign (getD text k 0)) (f .here);
-        first = λ j h. not-e (foreign (getD text j 0)) (f .first j h);
+        here = not-false (foreign-at text k) (f .here);
+        first = λ j h. not-e (foreign-at text j) (f .first j h);
       })
       (λ e.
-      let a = all-front usual text (ltb-false k (length text) e) in
-      sorted-words s (λ j h. not-e (foreign (getD text j 0)) (a j h)))
+      let a = all-stretch usual false text (ltb-false k (length text) e) in
+      sorted-words s (λ j h. not-e (foreign-at text j) (a j h)))
       (cases (ltb k (length text)))
 
   sorted : Sorted text

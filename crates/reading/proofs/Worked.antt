@@ -1,6 +1,7 @@
 -- The short texts that are worked through, computed over the table.
 use mathlib.Core.Path.{refl}
 use Rattle.tokens.specs.Classes.{class-of}
+use Rattle.tokens.specs.Remarks.{stretch}
 use Rattle.tokens.specs.Words.{front, keywords}
 use Rattle.tokens.specs.Spans.{width, spans, spans-of, places}
 use Rattle.tokens.specs.Rest.{rest}
@@ -17,5 +18,5 @@ use Rattle.reading.specs.Answers.{read-of}
 use Rattle.reading.specs.Worked.{texts, Worked}
 
 pub worked : Worked texts
-unfolding class-of front keywords width spans spans-of places rest named word-token token-of text-tokens foreign-in first-long scan-of expand keys-from keyword-at name-at begun effect walk ending kind-of pars-in row-kind row-node row-nodes fault times total verdict read-of
+unfolding class-of stretch front keywords width spans spans-of places rest named word-token token-of text-tokens foreign-in first-long scan-of expand keys-from keyword-at name-at begun effect walk ending kind-of pars-in row-kind row-node row-nodes fault times total verdict read-of
 worked = refl

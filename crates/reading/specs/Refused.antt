@@ -11,7 +11,7 @@ use Rattle.diagram.specs.Depth.{flow-depth}
 use Rattle.diagram.specs.Names.{flow-names, differ}
 use Rattle.diagram.specs.Parameters.{flow-parameters}
 use Rattle.diagram.specs.Flows.{each-flow, solid, strong}
-use Rattle.tokens.specs.Classes.{foreign}
+use Rattle.tokens.specs.Remarks.{foreign-at}
 use Rattle.diagram.specs.TreeNodes.{TreeNode, nodes-by}
 use Rattle.tokens.specs.Words.{keywords}
 use Rattle.tokens.specs.Spans.{tokens, places}
@@ -30,16 +30,16 @@ pub record Long (text : List ℕ) (at : ℕ) : Type 0 where
   pub over : 16384 < length text
   pub place : at ≡ 16384
 
--- 3: a foreign byte, at the "first such byte".
+-- 3: a foreign byte, outside remarks or in one, at the "first such byte".
 pub record Foreign (text : List ℕ) (at : ℕ) : Type 0 where
   pub size : length text ≤ 16384
   pub inside : at < length text
-  pub here : foreign (getD text at 0) ≡ true
-  pub first : (j : ℕ) → j < at → foreign (getD text j 0) ≡ false
+  pub here : foreign-at text at ≡ true
+  pub first : (j : ℕ) → j < at → foreign-at text j ≡ false
 
 -- The text has no foreign byte.
 abbrev pub Usual : List ℕ → Type 0
-Usual text = (j : ℕ) → j < length text → foreign (getD text j 0) ≡ false
+Usual text = (j : ℕ) → j < length text → foreign-at text j ≡ false
 
 -- 4: a word "over 24 bytes", at the "first byte of the first such word". Only a word has more than one byte.
 pub record Wordy (text : List ℕ) (at : ℕ) : Type 0 where

@@ -14,6 +14,15 @@ texts =
     ∷ ("flow(t,1)(leaf(a)(1))  \n", Done)
     ∷ (" flow ( t\n, 1 ) ( leaf ( a ) ( 1 ) ) ", Done)
     ∷ ("fl ow(t,1)(leaf(a)(1))", Refused 5 0)
+    -- remarks, wherever blanks may stand, from # to the line's end or the text's; they hold no tokens and end words
+    ∷ ("# one\nflow#(\n(t# #\n,1)(leaf(a)(1))# end", Done)
+    ∷ ("fl#x\now(t,1)(leaf(a)(1))", Refused 5 0)
+    ∷ ("#flow(t,1)(leaf(a)(1))", Refused 5 22)
+    ∷ ("flow(t,1)(leaf(a)(1))#abcdefghijklmnopqrstuvwxyz", Done)
+    ∷ ("flow(t,1)#(\n(leaf(a)(2))", Refused 5 21)
+    ∷ ("flow(t,1)(#\n#\nleaf(a)(0)leaf(a)(1))", Refused 7 29)
+    ∷ ("flow(t,1)#a\tb\n(leaf(a)(1))", Refused 3 11)
+    ∷ ("flow(t,1)(leaf(a)(1))#\r\n", Refused 3 22)
     -- 3: a tab is foreign, also in a text that is off grammar
     ∷ ("flow(t,1)\t(leaf(a)(1))", Refused 3 9)
     ∷ ("flow(t,1)(leaf(a)(1))\t", Refused 3 21)

@@ -18,6 +18,7 @@ use Rattle.diagram.specs.Flows.{each-flow}
 use Rattle.diagram.specs.Rules.{Keeps}
 use Rattle.diagram.proofs.Kept.{keeps?, keeps-decided}
 use Rattle.tokens.specs.Classes.{class-of}
+use Rattle.tokens.specs.Remarks.{stretch}
 use Rattle.tokens.specs.Words.{front, keywords}
 use Rattle.tokens.specs.Spans.{width, spans, spans-of}
 use Rattle.tokens.specs.Token.{Token, named, word-token, token-of, text-tokens}
@@ -88,7 +89,7 @@ abbrev wanted : Drawing → List Token × List Bool
 wanted x = (flow-tokens (diagram x) [], true ∷ true ∷ true ∷ true ∷ true ∷ true ∷ true ∷ map (λ (l : Line). true) (x .lines))
 
 found-as-wanted : map found (table ++ ours) ≡ map wanted (table ++ ours)
-unfolding class-of front keywords width spans spans-of named word-token token-of text-tokens flow-tokens flow-named flow-sized flow-names flow-parameters each-flow flow-nodes flow-depth flow-copies flow-events flow-process owns clears begun complete enabled change blank-record cleared marked-all
+unfolding class-of stretch front keywords width spans spans-of named word-token token-of text-tokens flow-tokens flow-named flow-sized flow-names flow-parameters each-flow flow-nodes flow-depth flow-copies flow-events flow-process owns clears begun complete enabled change blank-record cleared marked-all
 found-as-wanted = refl
 
 pub starred : Worked (table ++ ours)

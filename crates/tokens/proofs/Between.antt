@@ -5,9 +5,9 @@ use Prim.Native.Char.{code as byte}
 use Prim.Native.Nat.{ℕ, _≤_, _<_}
 use native.Mathlib.Omega.{arith}
 use lib.Dec.{eqb, leb}
-use borrow.Author.Tests.{le-leb, leb-true, leb-false}
-use Rattle.base.proofs.Truth.{and-l, and-r, and-i, is-false, clash, by-cases}
-use Rattle.tokens.specs.Classes.{between, spacing, class-of, blank, unbroken}
+use borrow.Author.Tests.{le-leb, leb-true}
+use Rattle.base.proofs.Truth.{and-l, and-r, and-i, is-false}
+use Rattle.tokens.specs.Classes.{between, spacing, class-of}
 
 pub between-in : (a b x : ℕ) → a ≤ x → x ≤ b → between a b x ≡ true
 between-in a b x h l = and-i (le-leb a x h) (le-leb x b l)
@@ -21,12 +21,12 @@ between-low a b x h = is-false (between a b x) (λ e. let l = in-range a b x e i
 pub between-high : (a b x : ℕ) → b < x → between a b x ≡ false
 between-high a b x h = is-false (between a b x) (λ e. let l = in-range a b x e in omega arith)
 
--- A byte's class is 0 to 8.
-either-small : (t : Bool) (x y : ℕ) → x ≤ 8 → y ≤ 8 → cond t x y ≤ 8
+-- A byte's class is 0 to 9.
+either-small : (t : Bool) (x y : ℕ) → x ≤ 9 → y ≤ 9 → cond t x y ≤ 9
 either-small true x y h l = h
 either-small false x y h l = l
 
-pub class-small : (b : ℕ) → class-of b ≤ 8
+pub class-small : (b : ℕ) → class-of b ≤ 9
 unfolding class-of
 class-small b =
     either-small (eqb b (byte "(")) 1 _ (omega arith)
@@ -36,14 +36,5 @@ class-small b =
     (either-small (between (byte "A") (byte "Z") b || between (byte "a") (byte "z") b) 5 _ (omega arith)
     (either-small (between (byte "0") (byte "9") b) 6 _ (omega arith)
     (either-small (eqb b (byte "_")) 7 _ (omega arith)
-    (either-small (spacing b) 8 0 (omega arith) (omega arith))))))))
-
--- So a byte is a blank, or it breaks no run of tokens.
-pub run-goes-on : (b : ℕ) → blank b ≡ false → unbroken b ≡ true
-run-goes-on b f =
-    by-cases (leb (class-of b) 7) (λ e. and-i (le-leb 0 (class-of b) (omega arith)) e) (λ e.
-    let l = leb-false (class-of b) 7 e in
-    absurd (clash (between-in 8 8 (class-of b) (omega arith) (class-small b)) f))
-
-pub no-blank-in-run : (b : ℕ) → unbroken b ≡ true → blank b ≡ false
-no-blank-in-run b e = between-low 8 8 (class-of b) (omega (arith, in-range 0 7 (class-of b) e .1))
+    (either-small (spacing b) 8 _ (omega arith)
+    (either-small (eqb b (byte "#")) 9 0 (omega arith) (omega arith)))))))))

@@ -1,64 +1,45 @@
--- Laws of `front`, by places of a text, which the proofs of `past` and the token laws cite.
-use mathlib.Core.Path.{_≡_, refl, sym, _∙_}
+-- Laws of `front`, by places of a text, which the proofs of `past` and the token laws cite: it is a stretch whose test looks at no remark.
+use mathlib.Core.Path.{_≡_, refl, sym, ap}
 use mathlib.Core.Bool.{Bool, true, false, cond}
 use mathlib.Core.List.{List, [], _∷_}
 use Prim.Native.Nat.{ℕ, suc, _+_, _≤_, _<_}
-use native.Mathlib.Nat.{add-zero, add-suc, suc-add}
-use native.Mathlib.Numerals.{add-one}
-use native.Mathlib.Omega.{arith}
-use lib.ListN.{length, take, drop, getD, drop-of-length-le}
-use lib.Seq.{drop-cons, drop-drop}
-use Rattle.base.proofs.Truth.{is-false}
+use lib.ListN.{length, take, drop, getD}
+use Rattle.tokens.specs.Remarks.{opened, stretch}
 use Rattle.tokens.specs.Words.{front, every}
+use Rattle.tokens.proofs.Stretch.{stretch-nil, stretch-cons, stretch-le, stretch-end, stretch-stop, stretch-more}
 
-pub front-end : (t : ℕ → Bool) (text : List ℕ) (at : ℕ) → length text ≤ at → at + front t (drop at text) ≡ at
+abbrev alone : (ℕ → Bool) → Bool → ℕ → Bool
+alone t o b = t b
+
+as-stretch : (t : ℕ → Bool) (o : Bool) (bs : List ℕ) → front t bs ≡ stretch (alone t) o bs
 unfolding front
-front-end t text at h = rw (drop-of-length-le text h) (add-zero at)
+as-stretch t o [] = sym (stretch-nil (alone t) o)
+as-stretch t o (b ∷ bs) = rw (stretch-cons (alone t) o b bs) (ap (λ (n : ℕ). cond (t b) (suc n) 0) (as-stretch t (opened o b) bs))
 
-pub front-stop : (t : ℕ → Bool) (text : List ℕ) (at : ℕ) → at < length text → t (getD text at 0) ≡ false → at + front t (drop at text) ≡ at
-unfolding front
-front-stop t text at h e = rw (drop-cons text at 0 h, e) (add-zero at)
+module _ (t : ℕ → Bool) where
+  pub front-le : (bs : List ℕ) → front t bs ≤ length bs
+  front-le bs = rw (as-stretch t false bs) (stretch-le (alone t) false bs)
 
-pub front-more : (t : ℕ → Bool) (text : List ℕ) (at : ℕ) → at < length text → t (getD text at 0) ≡ true
-    → at + front t (drop at text) ≡ at + 1 + front t (drop (at + 1) text)
-unfolding front
-front-more t text at h e = rw (drop-cons text at 0 h, e, add-one at) (add-suc _ _ ∙ sym (suc-add _ _))
+  module _ (text : List ℕ) (at : ℕ) where
+    pub front-end : length text ≤ at → at + front t (drop at text) ≡ at
+    front-end h = rw (as-stretch t false (drop at text)) (stretch-end (alone t) false text at h)
 
-cond-le : (b : Bool) (n m : ℕ) → n ≤ m → cond b (suc n) 0 ≤ suc m
-cond-le true n m h = omega arith
-cond-le false n m h = omega arith
+    module _ (h : at < length text) where
+      pub front-stop : t (getD text at 0) ≡ false → at + front t (drop at text) ≡ at
+      front-stop e = rw (as-stretch t false (drop at text)) (stretch-stop (alone t) false text at h e)
 
-pub front-le : (t : ℕ → Bool) (bs : List ℕ) → front t bs ≤ length bs
-unfolding front
-front-le t [] = omega arith
-front-le t (b ∷ bs) = cond-le (t b) (front t bs) (length bs) (front-le t bs)
+      pub front-more : t (getD text at 0) ≡ true → at + front t (drop at text) ≡ at + 1 + front t (drop (at + 1) text)
+      front-more e =
+          let o = opened false (getD text at 0) in
+          rw (as-stretch t false (drop at text), as-stretch t o (drop (at + 1) text)) (stretch-more (alone t) false text at h e)
 
--- Where there is no front the next byte does not pass; so it is past the front.
-pub front-fails : (t : ℕ → Bool) (b : ℕ) (bs : List ℕ) → front t (b ∷ bs) ≡ 0 → t b ≡ false
-unfolding front
-front-fails t b bs e = is-false (t b) (λ q. let z : suc (front t bs) ≡ 0 = rw q at e in omega arith)
+  -- Each byte of the front passes.
+  within-front : (b : ℕ) (bs : List ℕ) (v : Bool) → t b ≡ v → every t (take (front t bs) bs) ≡ true
+      → every t (take (cond v (suc (front t bs)) 0) (b ∷ bs)) ≡ true
+  within-front b bs true e h = rw e h
+  within-front b bs false e h = refl
 
-after : (t : ℕ → Bool) (b : ℕ) (bs : List ℕ) (v : Bool) → t b ≡ v → front t (drop (front t bs) bs) ≡ 0
-    → front t (drop (cond v (suc (front t bs)) 0) (b ∷ bs)) ≡ 0
-unfolding front
-after t b bs true e h = h
-after t b bs false e h = rw e
-
-pub front-past : (t : ℕ → Bool) (bs : List ℕ) → front t (drop (front t bs) bs) ≡ 0
-unfolding front
-front-past t [] = refl
-front-past t (b ∷ bs) = after t b bs (t b) refl (front-past t bs)
-
-pub front-again : (t : ℕ → Bool) (text : List ℕ) (at : ℕ) → front t (drop (at + front t (drop at text)) text) ≡ 0
-front-again t text at = rw (← drop-drop (front t (drop at text)) at text) (front-past t (drop at text))
-
--- Each byte of the front passes.
-within-front : (t : ℕ → Bool) (b : ℕ) (bs : List ℕ) (v : Bool) → t b ≡ v → every t (take (front t bs) bs) ≡ true
-    → every t (take (cond v (suc (front t bs)) 0) (b ∷ bs)) ≡ true
-within-front t b bs true e h = rw e h
-within-front t b bs false e h = refl
-
-pub front-every : (t : ℕ → Bool) (bs : List ℕ) → every t (take (front t bs) bs) ≡ true
-unfolding front
-front-every t [] = refl
-front-every t (b ∷ bs) = within-front t b bs (t b) refl (front-every t bs)
+  pub front-every : (bs : List ℕ) → every t (take (front t bs) bs) ≡ true
+  unfolding front
+  front-every [] = refl
+  front-every (b ∷ bs) = within-front b bs (t b) refl (front-every bs)

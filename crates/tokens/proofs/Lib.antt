@@ -1,6 +1,8 @@
 pub mod Below
+pub mod Stretch
 pub mod Front
 pub mod Between
+pub mod Remarks
 pub mod Steps
 pub mod Spans
 pub mod Foreign

@@ -7,7 +7,8 @@ use native.Mathlib.Omega.{arith}
 use lib.ListN.{length, take, drop, getD, length-drop, length-map, List·getD-map}
 use lib.Seq.{drop-drop, getD-take}
 use Rattle.tokens.specs.Classes.{worded}
-use Rattle.tokens.specs.Words.{front, blanks, word-at}
+use Rattle.tokens.specs.Remarks.{blanks}
+use Rattle.tokens.specs.Words.{front, word-at}
 use Rattle.tokens.specs.Spans.{Span, width, cut, spans, spans-of, tokens, places}
 use Rattle.tokens.proofs.Steps.{width-some}
 

@@ -8,11 +8,13 @@ use native.Mathlib.Nat.{add-zero, sub-zero, sub-eq-zero-of-le}
 use native.Mathlib.Omega.{arith}
 use lib.ListN.{length, take, drop, length-drop}
 use lib.Seq.{drop-drop}
-use Rattle.tokens.specs.Classes.{worded, blank}
-use Rattle.tokens.specs.Words.{front, blanks}
+use Rattle.tokens.specs.Classes.{worded}
+use Rattle.tokens.specs.Remarks.{stretch, blanks}
+use Rattle.tokens.specs.Words.{front}
 use Rattle.tokens.specs.Spans.{Span, width, cut, spans, spans-of}
 use Rattle.tokens.specs.Rest.{rest}
-use Rattle.tokens.proofs.Front.{front-le, front-again}
+use Rattle.tokens.proofs.Front.{front-le}
+use Rattle.tokens.proofs.Remarks.{blanks-again}
 
 wide-if : (v : Bool) (n : ℕ) → 0 < cond v (cond v (suc n) 0) 1
 wide-if true n = omega arith
@@ -44,7 +46,7 @@ rest-le l = rw (length-drop (blanks l) l) (omega arith)
 
 -- Any bound that is no less than the bytes left gives the same tokens.
 pub spans-bound : (f g : ℕ) (at : ℕ) (l : List ℕ) → length l ≤ f → length l ≤ g → spans f at l ≡ spans g at l
-unfolding spans front
+unfolding spans stretch
 spans-bound zero zero at l h k = refl
 spans-bound zero (suc g) at [] h k = refl
 spans-bound zero (suc g) at (b ∷ l) h k = let z : ⊥ = omega arith in absurd z
@@ -75,7 +77,7 @@ rest-cut text at = rw (← drop-drop (blanks (drop at text)) at text) (sym (rest
 -- Blanks make no difference.
 pub rest-skip : (text : List ℕ) (at i : ℕ) → i ≡ at + blanks (drop at text) → (blanks (drop i text) ≡ 0) × (rest text at ≡ rest text i)
 rest-skip text at i e =
-    let z : blanks (drop i text) ≡ 0 = rw e (front-again blank text at) in
+    let z : blanks (drop i text) ≡ 0 = rw e (blanks-again text at) in
     (z, rest-cut text at ∙ rw (← e, rest-cut text i, z, add-zero i))
 
 cut-some : (r : ℕ → List ℕ → List Span) (at : ℕ) (l : List ℕ) → 0 < length l

@@ -1,30 +1,31 @@
 -- Laws of tokens: the tokens of texts are proper, their numbers are those of their bytes, and writing and reading a token are inverse to each other.
 use mathlib.Core.Path.{_≡_, refl, sym, _∙_, ap}
 use mathlib.Core.Logic.{_⊎_, inl, inr}
-use mathlib.Core.Bool.{Bool, true, false, not, _&&_, _||_, cond, and-true, true≢false, false≢true}
+use mathlib.Core.Bool.{Bool, true, false, _&&_, _||_, cond, and-true, true≢false, false≢true}
 use mathlib.Core.List.{List, [], _∷_, map}
 use Prim.Native.Nat.{ℕ, suc, _+_, _≤_, _<_}
 use native.Mathlib.Nat.{add-zero, zero-add}
 use native.Mathlib.Omega.{arith}
-use lib.Dec.{eqb, leb}
+use lib.Dec.{eqb}
 use lib.ListN.{length, getD}
-use borrow.Author.Tests.{eqb-true, lt-ltb, ltb-true, le-leb, leb-true, leb-false}
+use borrow.Author.Tests.{eqb-true, lt-ltb, ltb-true, le-leb}
 use Rattle.base.specs.Text.{bytes}
 use Rattle.diagram.specs.Tree.{Name, all, some, one}
 use Rattle.diagram.specs.Names.{same}
-use Rattle.base.proofs.Truth.{clash, by-cases, and-l, and-i, not-i, not-e}
+use Rattle.base.proofs.Truth.{clash, by-cases, and-l, and-i}
 use Rattle.base.proofs.Decided.{same-decides}
-use Rattle.tokens.specs.Classes.{between, spacing, class-of, foreign, worded, blank}
+use Rattle.tokens.specs.Classes.{between, spacing, class-of, foreign, worded, unbroken}
 use Rattle.tokens.specs.Words.{keywords, numerals, place-in, keyword, short, every, lettered, numeral as numeral-code, word-code, code as bytes-code}
 use Rattle.tokens.specs.Spans.{Span, spans-of}
 use Rattle.tokens.specs.Token.{Sign, opening, closing, comma, colon, Keyword, flow, leaf, group, replicator, loop, sign, key, name, numeral, other, in-order, key-place, word-place, keyed, named, class-token, numeral-token, word-token, token-of, text-tokens, proper, all-proper, sign-bytes, bytes-of, sound, sign-code, code}
 use Rattle.tokens.proofs.Below.{at-below}
-use Rattle.tokens.proofs.Between.{in-range, between-in, between-low, class-small}
+use Rattle.tokens.proofs.Between.{in-range, between-in}
+use Rattle.tokens.proofs.Remarks.{worded-unbroken}
 
--- What a token's bytes can be: a word, or one byte that is no blank.
+-- What a token's bytes can be: a word, or one byte that is no blank and starts no remark.
 abbrev pub token : Name → Bool
 token [] = false
-token (b ∷ []) = not (blank b)
+token (b ∷ []) = unbroken b
 token (b ∷ c ∷ w) = every worded (b ∷ c ∷ w)
 
 abbrev pub all-tokens : List Name → Bool
@@ -79,7 +80,8 @@ classed b =
     (at 58 colon refl (refl, omega arith) refl
     (up (between 65 90 b || between 97 122 b) refl (inr (omega arith))
     (up (between 48 57 b) refl (inr (omega arith))
-    (up (eqb b 95) refl (inr (omega arith)) (up (spacing b) refl (inr (omega arith)) (no-sign refl (inl refl)))))))))
+    (up (eqb b 95) refl (inr (omega arith))
+    (up (spacing b) refl (inr (omega arith)) (up (eqb b 35) refl (inr (omega arith)) (no-sign refl (inl refl))))))))))
   where
     at : (v : ℕ) {c d : ℕ} (s : Sign) → class-token c ≡ sign s → (c ≡ sign-code s) × (1 ≤ c) → v ∷ [] ≡ sign-bytes s → Classed b d
         → Classed b (cond (eqb b v) c d)
@@ -158,7 +160,7 @@ written words w h n = go (sorted words w)
 pub whole-word : (w : Name) → every worded w ≡ true → worded (getD w 0 0) ≡ true → token w ≡ true
 unfolding class-of
 whole-word [] h p = absurd (false≢true p)
-whole-word (b ∷ []) h p = let r = in-range 5 7 (class-of b) p in not-i (between-low 8 8 (class-of b) (omega arith))
+whole-word (b ∷ []) h p = worded-unbroken b p
 whole-word (b ∷ c ∷ w) h p = h
 
 -- With document 01's words a token has the number of its bytes, unless it is a foreign byte, which has the number 0 and is wanted nowhere.
@@ -187,13 +189,9 @@ word-coded w h = go (found keywords w)
     go (there i l f e) = rw (f 0 9, f 7 0, zero-add i, lt-ltb i 9 l, lt-ltb 0 (7 + i) (omega arith)) (ap (λ (k : ℕ). 7 + k) (key-at i l))
 
 -- A byte that stands in no word has no class past the signs'.
-no-higher : (c : ℕ) → c ≤ 8 → 5 ≤ c → between 5 7 c ≡ false → between 8 8 c ≡ false → ⊥
-no-higher c l h p q =
-    by-cases (leb c 7) (λ r. clash (between-in 5 7 c h (leb-true c 7 r)) p) (λ r. clash (between-in 8 8 c (omega (arith, leb-false c 7 r)) l) q)
-
 no-word : (w : Name) → token w ≡ true → worded (getD w 0 0) ≡ false → 5 ≤ class-of (getD w 0 0) → ⊥
 no-word [] h p c = false≢true h
-no-word (b ∷ []) h p c = no-higher (class-of b) (class-small b) c p (not-e (blank b) h)
+no-word (b ∷ []) h p c = clash (between-in 5 7 (class-of b) c (in-range 0 7 (class-of b) h .1)) p
 no-word (b ∷ d ∷ w) h p c = clash (and-l (worded b) (every worded (d ∷ w)) h) p
 
 pub known-code : (w : Name) → token w ≡ true → foreign (getD w 0 0) ≡ false → bytes-code w ≡ code (token-of keywords w)

@@ -1,4 +1,5 @@
 pub mod Classes
+pub mod Remarks
 pub mod Words
 pub mod Parts
 pub mod Spans

@@ -10,7 +10,8 @@ use Rattle.tokens.specs.Spans.{Span, spans-of}
 use Rattle.tokens.specs.declared.Scan.{Scan}
 use Rattle.tokens.specs.declared.Scan.the-variants.{Tokens, Refused}
 
--- Number 3: the place of the first token whose first byte is foreign, or the number given. A foreign byte is a token of its own.
+-- Number 3: the place of the first token whose first byte is foreign, or the number given. A foreign byte is a token of its own, also in a
+-- remark, since what is skipped ends before it.
 unfoldable pub foreign-in : List Span → ℕ → ℕ
 foreign-in [] none = none
 foreign-in (s ∷ ss) none = cond (foreign (getD (s .bytes) 0 0)) (s .place) (foreign-in ss none)

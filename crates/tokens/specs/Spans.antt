@@ -5,7 +5,8 @@ use Prim.Native.Nat.{ℕ, zero, suc, _+_}
 use lib.ListN.{length, take, drop}
 use Rattle.diagram.specs.Tree.{Name}
 use Rattle.tokens.specs.Classes.{worded}
-use Rattle.tokens.specs.Words.{front, blanks}
+use Rattle.tokens.specs.Remarks.{blanks}
+use Rattle.tokens.specs.Words.{front}
 
 -- A token: its bytes, and the place of the first of them.
 pub record Span : Type 0 where
@@ -23,7 +24,7 @@ cut rest at [] = []
 cut rest at (b ∷ bs) =
     record { place = at; bytes = take (width (b ∷ bs)) (b ∷ bs) } ∷ rest (at + width (b ∷ bs)) (drop (width (b ∷ bs)) (b ∷ bs))
 
--- The tokens of what starts at `at`, at most f of them: blanks are skipped before each.
+-- The tokens of what starts at `at`, at most f of them: blanks and remarks are skipped before each.
 unfoldable pub spans : ℕ → ℕ → List ℕ → List Span
 spans zero at bs = []
 spans (suc f) at bs = cut (λ at bs. spans f at bs) (at + blanks bs) (drop (blanks bs) bs)

@@ -7,16 +7,12 @@ use lib.ListN.{length, getD, take, drop}
 use Rattle.base.specs.Text.{bytes}
 use Rattle.diagram.specs.Tree.{Name}
 use Rattle.diagram.specs.Names.{same}
-use Rattle.tokens.specs.Classes.{class-of, letter, worded, blank}
+use Rattle.tokens.specs.Classes.{class-of, letter, worded}
 
 -- How many bytes at the front of a text pass a test, before the first that does not.
 unfoldable pub front : (ℕ → Bool) → List ℕ → ℕ
 front t [] = 0
 front t (b ∷ bs) = cond (t b) (suc (front t bs)) 0
-
--- "Blanks may stand before, between and after tokens": how many bytes at the front are to be skipped.
-abbrev pub blanks : List ℕ → ℕ
-blanks = front blank
 
 -- "A word is a longest run of letters, digits and underscores": the one that starts here.
 abbrev pub word-at : List ℕ → ℕ → Name

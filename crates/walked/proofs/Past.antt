@@ -12,7 +12,8 @@ use Rattle.diagram.specs.Tree.{Name}
 use Rattle.base.proofs.Lists.{drop-next}
 use Rattle.base.proofs.Truth.{by-cases}
 use Rattle.tokens.specs.Classes.{class-of, worded}
-use Rattle.tokens.specs.Words.{keywords, place-in, numerals, lettered, blanks, word-at}
+use Rattle.tokens.specs.Remarks.{blanks}
+use Rattle.tokens.specs.Words.{keywords, place-in, numerals, lettered, word-at}
 use Rattle.tokens.specs.Spans.{Span, width, spans-of, places}
 use Rattle.tokens.specs.Token.{opening, closing, comma, colon, Keyword, Token, sign, key, name, numeral, other, word-place, keyed, named, class-token, key-token, numeral-token, word-token, token-of, text-tokens}
 use Rattle.tokens.specs.Rest.{rest}

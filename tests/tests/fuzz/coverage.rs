@@ -1,6 +1,7 @@
 //! What the generated cases met, as the reference tells it: how often each
 //! answer of each call, each kind inside each other, each limit, each situation
-//! of a run, each way to make a case, each length of a buffer.
+//! of a run, each place and look of a remark, each way to make a case, each length
+//! of a buffer.
 
 use crate::case::{Call, Case, Damage, RunCase, TableCase, TextCase};
 use crate::machines::{add_machine, machine_nestings, MACHINES};
@@ -14,6 +15,7 @@ use reference::kit::Counts;
 use reference::listing::{events, listing, Events, LISTING_LIMIT};
 use reference::meaning::Diagram;
 use reference::plain::TABLE_LIMIT;
+use reference::remarks::{add_remarks, remarks_in, REMARKS};
 use reference::table::{self, RECORD_BYTES};
 use reference::{print, read, Kind, NodeInfo, Refusal, Summary, TEXT_LIMIT, WORD_LIMIT};
 use std::collections::BTreeSet;
@@ -105,7 +107,7 @@ fn nesting_titles(relation: &str, can_hold: fn(&str, &str) -> bool) -> Vec<Strin
     possible.map(|(outer, inner)| format!("{inner} {relation} {outer}")).collect()
 }
 
-const TRAITS: [&str; 19] = [
+const TRAITS: [&str; 21] = [
     "drawing with 512 events",
     "drawing with 768 copies",
     "drawing with 256 nodes",
@@ -125,6 +127,8 @@ const TRAITS: [&str; 19] = [
     "listing of over 8,192 bytes",
     "text with every node asked for",
     "text with some nodes asked for",
+    "run of a drawing with remarks",
+    "machine of a drawing with remarks",
 ];
 
 const BUFFERS: [(&str, usize); 5] = [
@@ -160,7 +164,7 @@ fn titles() -> Vec<String> {
     let answers = CALLS.iter().flat_map(|call| numbers_of(call).into_iter().map(move |number| title(call, number)));
     let buffers = BUFFERS.iter().flat_map(|(call, _)| LENGTHS.map(|length| format!("{call} buffer {length}")));
     let numbers = SORTS.iter().flat_map(|sort| EVENT_NUMBERS.map(|number| format!("{sort} event number {number}")));
-    let plain = TRAITS.iter().chain(&SITUATIONS).chain(&WAYS).chain(&TABLES).chain(&MACHINES);
+    let plain = TRAITS.iter().chain(&REMARKS).chain(&SITUATIONS).chain(&WAYS).chain(&TABLES).chain(&MACHINES);
     answers
         .chain(nesting_titles(DIRECTLY, can_hold_directly))
         .chain(nesting_titles(INSIDE, can_hold))
@@ -194,6 +198,7 @@ fn add_text(case: &TextCase, counts: &mut Counts) {
     counts.add(&title("print", number_of(&print(&case.text, case.print))));
     counts.add(&title("translate", translated));
     counts.add(&title("list", number));
+    add_remarks(&case.text, counts);
     case.nodes.iter().for_each(|index| add_index(&summary, *index, counts));
     let events = events(&case.text);
     add_answers(case, &events, counts);
@@ -347,6 +352,7 @@ fn add_run(case: &RunCase, counts: &mut Counts) {
         }
     }
     add_drawing(&case.text, &summary, &events(&case.text), counts);
+    counts.add_if(!remarks_in(&case.text).is_empty(), "run of a drawing with remarks");
     watch(&diagram, &case.calls, counts);
 }
 
@@ -375,6 +381,8 @@ fn add_table(case: &TableCase, counts: &mut Counts) {
 fn add_eventb(case: &Asked, counts: &mut Counts) {
     let drawing = drawing_of(&case.text);
     add_length("eventb", case.length, counts);
+    let remarked = drawing.is_ok() && !remarks_in(&case.text).is_empty();
+    counts.add_if(remarked, "machine of a drawing with remarks");
     for number in &case.numbers {
         counts.add(&title("eventb", number_of(&asked(&drawing, *number, case.length))));
         if let Ok(diagram) = &drawing {
@@ -433,7 +441,8 @@ impl Display for Coverage {
         writeln!(out)?;
         let lengths = OFFER_LENGTHS.map(|length| format!("offer buffer {length}"));
         let records = RECORD_LENGTHS.map(|length| format!("record of {length}"));
-        let plain = TRAITS.iter().chain(&SITUATIONS).chain(&WAYS).chain(&TABLES).chain(&MACHINES).copied();
+        let traits = TRAITS.iter().chain(&REMARKS).chain(&SITUATIONS);
+        let plain = traits.chain(&WAYS).chain(&TABLES).chain(&MACHINES).copied();
         let lines = plain.chain(lengths.iter().map(String::as_str)).chain(records.iter().map(String::as_str));
         for title in lines {
             writeln!(out, "{title:<50} {:>9}", self.counts.get(title).unwrap_or_default())?;

@@ -9,6 +9,7 @@ use reference::eventb::compare::{held, machine_of, numbers_difference, records_d
 use reference::eventb::{drawing_of, EVENTB_LIMIT};
 use reference::generate::{edge_texts, nested_flows, pad_between, root, Random, T, U};
 use reference::plain::calls::{Calls, PROVED, RUST};
+use reference::remarks::after_each_token;
 use reference::{proved, TEXT_LIMIT};
 
 /// So many records of a fixed drawing are looked at.
@@ -32,6 +33,7 @@ fn fixed_machines() -> Vec<Vec<u8>> {
     let mut drawings = vec![T.to_string(), U.to_string(), nested_flows(11), nested_loops(), root(&leaf_loops())];
     drawings.extend(["and", "or", "xor"].map(group));
     drawings.extend(slips());
+    drawings.extend([T, U].map(|text| after_each_token(text, "# a note")));
     let mut drawings: Vec<Vec<u8>> = drawings.into_iter().map(String::into_bytes).collect();
     drawings.push(pad_between(T.as_bytes(), TEXT_LIMIT));
     for plan in [Machine::Exactly(32), Machine::Deep(32), Machine::Nested(32)] {

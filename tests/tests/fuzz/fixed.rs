@@ -16,6 +16,7 @@ use reference::listing::{listing, Event, LISTING_LIMIT};
 use reference::meaning::{Diagram, FINISHED, NOT_FINISHED, NOT_NOW, TAKEN};
 use reference::plain::calls::{Calls, C, PROVED, RUST};
 use reference::plain::TABLE_LIMIT;
+use reference::remarks::{after_each_token, leaves_with_remarks};
 use reference::table::RECORD_BYTES;
 use reference::{proved, read, worked, TEXT_LIMIT, WORD_LIMIT};
 
@@ -191,7 +192,7 @@ fn assert_runs_alike(text: &[u8], random: &mut Random, library: &Calls) {
 }
 
 /// The drawings of document 01 and its slips, and ones at the limits; some of
-/// them also with blanks among their tokens.
+/// them also with blanks or remarks among their tokens.
 fn fixed_drawings() -> Vec<Vec<u8>> {
     let mut drawings: Vec<Vec<u8>> = worked::accepted().into_iter().map(|(text, _)| text).collect();
     drawings.extend([every_constructor(), many_values(), long_lines()].map(String::into_bytes));
@@ -199,6 +200,9 @@ fn fixed_drawings() -> Vec<Vec<u8>> {
     let with_blanks = |text: &Vec<u8>| pad_between(text, (2 * text.len()).min(TEXT_LIMIT));
     let spread: Vec<Vec<u8>> = drawings.iter().map(with_blanks).collect();
     drawings.extend(spread);
+    let drawn = [every_constructor(), many_values(), nested_flows(11), many_copies(8)];
+    drawings.extend(drawn.map(|text| after_each_token(&text, "# a note").into_bytes()));
+    drawings.push(leaves_with_remarks(64).into_bytes());
     drawings.extend(slips().into_iter().chain(large_constructors()).map(String::into_bytes));
     drawings
 }

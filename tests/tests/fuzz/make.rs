@@ -22,11 +22,12 @@ pub struct Made {
 }
 
 /// All ways that `make` tells.
-pub const WAYS: [&str; 30] = [
+pub const WAYS: [&str; 31] = [
     "text: drawing",
     "text: drawing, tokens damaged",
     "text: drawing, bytes damaged",
     "text: tokens in no order",
+    "text: remarks, hardly a token",
     "text: random bytes",
     "text: accepted drawing",
     "text: accepted drawing, bytes damaged",
@@ -105,6 +106,7 @@ fn text_of_any_sort(random: &mut Random) -> (&'static str, Vec<u8>) {
         Sort::DamagedTokens => "text: drawing, tokens damaged",
         Sort::DamagedBytes => "text: drawing, bytes damaged",
         Sort::TokenSoup => "text: tokens in no order",
+        Sort::Remarks => "text: remarks, hardly a token",
         Sort::Bytes => "text: random bytes",
     };
     (way, text_of(sort, random))

@@ -98,9 +98,25 @@ fn is_in_word(byte: &u8) -> bool {
     byte.is_ascii_alphanumeric() || *byte == b'_'
 }
 
-/// Words, and all other bytes one by one. Any text has them.
+/// Words, remarks, and all other bytes one by one. Any text has them.
 fn pieces(text: &[u8]) -> Vec<&[u8]> {
-    text.chunk_by(|left, right| is_in_word(left) && is_in_word(right)).collect()
+    let mut pieces = Vec::new();
+    let mut left = text;
+    while let Some(first) = left.first() {
+        let length = match first {
+            b'#' => left.iter().take_while(|byte| **byte != b'\n').count(),
+            _ => left.iter().take_while(|byte| is_in_word(byte)).count().max(1),
+        };
+        let (piece, after) = left.split_at(length);
+        pieces.push(piece);
+        left = after;
+    }
+    pieces
+}
+
+/// What may stand between tokens.
+fn is_gap(piece: &[u8]) -> bool {
+    piece.starts_with(b"#") || piece == b" " || piece == b"\n"
 }
 
 fn with_fewer_bytes(text: &[u8], fails: &dyn Fn(&[u8]) -> bool) -> Vec<u8> {
@@ -112,9 +128,9 @@ fn with_fewer_bytes(text: &[u8], fails: &dyn Fn(&[u8]) -> bool) -> Vec<u8> {
 /// are taken.
 fn with_fewer_nodes(text: &[u8], takes: &mut dyn FnMut(&[u8]) -> bool) -> Vec<u8> {
     let mut text = text.to_vec();
-    let without_blanks: Vec<u8> = text.iter().copied().filter(|byte| !b" \n".contains(byte)).collect();
-    if without_blanks != text && takes(&without_blanks) {
-        text = without_blanks;
+    let without_gaps = pieces(&text).into_iter().filter(|piece| !is_gap(piece)).collect::<Vec<_>>().concat();
+    if without_gaps != text && takes(&without_gaps) {
+        text = without_gaps;
     }
     let mut node = 0;
     while let Some(simpler) = simpler_texts(&text, node) {
@@ -397,8 +413,9 @@ mod wrong {
     use reference::plain::calls::{Calls, PROVED};
     use reference::plain::TABLE_LIMIT;
     use reference::plain_eventb::{written, Ways, RIGHT};
-    use reference::proved;
+    use reference::remarks::remarks_in;
     use reference::table::Words;
+    use reference::{proved, TEXT_LIMIT};
 
     /// Prints a drawing with a `some` in it without its last byte.
     fn short_print(text: &[u8], out: &mut [u8]) -> u64 {
@@ -448,6 +465,22 @@ mod wrong {
         }
     }
 
+    /// Takes byte 9 in a remark for a blank.
+    fn read_with_tabs(text: &[u8]) -> u64 {
+        let mut text = text.to_vec();
+        for remark in remarks_in(&text) {
+            text[remark].iter_mut().filter(|byte| **byte == 9).for_each(|byte| *byte = b' ');
+        }
+        proved::read(&text)
+    }
+
+    /// Prints a # right before a line end with the drawing.
+    fn print_with_marks(text: &[u8], out: &mut [u8]) -> u64 {
+        let length = proved::print(text, out);
+        let accepted = length >> 32 == 0;
+        length + u64::from(accepted && text.windows(2).any(|pair| pair == b"#\n"))
+    }
+
     /// The case that is printed when a library differs; it fails again.
     fn printed(library: &Calls) -> Case {
         let (failing, _) = play(1, 20_000, library);
@@ -465,6 +498,23 @@ mod wrong {
         let Case::Text(case) = case else { panic!("no text: {case}") };
         assert!(case.text.len() <= 60, "{}", case.text.escape_ascii());
         assert!(case.nodes.is_empty() && case.events.is_empty() && case.translate == TABLE_LIMIT);
+    }
+
+    #[test]
+    fn a_tab_in_a_remark_is_found_and_made_small() {
+        let case = printed(&Calls { read: read_with_tabs, ..PROVED });
+        let Case::Text(case) = case else { panic!("no text: {case}") };
+        assert_eq!(case.text, b"#\t");
+        assert!(case.nodes.is_empty() && case.events.is_empty() && case.print == TEXT_LIMIT);
+    }
+
+    /// The drawing is made smaller though it must keep a remark.
+    #[test]
+    fn a_printed_remark_is_found_and_made_small() {
+        let case = printed(&Calls { print: print_with_marks, ..PROVED });
+        let Case::Text(case) = case else { panic!("no text: {case}") };
+        assert!(case.text.len() <= 30, "{}", case.text.escape_ascii());
+        assert_eq!(remarks_in(&case.text).len(), 1);
     }
 
     #[test]

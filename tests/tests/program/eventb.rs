@@ -14,6 +14,7 @@ use reference::generate::{
 };
 use reference::kit::number_from;
 use reference::meaning::Diagram;
+use reference::remarks::{after_each_token, padded_by_a_remark};
 use reference::{read, worked, TEXT_LIMIT};
 use std::ffi::OsString;
 use std::fs::{self, File};
@@ -91,7 +92,7 @@ fn drawings_worked_through() {
     let nested = root("loop(flow(o,1)(loop(flow(i,1)(leaf(a)(1)))(0)leaf(b)(1)))(0)leaf(c)(1)");
     let or = root("or(flow(p,1)(leaf(a)(0)leaf(b)(1))leaf(c))(0)leaf(d)(1)");
     let xor = root("xor(flow(p,1)(loop(flow(r,1)(leaf(a)(1)))(0)leaf(b)(1))leaf(c))(1)");
-    for text in [T, U, &nested, &or, &xor, &nested_flows(11)] {
+    for text in [T, U, &nested, &or, &xor, &nested_flows(11), &after_each_token(T, "# a note")] {
         assert!(assert_played(&program, text.as_bytes()), "{text} has no machine");
     }
     for plan in [Plan::Exactly(32), Plan::Deep(32), Plan::Nested(32), Plan::UpTo(1)] {
@@ -180,6 +181,7 @@ fn blanks_and_lengths() {
         blank_end.resize(length, b'\n');
         assert_eq!(assert_played(&program, &blank_end), length <= TEXT_LIMIT);
         assert_eq!(assert_played(&program, &pad_between(U.as_bytes(), length)), length <= TEXT_LIMIT);
+        assert_eq!(assert_played(&program, &padded_by_a_remark(U.as_bytes(), length, false)), length <= TEXT_LIMIT);
         assert!(!assert_played(&program, &vec![b' '; length]));
     }
 }

@@ -5,6 +5,7 @@ use reference::drawings::{accepted_text, Size};
 use reference::generate::{damaged, many_events, pad_between, random_bytes, random_text, Random, T, U};
 use reference::kit::number_from;
 use reference::listing::listing;
+use reference::remarks::{padded_by_a_remark, remark_texts, remarks_in};
 use reference::{read, worked, TEXT_LIMIT};
 use std::ffi::OsString;
 use std::fs::{self, File};
@@ -37,9 +38,18 @@ fn blanks_and_lengths() {
         blank_end.resize(length, b'\n');
         assert_played(&program, &blank_end);
         assert_played(&program, &pad_between(many_events(16).as_bytes(), length));
+        assert_played(&program, &padded_by_a_remark(T.as_bytes(), length, true));
+        assert_played(&program, &padded_by_a_remark(T.as_bytes(), length, false));
         assert_played(&program, &vec![b' '; length]);
         assert_played(&program, &vec![0xFF; length]);
     }
+}
+
+/// Some of them, from all over the list.
+#[test]
+fn remarks() {
+    let program = program(PROGRAM);
+    remark_texts().iter().step_by(23).for_each(|text| assert_played(&program, text));
 }
 
 #[test]
@@ -56,8 +66,8 @@ fn random_drawings_and_bytes() {
     }
 }
 
-/// The drawings that the repository ships: accepted, and listed as the
-/// reference does.
+/// The drawings that the repository ships: what each shows is said in a remark,
+/// and it is accepted and listed as the reference does.
 #[test]
 fn drawings_shipped() {
     let program = program(PROGRAM);
@@ -66,6 +76,7 @@ fn drawings_shipped() {
         let path = entry.unwrap().path();
         if path.extension().is_some_and(|extension| extension == "adl") {
             let text = fs::read(&path).unwrap();
+            assert!(!remarks_in(&text).is_empty(), "{} has no remark", path.display());
             assert!(read(&text).is_ok(), "{} is turned away", path.display());
             assert_played(&program, &text);
             played += 1;

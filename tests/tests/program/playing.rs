@@ -8,6 +8,7 @@ use reference::generate::{damaged, many_events, pad_between, random_bytes, Rando
 use reference::kit::number_from;
 use reference::meaning::{Book, Diagram};
 use reference::player::{label, played, LINE_LIMIT};
+use reference::remarks::after_each_token;
 use reference::TEXT_LIMIT;
 use std::ffi::OsString;
 use std::fs;
@@ -81,11 +82,24 @@ fn lines_of_all_sorts() {
     }
 }
 
+/// An empty line ends the drawing, and no remark goes on past it. Among the events
+/// there are none: a # is a part of its line.
+#[test]
+fn remarks() {
+    let program = program(PROGRAM);
+    let drawings = [after_each_token(T, "# take"), format!("# a note\n{T} # a note"), format!("{T}#\n#")];
+    for text in drawings.iter().map(String::as_str).chain(["#", "# \t"]) {
+        assert_played(&program, text.as_bytes());
+        assert_played(&program, format!("{text}\n\ntake\n2\n").as_bytes());
+        assert_played(&program, format!("{text}\n\n# a note\n0#\ntake # a note\n#\n\nfree\n").as_bytes());
+    }
+}
+
 #[test]
 fn texts_at_the_limit() {
     let program = program(PROGRAM);
     for length in [TEXT_LIMIT - 2, TEXT_LIMIT - 1, TEXT_LIMIT, TEXT_LIMIT + 1, 200_000] {
-        let text: Vec<u8> = without_line_ends(pad_between(many_events(16).as_bytes(), length));
+        let text = without_empty_lines(pad_between(many_events(16).as_bytes(), length));
         let events: String = (0..6).map(|event| format!("{event}\n")).collect();
         assert_played(&program, &[&text, "\n\n".as_bytes(), events.as_bytes()].concat());
     }
@@ -97,7 +111,7 @@ fn random_drawings_and_events() {
     for seed in (number_from("ADL_SEED", 1)..).take(CASES) {
         let random = &mut Random::new(seed);
         let size = *random.pick(&[Size::Small(10), Size::Middle, Size::Deep, Size::Full]);
-        let text = without_line_ends(accepted_text(size, random));
+        let text = without_empty_lines(accepted_text(size, random));
         let events = random_lines(&text, random);
         assert_played(&program, &[&text, "\n\n".as_bytes(), &events].concat());
         assert_played(&program, &[&damaged(text, random), "\n\n".as_bytes(), &events].concat());
@@ -105,9 +119,15 @@ fn random_drawings_and_events() {
     }
 }
 
-/// A line end may be a blank of the drawing, two of them would end it.
-fn without_line_ends(text: Vec<u8>) -> Vec<u8> {
-    text.into_iter().map(|byte| if byte == b'\n' { b' ' } else { byte }).collect()
+/// A line end may be a blank of the drawing or end a remark, two of them would end
+/// the drawing: the second is made another blank.
+fn without_empty_lines(mut text: Vec<u8>) -> Vec<u8> {
+    for at in 1..text.len() {
+        if text[at - 1] == b'\n' && text[at] == b'\n' {
+            text[at] = b' ';
+        }
+    }
+    text
 }
 
 /// Mostly what may come next, by its number or its label.

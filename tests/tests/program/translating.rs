@@ -6,6 +6,7 @@ use reference::drawings::{accepted_text, Size};
 use reference::generate::{damaged, edge_texts, many_copies, pad_between, random_bytes, Random, T, U};
 use reference::kit::number_from;
 use reference::meaning::{Book, Diagram};
+use reference::remarks::{after_each_token, remark_texts};
 use reference::table::{check, finished, offer, step, SOUND};
 use reference::{read, TEXT_LIMIT};
 use std::ffi::OsString;
@@ -57,7 +58,8 @@ fn offered(table: &[u8], record: &[u8]) -> Vec<usize> {
 #[test]
 fn tables_play_their_drawings() {
     let program = program(PROGRAM);
-    for text in [T.as_bytes(), U.as_bytes(), &pad_between(many_copies(8).as_bytes(), TEXT_LIMIT)] {
+    let noted = after_each_token(T, "# a note");
+    for text in [T.as_bytes(), U.as_bytes(), noted.as_bytes(), &pad_between(many_copies(8).as_bytes(), TEXT_LIMIT)] {
         assert_played(&program, text, &mut Random::new(1));
     }
     for seed in (number_from("ADL_SEED", 1)..).take(CASES) {
@@ -71,7 +73,7 @@ fn tables_play_their_drawings() {
 #[test]
 fn texts_turned_away_give_no_table() {
     let program = program(PROGRAM);
-    for text in edge_texts().iter().step_by(50) {
+    for text in edge_texts().iter().step_by(50).chain(remark_texts().iter().step_by(37)) {
         table_of(&program, text);
     }
     for seed in (number_from("ADL_SEED", 1)..).take(CASES) {

@@ -1,13 +1,15 @@
 -- The pars read are the first of those around.
 use mathlib.Core.Path.{_≡_, ap, _∙_}
+use mathlib.Core.Bool.{false}
 use mathlib.Core.List.{List}
 use Prim.Native.Nat.{ℕ, _+_, _-_, _≤_}
 use native.Mathlib.Omega.{arith}
 use lib.ListN.{drop, length-drop}
 use borrow.Author.Needs.{needs}
 use Rattle.diagram.specs.Tree.{Name}
-use Rattle.tokens.specs.Classes.{class-of, blank}
-use Rattle.tokens.proofs.Front.{front-le}
+use Rattle.tokens.specs.Classes.{class-of}
+use Rattle.tokens.specs.Remarks.{skipped}
+use Rattle.tokens.proofs.Stretch.{stretch-le}
 use Rattle.walked.specs.Rows.{past-word, Listed}
 use Rattle.names.specs.code.Pars.{Around}
 use Rattle.names.proofs.Reading.{Reading, read-start, read-inside, read-end, read-over, read-other, read-next, par-ended}
@@ -61,7 +63,7 @@ again-requires c κs =
     let g = c .before .before .before .before .before .before .before in
     let z = g .before .before in
     let text = z .before .before .before .args .text .now in
-    (omega (arith, g .gap2 .ensures, g .before .if1 .left, front-le blank (drop (z .gap .result + 1) text), length-drop (z .gap .result + 1) text), z .before .before .before .pre .2)
+    (omega (arith, g .gap2 .ensures, g .before .if1 .left, stretch-le skipped false (drop (z .gap .result + 1) text), length-drop (z .gap .result + 1) text), z .before .before .before .pre .2)
 
 returns-4 : tie.Need-returns-4 Inv-loop μ-loop
 returns-4 c = λ at ps ns e l a.

@@ -8,6 +8,7 @@ use reference::generate::{
     every_constructor, longest_drawing, many_copies, many_events, nested_flows, pad_between, root_with_leaves, Random,
     T,
 };
+use reference::remarks::leaves_with_remarks;
 use reference::TEXT_LIMIT;
 
 pub fn show(effort: Effort) {
@@ -42,6 +43,7 @@ fn races_of(call: Call, inputs: &[Input]) -> Vec<Race<'_>> {
 }
 
 const LARGEST: &str = "768 copies";
+const REMARKED: &str = "remarks on every line";
 const LARGEST_MACHINE: &str = "32 events, deep ors";
 
 fn texts() -> Vec<Input> {
@@ -52,6 +54,7 @@ fn texts() -> Vec<Input> {
         Input::text("255 leaves", root_with_leaves(255)),
         Input::text("512 events", many_events(16)),
         Input::text(LARGEST, many_copies(8)),
+        Input::text(REMARKED, leaves_with_remarks(64)),
         Input::text("16,384 bytes, few blanks", longest_drawing()),
         Input::text("16,384 bytes, 255 leaves", pad_between(root_with_leaves(255).as_bytes(), TEXT_LIMIT)),
         Input::text("16,384 bytes, 768 copies", pad_between(many_copies(8).as_bytes(), TEXT_LIMIT)),
@@ -66,9 +69,10 @@ fn machines() -> Vec<Input> {
     vec![Input::text("T", T), Input::text(LARGEST_MACHINE, nested)]
 }
 
-/// Those of the drawings, but for blanks, which no table shows; and made ones.
+/// Those of the drawings, but for blanks and remarks, which no table shows; and
+/// made ones.
 fn tables(texts: &[Input]) -> Vec<Input> {
-    let drawings = texts.iter().filter(|text| text.bytes.len() < TEXT_LIMIT);
+    let drawings = texts.iter().filter(|text| text.bytes.len() < TEXT_LIMIT && text.title != REMARKED);
     let mut tables: Vec<Input> = drawings.map(Input::table_of).collect();
     tables.extend([
         Input::made_table("made, 1 row", 1, 1, Kinds::Random),

@@ -148,16 +148,26 @@ impl Grammar {
     }
 }
 
-/// Longest runs of letters, digits and underscores, and single signs; blanks are
-/// left out.
+/// Longest runs of letters, digits and underscores, and single signs; blanks and
+/// remarks are left out.
 fn tokens(text: &str) -> Vec<&str> {
     let mut tokens = Vec::new();
-    let mut rest = text.trim_start_matches([' ', '\n']);
+    let mut rest = after_blanks(text);
     while !rest.is_empty() {
         let word = rest.find(|sign: char| !sign.is_ascii_alphanumeric() && sign != '_').unwrap_or(rest.len());
         let (token, after) = rest.split_at(word.max(1));
         tokens.push(token);
-        rest = after.trim_start_matches([' ', '\n']);
+        rest = after_blanks(after);
     }
     tokens
+}
+
+/// What is left after blanks, and after remarks, which take the rest of a line.
+fn after_blanks(text: &str) -> &str {
+    let mut rest = text.trim_start_matches([' ', '\n']);
+    while rest.starts_with('#') {
+        let line = rest.find('\n').unwrap_or(rest.len());
+        rest = rest[line..].trim_start_matches([' ', '\n']);
+    }
+    rest
 }
