@@ -2,3 +2,4 @@ mod Ways
 mod Rows
 mod Along
 pub mod Positions
+mod Gaps

@@ -4,7 +4,7 @@ ghost use Prim.Native.Nat.{_+_, _-_, _≤_, _<_};
 ghost use lib.ListN.{getD, length, take, drop};
 ghost use Rattle.diagram.specs.Names.{same as alike};
 ghost use Rattle.tokens.specs.Classes.{between, class-of, within, worded as worded-byte, unbroken};
-ghost use Rattle.tokens.specs.Remarks.{opened, skipped as skips, blanks};
+ghost use Rattle.tokens.specs.Remarks.{blanks};
 ghost use Rattle.tokens.specs.Words.{front, word-at, keyword-in, numeral as numeral-of, word-code};
 ghost use Rattle.tokens.specs.Parts.{Word};
 ghost use Rattle.tokens.specs.Spans.{width, spans-of};
@@ -451,47 +451,37 @@ fn past(text: &[u8], at: usize, low: u8, high: u8, lexicon: &[u8; 400]) -> usize
     i
 }
 
-// Whether a byte stands between tokens: a blank, the # of a remark, and in an open one a byte from 32 to 126 or the byte 10 that ends it.
-fn skipped(b: u8, inside: bool, lexicon: &[u8; 400]) -> bool
-    requires { ⌜ Lexicon (now lexicon) ⌝ }
-    ensures { λ r. ⌜ r ≡ skips inside b ⌝ }
+// Past the bytes from `at` on that a remark may hold.
+fn remark_end(text: &[u8], at: usize) -> usize
+    ensures { λ r. ⌜ r ≡ at + front (between 32 126) (drop at (now (text .entry))) ⌝ }
 {
-    if !inside {
-        return 7 < class(b, lexicon);
+    let mut i = at;
+    while i < text.len() {
+        let b = text[i];
+        if b < 32 {
+            return i;
+        }
+        if 126 < b {
+            return i;
+        }
+        i += 1;
     }
-    if b == 10 {
-        return true;
-    }
-    if b < 32 {
-        return false;
-    }
-    b < 127
+    i
 }
 
-// Whether a remark is open after a byte, by whether one was open before it.
-fn remark(b: u8, inside: bool) -> bool
-    ensures { λ r. ⌜ r ≡ opened inside b ⌝ }
-{
-    if inside {
-        return b != 10;
-    }
-    b == b'#'
-}
-
-// Past the blanks and remarks from `at` on: what stands between tokens. A byte that a remark cannot hold ends the gap, and is found foreign there.
+// Past the blanks and remarks from `at` on: what stands between tokens. A byte that a remark cannot hold ends the gap, and is found foreign there; byte 10
+// is a blank again.
 pub fn gap(text: &[u8], at: usize, lexicon: &[u8; 400]) -> usize
     requires { ⌜ Lexicon (now lexicon) ⌝ }
     ensures { λ r. ⌜ r ≡ at + blanks (drop at (now (text .entry))) ⌝ }
 {
-    let mut inside = false;
-    let mut i = at;
+    let mut i = past(text, at, 8, 8, lexicon);
     while i < text.len() {
-        let b = text[i];
-        if !skipped(b, inside, lexicon) {
+        if text[i] != b'#' {
             return i;
         }
-        inside = remark(b, inside);
-        i += 1;
+        let e = remark_end(text, i + 1);
+        i = past(text, e, 8, 8, lexicon);
     }
     i
 }

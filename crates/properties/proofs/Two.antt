@@ -10,7 +10,7 @@ use Rattle.reading.specs.Answers.{read-of}
 use Rattle.reading.specs.Accepted.{Accepted}
 use Rattle.reading.specs.Shows.{Shows}
 use Rattle.reading.specs.declared.ReadResult.{ReadResult}
-use Rattle.tokens.specs.Remarks.{blanked}
+use Rattle.reading.specs.Blanked.{blanked}
 use Rattle.reading.proofs.Exact as exact
 use Rattle.reading.proofs.Alike.{remarks-as-blanks}
 use Rattle.reading.proofs.Shown.{accepted-shows-only}

@@ -10,7 +10,7 @@ use lib.ListN.{length}
 use Rattle.base.specs.Reports.{result}
 use Rattle.diagram.specs.Tree.{Flow}
 use Rattle.reading.specs.Accepted.{Accepted}
-use Rattle.tokens.specs.Remarks.{blanked}
+use Rattle.reading.specs.Blanked.{blanked}
 use Rattle.reading.specs.Refused.{Usual, RefusedAt}
 use Rattle.reading.specs.Shows.{Shows, Shows-only}
 use Rattle.reading.specs.Places.{Placed}

@@ -2,27 +2,24 @@
 -- blanks in place of its remarks.
 use mathlib.Core.Path.{_≡_, refl, sym, ap, ap₂, _∙_}
 use mathlib.Core.Bool.{false, cond}
-use mathlib.Core.List.{List, _++_, map}
-use Prim.Native.Nat.{ℕ, _+_, _-_}
-use lib.Dec.{ltb}
-use lib.ListN.{length, getD, replicate}
+use mathlib.Core.List.{List, map}
+use Prim.Native.Nat.{ℕ, _+_}
+use lib.ListN.{length, getD}
 use Rattle.diagram.specs.Tree.{Flow}
-use Rattle.diagram.specs.Stored.{blank-node}
 use Rattle.diagram.specs.TreeNodes.{TextNode, own, has-name, nodes-by}
 use Rattle.diagram.specs.declared.Node.{Node}
-use Rattle.tokens.specs.Remarks.{blanked}
 use Rattle.tokens.specs.Words.{keywords}
-use Rattle.tokens.specs.Spans.{Span, spans-of, tokens, places}
-use Rattle.tokens.specs.Token.{Token, token-of, text-tokens}
-use Rattle.tokens.specs.Scanned.{foreign-in, first-long, scan-of}
+use Rattle.tokens.specs.Spans.{Span, spans-of, places}
+use Rattle.tokens.specs.Token.{token-of, text-tokens}
+use Rattle.tokens.specs.Scanned.{scan-of}
 use Rattle.tokens.specs.declared.Scan.{Scan}
 use Rattle.tokens.specs.declared.Scan.the-variants.{Tokens, Refused as Unscanned}
 use Rattle.reading.proofs.Blanked.{blanked-length, blanked-spans}
-use Rattle.tokens.proofs.Tokens.{text-proper, keywords-sound}
 use Rattle.grammar.specs.Keys.{keys-from, keyword-at, name-at}
 use Rattle.grammar.specs.Machine.{Outcome, whole, stop, outcome}
 use Rattle.rules.specs.declared.Verdict.{Verdict}
 use Rattle.rules.specs.declared.Verdict.the-variants.{Kept, Refused as Unkept}
+use Rattle.reading.specs.Blanked.{blanked}
 use Rattle.reading.specs.Nodes.{name-place, node-of, stored}
 use Rattle.reading.specs.Answers.{refused, judged, read-of}
 use Rattle.reading.specs.Refused.{place-of, Usual, Clean, Derived}

@@ -1,22 +1,23 @@
 -- "A remark is a blank wherever a blank may stand": with blanks in place of its remarks a text that has no foreign byte has the same tokens at the
 -- same places.
-use mathlib.Core.Path.{_≡_, refl, sym, ap, _∙_}
-use mathlib.Core.Bool.{Bool, true, false, not, cond}
+use mathlib.Core.Path.{_≡_, refl, ap}
+use mathlib.Core.Bool.{Bool, true, false, cond}
 use mathlib.Core.List.{List, [], _∷_}
-use Prim.Native.Nat.{ℕ, zero, suc, _+_, _≤_}
+use Prim.Native.Nat.{ℕ, zero, suc, _+_}
 use native.Mathlib.Omega.{arith}
 use lib.Dec.{eqb}
 use lib.ListN.{length, take, drop, length-drop}
 use borrow.Author.Tests.{eqb-true}
-use Rattle.base.proofs.Truth.{by-cases, is-false, not-i, not-no}
+use Rattle.base.proofs.Truth.{by-cases, not-no}
 use Rattle.tokens.specs.Classes.{class-of, worded, unbroken}
-use Rattle.tokens.specs.Remarks.{opened, skipped, strange, stretch, blanks, blanked}
+use Rattle.tokens.specs.Remarks.{opened, skipped, stretch, blanks}
 use Rattle.tokens.specs.Words.{front}
 use Rattle.tokens.specs.Spans.{Span, width, cut, spans, spans-of}
 use Rattle.tokens.proofs.Stretch.{stretch-nil, stretch-cons, stretch-le}
 use Rattle.tokens.proofs.Remarks.{stops, worded-unbroken, unopened, blanks-past, token-stands}
 use Rattle.tokens.proofs.Steps.{width-le}
 use Rattle.tokens.proofs.Foreign.{usual, skipped-over, token-over}
+use Rattle.reading.specs.Blanked.{space, blanked}
 
 pub blanked-length : (o : Bool) (bs : List ℕ) → length (blanked o bs) ≡ length bs
 unfolding blanked
@@ -32,7 +33,7 @@ record Blank (b : ℕ) : Type 0 where
   skips : skipped false b ≡ true
   opens : opened false b ≡ false
 
-stays : (o p : Bool) (b : ℕ) → skipped o b ≡ true → opened o b ≡ p → Blank (cond p 32 b)
+stays : (o p : Bool) (b : ℕ) → skipped o b ≡ true → opened o b ≡ p → Blank (cond p space b)
 unfolding class-of
 stays o true b s e = record { skips = refl; opens = refl }
 stays false false b s e = record { skips = s; opens = e }
@@ -56,7 +57,7 @@ record Gap (o : Bool) (l : List ℕ) : Type 0 where
 gap-on : (o : Bool) (b : ℕ) (bs : List ℕ) → skipped o b ≡ true → Gap (opened o b) bs → Gap o (b ∷ bs)
 unfolding blanked
 gap-on o b bs e g =
-    let c = cond (opened o b) 32 b in
+    let c = cond (opened o b) space b in
     let k = stays o (opened o b) b e refl in
     let n : stretch skipped o (b ∷ bs) ≡ suc (stretch skipped (opened o b) bs) = rw (stretch-cons skipped o b bs, e) in
     record {
@@ -92,7 +93,7 @@ unfolding blanked
 kept b bs u = rw (unopened b u)
 
 -- A blank in place of a remark's first byte ends a word, as that does.
-unworded : (p : Bool) (b : ℕ) → worded b ≡ false → worded (cond p 32 b) ≡ false
+unworded : (p : Bool) (b : ℕ) → worded b ≡ false → worded (cond p space b) ≡ false
 unfolding class-of
 unworded true b e = refl
 unworded false b e = e

@@ -7,4 +7,5 @@ pub mod Reports
 pub mod Shows
 pub mod Places
 pub mod Bounds
+pub mod Blanked
 pub mod Worked

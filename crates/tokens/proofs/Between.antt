@@ -6,7 +6,7 @@ use Prim.Native.Nat.{ℕ, _≤_, _<_}
 use native.Mathlib.Omega.{arith}
 use lib.Dec.{eqb, leb}
 use borrow.Author.Tests.{le-leb, leb-true}
-use Rattle.base.proofs.Truth.{and-l, and-r, and-i, is-false}
+use Rattle.base.proofs.Truth.{and-l, and-r, and-i, is-false, by-cases}
 use Rattle.tokens.specs.Classes.{between, spacing, class-of}
 
 pub between-in : (a b x : ℕ) → a ≤ x → x ≤ b → between a b x ≡ true
@@ -21,20 +21,26 @@ between-low a b x h = is-false (between a b x) (λ e. let l = in-range a b x e i
 pub between-high : (a b x : ℕ) → b < x → between a b x ≡ false
 between-high a b x h = is-false (between a b x) (λ e. let l = in-range a b x e in omega arith)
 
--- A byte's class is 0 to 9.
-either-small : (t : Bool) (x y : ℕ) → x ≤ 9 → y ≤ 9 → cond t x y ≤ 9
-either-small true x y h l = h
-either-small false x y h l = l
+-- A byte's class is 0 to 9, and 9 only for #.
+module _ (b k : ℕ) (h : 8 ≤ k) where
+  either-small : (t : Bool) (x y : ℕ) → x ≤ 8 → y ≤ k → cond t x y ≤ k
+  either-small true x y l m = omega arith
+  either-small false x y l m = m
+
+  class-within : cond (eqb b (byte "#")) 9 0 ≤ k → class-of b ≤ k
+  unfolding class-of
+  class-within l =
+      either-small (eqb b (byte "(")) 1 _ (omega arith)
+      (either-small (eqb b (byte ")")) 2 _ (omega arith)
+      (either-small (eqb b (byte ",")) 3 _ (omega arith)
+      (either-small (eqb b (byte ":")) 4 _ (omega arith)
+      (either-small (between (byte "A") (byte "Z") b || between (byte "a") (byte "z") b) 5 _ (omega arith)
+      (either-small (between (byte "0") (byte "9") b) 6 _ (omega arith)
+      (either-small (eqb b (byte "_")) 7 _ (omega arith)
+      (either-small (spacing b) 8 _ (omega arith) l)))))))
 
 pub class-small : (b : ℕ) → class-of b ≤ 9
-unfolding class-of
-class-small b =
-    either-small (eqb b (byte "(")) 1 _ (omega arith)
-    (either-small (eqb b (byte ")")) 2 _ (omega arith)
-    (either-small (eqb b (byte ",")) 3 _ (omega arith)
-    (either-small (eqb b (byte ":")) 4 _ (omega arith)
-    (either-small (between (byte "A") (byte "Z") b || between (byte "a") (byte "z") b) 5 _ (omega arith)
-    (either-small (between (byte "0") (byte "9") b) 6 _ (omega arith)
-    (either-small (eqb b (byte "_")) 7 _ (omega arith)
-    (either-small (spacing b) 8 _ (omega arith)
-    (either-small (eqb b (byte "#")) 9 0 (omega arith) (omega arith)))))))))
+class-small b = class-within b 9 (omega arith) (by-cases (eqb b 35) (λ e. rw e (omega arith)) (λ e. rw e (omega arith)))
+
+pub class-smaller : (b : ℕ) → eqb b 35 ≡ false → class-of b ≤ 8
+class-smaller b e = class-within b 8 (omega arith) (rw e (omega arith))

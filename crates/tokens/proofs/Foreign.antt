@@ -6,7 +6,7 @@ use Prim.Native.Nat.{ℕ, zero, suc, _+_, _≤_, _<_}
 use native.Mathlib.Nat.{zero-add, add-zero}
 use native.Mathlib.Omega.{arith}
 use lib.ListN.{length, drop, length-drop}
-use Rattle.base.proofs.Truth.{by-cases, not-i, not-no}
+use Rattle.base.proofs.Truth.{by-cases, not-i}
 use Rattle.tokens.specs.Classes.{class-of, within, worded, unbroken, foreign}
 use Rattle.tokens.specs.Remarks.{opened, skipped, strange, stretch, blanks}
 use Rattle.tokens.specs.Words.{front}

@@ -3,7 +3,9 @@ use mathlib.Core.Path.{_≡_, refl, sym, ap}
 use mathlib.Core.Bool.{Bool, true, false, cond}
 use mathlib.Core.List.{List, [], _∷_}
 use Prim.Native.Nat.{ℕ, suc, _+_, _≤_, _<_}
+use native.Mathlib.Omega.{arith}
 use lib.ListN.{length, take, drop, getD}
+use Rattle.base.proofs.Truth.{by-cases, is-false}
 use Rattle.tokens.specs.Remarks.{opened, stretch}
 use Rattle.tokens.specs.Words.{front, every}
 use Rattle.tokens.proofs.Stretch.{stretch-nil, stretch-cons, stretch-le, stretch-end, stretch-stop, stretch-more}
@@ -43,3 +45,13 @@ module _ (t : ℕ → Bool) where
   unfolding front
   front-every [] = refl
   front-every (b ∷ bs) = within-front b bs (t b) refl (front-every bs)
+
+  -- The byte after the front does not pass.
+  pub front-past : (bs : List ℕ) → front t (drop (front t bs) bs) ≡ 0
+  unfolding front
+  front-past [] = refl
+  front-past (b ∷ bs) = by-cases (t b) (λ e. rw e (front-past bs)) (λ e. rw e (rw e))
+
+  pub front-fails : (b : ℕ) (bs : List ℕ) → front t (b ∷ bs) ≡ 0 → t b ≡ false
+  unfolding front
+  front-fails b bs e = is-false (t b) (λ q. let z : suc (front t bs) ≡ 0 = rw q at e in omega arith)

@@ -42,8 +42,3 @@ stretch t o (b ∷ bs) = cond (t o b) (suc (cond (opened o b) (stretch t true bs
 -- to be skipped.
 abbrev pub blanks : List ℕ → ℕ
 blanks = stretch skipped false
-
--- The text with a blank in place of each byte of its remarks: those after which one is open.
-unfoldable pub blanked : Bool → List ℕ → List ℕ
-blanked o [] = []
-blanked o (b ∷ bs) = cond (opened o b) (byte " ") b ∷ blanked (opened o b) bs
