@@ -1,11 +1,11 @@
 ghost use Rattle.std.specs.Prelude.{◌≡◌, true, ◌∷◌, ◌-◌, ◌≤◌};
 ghost use Rattle.output.specs.Buffer.{buffer, put_all};
 ghost use Rattle.tokens.specs.Words.{word_at};
-ghost use Rattle.formulas.specs.Lines.{action-lines};
+ghost use Rattle.formulas.specs.Lines.{action_lines};
 ghost use Rattle.formulas.specs.Actions.{becomes};
-ghost use Rattle.formulas.specs.Opening.{cleared-all, opening-lines};
+ghost use Rattle.formulas.specs.Opening.{cleared_all, opening_lines};
 ghost use Rattle.variables.specs.code.Spelled.{spelled};
-ghost use Rattle.actions.specs.code.Written.{label as label_of, head as head_of, tail as Tail-of, line as Line-of, lines as lines_of, declarations as declarations-of};
+ghost use Rattle.actions.specs.code.Written.{label as label_of, head as head_of, tail as TailOf, line as LineOf, lines as lines_of, declarations as declarations_of};
 
 use variables::Variables;
 
@@ -39,7 +39,7 @@ fn label(kind: u8, out: &mut [u8], at: usize) -> usize
 
 // What stands after the variable.
 fn tail(kind: u8, out: &mut [u8], at: usize) -> usize
-    ensures { buffer result out.new ≡ put_all (Tail-of kind) (buffer at out.old) }
+    ensures { buffer result out.new ≡ put_all (TailOf kind) (buffer at out.old) }
 {
     if kind == NAMED {
         return output::bytes(out, at, b"\n");
@@ -63,7 +63,7 @@ fn line(
     out: &mut [u8],
     at: usize,
 ) -> usize
-    ensures { buffer result out.new ≡ put_all (Line-of (spelled text.now v) kind number n) (buffer at out.old) }
+    ensures { buffer result out.new ≡ put_all (LineOf (spelled text.now v) kind number n) (buffer at out.old) }
 {
     let a = head(kind, number, out, at);
     let b = variables::name(text, v, n, out, a);
@@ -95,7 +95,7 @@ fn lines(
 
 // The actions of event e: its own variable, and then those of the events from `from` up to it, which it clears. There are at most 512 events.
 pub fn write(text: &[u8], v: Variables, e: usize, from: usize, out: &mut [u8], at: usize) -> usize
-    ensures { e ≤ 512 → from ≤ e → buffer result out.new ≡ put_all (action-lines (spelled text.now v) 1 (becomes e true ∷ cleared-all from (e - from))) (buffer at out.old) }
+    ensures { e ≤ 512 → from ≤ e → buffer result out.new ≡ put_all (action_lines (spelled text.now v) 1 (becomes e true ∷ cleared_all from (e - from))) (buffer at out.old) }
 {
     if 512 < e {
         return at;
@@ -117,7 +117,7 @@ fn declarations(
     at: usize,
 ) -> usize
     requires { n ≤ 512 }
-    ensures { buffer result out.new ≡ put_all (declarations-of (spelled text.now v) (word_at text.now root) n) (buffer at out.old) }
+    ensures { buffer result out.new ≡ put_all (declarations_of (spelled text.now v) (word_at text.now root) n) (buffer at out.old) }
 {
     let a = output::bytes(out, at, b"machine ");
     let b = output::bytes(out, a, lexer::word(text, root));
@@ -129,7 +129,7 @@ fn declarations(
 
 // A machine up to its first event.
 pub fn open(text: &[u8], v: Variables, root: usize, n: usize, out: &mut [u8], at: usize) -> usize
-    ensures { n ≤ 512 → buffer result out.new ≡ put_all (opening-lines (spelled text.now v) (word_at text.now root) n) (buffer at out.old) }
+    ensures { n ≤ 512 → buffer result out.new ≡ put_all (opening_lines (spelled text.now v) (word_at text.now root) n) (buffer at out.old) }
 {
     if 512 < n {
         return at;

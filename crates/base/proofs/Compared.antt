@@ -8,11 +8,11 @@ use lib.ListN.{length, take, get_or}
 use lib.Seq.{take-suc, take_all}
 use Rattle.base.proofs.Truth.{is_false}
 use Rattle.base.specs.Equal.{same}
-use Rattle.base.proofs.Decided.{same-decides}
+use Rattle.base.proofs.Decided.{same_decides}
 
 module _ (v w : List ℕ) where
   differ : (v ≡ w → ⊥) → false ≡ same v w
-  differ f = sym (is_false (same v w) (λ t. f ((same-decides v w).0 t)))
+  differ f = sym (is_false (same v w) (λ t. f ((same_decides v w).0 t)))
 
   pub other_length : (length v ≡ length w → ⊥) → false ≡ same v w
   other_length f = differ (λ q. f (ap length q))
@@ -25,4 +25,4 @@ module _ (v w : List ℕ) where
   one_more i h k g q = rw (add-one i, take-suc v i 0 h, take-suc w i 0 k, q, g)
 
   pub all_same : (i : ℕ) → length v ≤ i → length w ≤ i → take i v ≡ take i w → true ≡ same v w
-  all_same i h k q = sym ((same-decides v w).1 (sym (take_all i v h) ∙ (q ∙ take_all i w k)))
+  all_same i h k q = sym ((same_decides v w).1 (sym (take_all i v h) ∙ (q ∙ take_all i w k)))

@@ -7,5 +7,5 @@ use lib.ListN.{drop}
 use lib.Seq.{drop-drop}
 
 -- What is left of a list, without its first element.
-pub drop-next : {A : Type 0} (l rest : List A) (k : ℕ) (x : A) → drop k l ≡ x ∷ rest → drop (suc k) l ≡ rest
-drop-next {A} l rest k x e = ap (λ (j : ℕ). drop j l) (sym (add-one k)) ∙ sym (drop-drop 1 k l) ∙ ap (λ (m : List A). drop 1 m) e
+pub drop_next : {A : Type 0} (l rest : List A) (k : ℕ) (x : A) → drop k l ≡ x ∷ rest → drop (suc k) l ≡ rest
+drop_next {A} l rest k x e = ap (λ (j : ℕ). drop j l) (sym (add-one k)) ∙ sym (drop-drop 1 k l) ∙ ap (λ (m : List A). drop 1 m) e

@@ -2,7 +2,7 @@
 use mathlib.Core.Path.{◌≡◌, refl, sym, ◌∙◌}
 use mathlib.Core.Logic.{◌⊎◌, inl, inr}
 use mathlib.Core.Bool.{Bool, true, false, not, ◌&&◌, ◌||◌, true≢false, false≢true}
-pub use borrow.Author.Tests.{not-true as not-e, not-false as not-no}
+pub use borrow.Author.Tests.{not-true as not_e, not-false as not_no}
 
 pub clash : {b : Bool} → b ≡ true → b ≡ false → ⊥
 clash p q = true≢false (sym p ∙ q)
@@ -38,16 +38,16 @@ pub or_r : (a : Bool) {b : Bool} → b ≡ true → (a || b) ≡ true
 or_r true p = refl
 or_r false p = p
 
-pub or-e : (a b : Bool) → (a || b) ≡ true → (a ≡ true) ⊎ (b ≡ true)
-or-e true b e = inl refl
-or-e false b e = inr e
+pub or_e : (a b : Bool) → (a || b) ≡ true → (a ≡ true) ⊎ (b ≡ true)
+or_e true b e = inl refl
+or_e false b e = inr e
 
 pub or_map : {a b : Bool} (c d : Bool) → (a ≡ true → c ≡ true) → (b ≡ true → d ≡ true) → (a ≡ true) ⊎ (b ≡ true) → (c || d) ≡ true
 or_map c d f g (inl k) = or_l d (f k)
 or_map c d f g (inr k) = or_r c (g k)
 
-pub not-i : {a : Bool} → a ≡ false → not a ≡ true
-not-i p = rw p
+pub not_i : {a : Bool} → a ≡ false → not a ≡ true
+not_i p = rw p
 
 -- Tests that come out true together are the same.
 pub agree : (a b : Bool) → (a ≡ true → b ≡ true) → (b ≡ true → a ≡ true) → a ≡ b

@@ -1,6 +1,6 @@
 ghost use Rattle.std.specs.Prelude.{◌≡◌, ◌^◌, ◌<◌, get_or, set};
 ghost use Rattle.base.specs.Equal.{same};
-ghost use Rattle.base.specs.Packed.{field, put_word as put-word-of};
+ghost use Rattle.base.specs.Packed.{field, put_word as put_word_of};
 
 // A byte and a number of 16 bits, to count with.
 pub fn wide(b: u8) -> usize
@@ -92,7 +92,7 @@ pub fn long(bytes: &[u8], i: usize) -> u64
 
 // 32 bits stored at i, as far as the bytes go.
 pub fn put_word(bytes: &mut [u8], i: usize, w: usize)
-    ensures { bytes.new ≡ put-word-of bytes.old i w }
+    ensures { bytes.new ≡ put_word_of bytes.old i w }
 {
     if bytes.len() <= i {
         return;

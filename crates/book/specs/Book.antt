@@ -2,7 +2,7 @@
 -- answers. The book is a list of events, empty at first; it is what property 3 calls the events taken so far."
 use Rattle.std.specs.Prelude.{◌≡◌, List, [], ◌∷◌, ◌++◌, ℕ, ◌≤◌, ◌<◌}
 use Rattle.diagram.specs.Tree.{Flow}
-use Rattle.diagram.specs.Count.{flow-events}
+use Rattle.diagram.specs.Count.{flow_events}
 use Rattle.process.specs.Expand.{expand}
 use Rattle.process.specs.Runs.{Whole, Begins}
 use Rattle.plays.specs.Plays.{Line, Admits}
@@ -10,26 +10,26 @@ use Rattle.record.specs.declared.Record.{Record}
 use Rattle.table.specs.declared.Answer.TheVariants.{Done, Refused}
 use Rattle.table.specs.declared.Finish.TheVariants.{No, Yes}
 use Rattle.book.specs.Calls.{Call, step, finished, Reply, stepped, reported}
-use Rattle.book.specs.Marked.{record-after}
+use Rattle.book.specs.Marked.{record_after}
 
 -- "Step with e: if the book followed by e begins a whole run, e is put at its end and the answer is done. Otherwise the book stays, and the answer is 14 if e
 -- is at or past E, the diagram's number of events, else 15."
-pub data Step-entry (d : Flow) (book : List ℕ) (e : ℕ) (l : Line Reply (List ℕ)) : Type 0 where
-  begins : Begins (expand d) (book ++ (e ∷ [])) → l ≡ record { reply = stepped Done; after = book ++ (e ∷ []) } → Step-entry d book e l
-  past : (Begins (expand d) (book ++ (e ∷ [])) → ⊥) → flow-events d ≤ e → l ≡ record { reply = stepped (Refused 14 0); after = book } → Step-entry d book e l
-  below : (Begins (expand d) (book ++ (e ∷ [])) → ⊥) → e < flow-events d → l ≡ record { reply = stepped (Refused 15 0); after = book } → Step-entry d book e l
+pub data StepEntry (d : Flow) (book : List ℕ) (e : ℕ) (l : Line Reply (List ℕ)) : Type 0 where
+  begins : Begins (expand d) (book ++ (e ∷ [])) → l ≡ record { reply = stepped Done; after = book ++ (e ∷ []) } → StepEntry d book e l
+  past : (Begins (expand d) (book ++ (e ∷ [])) → ⊥) → flow_events d ≤ e → l ≡ record { reply = stepped (Refused 14 0); after = book } → StepEntry d book e l
+  below : (Begins (expand d) (book ++ (e ∷ [])) → ⊥) → e < flow_events d → l ≡ record { reply = stepped (Refused 15 0); after = book } → StepEntry d book e l
 
 -- "Finished: yes exactly when the book is a whole run; it stays."
-pub data Finish-entry (d : Flow) (book : List ℕ) (l : Line Reply (List ℕ)) : Type 0 where
-  whole : Whole (expand d) book → l ≡ record { reply = reported Yes; after = book } → Finish-entry d book l
-  part : (Whole (expand d) book → ⊥) → l ≡ record { reply = reported No; after = book } → Finish-entry d book l
+pub data FinishEntry (d : Flow) (book : List ℕ) (l : Line Reply (List ℕ)) : Type 0 where
+  whole : Whole (expand d) book → l ≡ record { reply = reported Yes; after = book } → FinishEntry d book l
+  part : (Whole (expand d) book → ⊥) → l ≡ record { reply = reported No; after = book } → FinishEntry d book l
 
 -- What the book says to a call: its answer, and the book after it.
 abbrev pub Entry : Flow → List ℕ → Call → Line Reply (List ℕ) → Type 0
-Entry d book (step e) l = Step-entry d book e l
-Entry d book finished l = Finish-entry d book l
+Entry d book (step e) l = StepEntry d book e l
+Entry d book finished l = FinishEntry d book l
 
 -- The lines that the book of a diagram, "empty at first", admits for a list of calls. "Every answer is the book's. After every call the record is the starting one
 -- with, for each event of the book in order, its bit set and, at a reset, those of its loop's body cleared."
-abbrev pub By-book : Flow → List Call → List (Line Reply Record) → Type 0
-By-book d calls lines = Admits (Entry d) (record-after d) [] calls lines
+abbrev pub ByBook : Flow → List Call → List (Line Reply Record) → Type 0
+ByBook d calls lines = Admits (Entry d) (record_after d) [] calls lines

@@ -2,7 +2,7 @@
 use Rattle.std.specs.Prelude.{List, ℕ}
 use Rattle.plays.specs.Plays.{Line}
 use Rattle.record.specs.declared.Record.{Record}
-use Rattle.table.specs.Steps.{step_of, finished-of}
+use Rattle.table.specs.Steps.{step_of, finished_of}
 use Rattle.table.specs.declared.Answer.{Answer}
 use Rattle.table.specs.declared.Finish.{Finish}
 
@@ -15,8 +15,8 @@ pub data Reply : Type 0 where
   stepped : Answer → Reply
   reported : Finish → Reply
 
--- What a call answers on a table and a record, and the record after it: `step_of` and `finished-of` are what the contracts of `table::step` and `table::finished` say
+-- What a call answers on a table and a record, and the record after it: `step_of` and `finished_of` are what the contracts of `table::step` and `table::finished` say
 -- that the calls return.
 abbrev pub call : List ℕ → Record → Call → Line Reply Record
 call t before (step e) = record { reply = stepped (step_of t before e).answer; after = (step_of t before e).after }
-call t before finished = record { reply = reported (finished-of t before); after = before }
+call t before finished = record { reply = reported (finished_of t before); after = before }

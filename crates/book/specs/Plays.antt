@@ -3,9 +3,9 @@
 use Rattle.std.specs.Prelude.{List, ℕ}
 use Rattle.diagram.specs.Tree.{Flow}
 use Rattle.plays.specs.Plays.{play}
-use Rattle.record.specs.Blank.{blank-record}
+use Rattle.record.specs.Blank.{blank_record}
 use Rattle.book.specs.Calls.{Call, call}
-use Rattle.book.specs.Book.{By-book}
+use Rattle.book.specs.Book.{ByBook}
 
-abbrev pub Plays-by-book : Flow → List ℕ → Type 0
-Plays-by-book d t = (calls : List Call) → By-book d calls (play (call t) blank-record calls)
+abbrev pub PlaysByBook : Flow → List ℕ → Type 0
+PlaysByBook d t = (calls : List Call) → ByBook d calls (play (call t) blank_record calls)

@@ -1,5 +1,5 @@
 ghost use Rattle.std.specs.Prelude.{◌≡◌, get_or};
-ghost use Rattle.columns.specs.Columns.{kind-index, size_number, kind-number, columns as columns_of};
+ghost use Rattle.columns.specs.Columns.{kind_index, size_number, kind_number, columns as columns_of};
 
 use diagram::{Diagram, Kind};
 
@@ -25,7 +25,7 @@ pub fn number(column: &[u16], i: usize) -> usize
 
 // Which of the kinds it is, in their order.
 pub fn index(kind: Kind) -> usize
-    ensures { result ≡ kind-index kind }
+    ensures { result ≡ kind_index kind }
 {
     match kind {
         Kind::Flow => 0,
@@ -59,7 +59,7 @@ pub fn size(kind: Kind) -> u8
 
 // What a node is, as a number: a leaf, a loop, or how its parts are joined.
 fn sort(kind: Kind) -> u8
-    ensures { result ≡ kind-number kind }
+    ensures { result ≡ kind_number kind }
 {
     match kind {
         Kind::Flow => postfix::SEQ,

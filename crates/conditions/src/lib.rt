@@ -4,7 +4,7 @@ ghost use Rattle.process.specs.Process.{Joint, Process, join};
 ghost use Rattle.process.proofs.Numbered.{Numbered};
 ghost use Rattle.postfix.specs.Postfix.{postfix};
 ghost use Rattle.variables.specs.code.Spelled.{spelled};
-ghost use Rattle.conditions.specs.code.Asked.{absent, wanted, joint-lacks as joint-lacks-of, form as form_of, shape_of, Inside, before-parts, opening, between as between-parts, after-parts, closing, condition};
+ghost use Rattle.conditions.specs.code.Asked.{absent, wanted, joint_lacks as joint_lacks_of, form as form_of, shape_of, Inside, before_parts, opening, between as between_parts, after_parts, closing, condition};
 
 use variables::Variables;
 
@@ -22,7 +22,7 @@ pub struct Shape {
 
 // Whether the condition on a joint always holds, where that on its first and that on its second part does.
 fn joint_lacks(code: u8, settled: bool, a: bool, b: bool) -> bool
-    ensures { result ≡ joint-lacks-of code settled a b }
+    ensures { result ≡ joint_lacks_of code settled a b }
 {
     if code == postfix::XOR {
         return a | b;
@@ -114,7 +114,7 @@ fn sign(there: bool, bytes: &[u8], out: &mut [u8], at: usize) -> usize
 
 // What stands around the condition on the parts, up to it.
 fn begin(text: &[u8], v: Variables, s: Shape, from: usize, out: &mut [u8], at: usize) -> usize
-    ensures { from + s.after < 512 → buffer result out.new ≡ put_all (before-parts (spelled text.now v) s from) (buffer at out.old) }
+    ensures { from + s.after < 512 → buffer result out.new ≡ put_all (before_parts (spelled text.now v) s from) (buffer at out.old) }
 {
     if s.form == 1 {
         return output::bytes(out, at, b"(");
@@ -140,7 +140,7 @@ fn open(text: &[u8], v: Variables, s: Shape, from: usize, out: &mut [u8], at: us
 
 // What stands between the conditions on the two parts.
 fn between(s: Shape, out: &mut [u8], at: usize) -> usize
-    ensures { buffer result out.new ≡ put_all (between-parts s) (buffer at out.old) }
+    ensures { buffer result out.new ≡ put_all (between_parts s) (buffer at out.old) }
 {
     if s.pair {
         return variables::connective(s.either, out, at);
@@ -150,7 +150,7 @@ fn between(s: Shape, out: &mut [u8], at: usize) -> usize
 
 // What stands around the condition on the parts, from it on.
 fn finish(text: &[u8], v: Variables, s: Shape, from: usize, out: &mut [u8], at: usize) -> usize
-    ensures { from + s.after < 512 → buffer result out.new ≡ put_all (after-parts (spelled text.now v) s from) (buffer at out.old) }
+    ensures { from + s.after < 512 → buffer result out.new ≡ put_all (after_parts (spelled text.now v) s from) (buffer at out.old) }
 {
     if s.form == 1 {
         let a = output::bytes(out, at, b" or ");

@@ -4,19 +4,19 @@ use mathlib.Core.Logic.{◌↔◌}
 use mathlib.Core.Bool.{Bool, true, ◌&&◌}
 use mathlib.Core.List.{[]}
 use Rattle.diagram.specs.Tree.{Flow}
-use Rattle.diagram.specs.Sizes.{flow-sized}
-use Rattle.diagram.specs.Names.{flow-names, differ}
-use Rattle.diagram.specs.Parameters.{flow-parameters}
-use Rattle.diagram.specs.Flows.{each-flow, solid, strong}
+use Rattle.diagram.specs.Sizes.{flow_sized}
+use Rattle.diagram.specs.Names.{flow_names, differ}
+use Rattle.diagram.specs.Parameters.{flow_parameters}
+use Rattle.diagram.specs.Flows.{each_flow, solid, strong}
 use Rattle.diagram.specs.Rules.{Keeps}
 use Rattle.base.proofs.Truth.{and_l, and_r, and_i}
 
 abbrev pub keeps? : Flow → Bool
-keeps? d = flow-sized d && (differ (flow-names d []) && (flow-parameters d [] && (each-flow d solid && each-flow d strong)))
+keeps? d = flow_sized d && (differ (flow_names d []) && (flow_parameters d [] && (each_flow d solid && each_flow d strong)))
 
 module _ (s n p o w : Bool) where
-  all-five : (s && (n && (p && (o && w)))) ≡ true → (s ≡ true) × (n ≡ true) × (p ≡ true) × (o ≡ true) × (w ≡ true)
-  all-five h =
+  all_five : (s && (n && (p && (o && w)))) ≡ true → (s ≡ true) × (n ≡ true) × (p ≡ true) × (o ≡ true) × (w ≡ true)
+  all_five h =
       let a = and_r s (n && (p && (o && w))) h in
       let b = and_r n (p && (o && w)) a in
       let c = and_r p (o && w) b in
@@ -24,8 +24,8 @@ module _ (s n p o w : Bool) where
 
 keeps : (d : Flow) → keeps? d ≡ true → Keeps d
 keeps d h =
-    let k = all-five (flow-sized d) (differ (flow-names d [])) (flow-parameters d []) (each-flow d solid) (each-flow d strong) h in
+    let k = all_five (flow_sized d) (differ (flow_names d [])) (flow_parameters d []) (each_flow d solid) (each_flow d strong) h in
     record { sizes = k.0; names = k.1; parameters = k.2; solids = k.3; strongs = k.4 }
 
-pub keeps-decided : (d : Flow) → (keeps? d ≡ true) ↔ Keeps d
-keeps-decided d = (keeps d, λ k. and_i k.sizes (and_i k.names (and_i k.parameters (and_i k.solids k.strongs))))
+pub keeps_decided : (d : Flow) → (keeps? d ≡ true) ↔ Keeps d
+keeps_decided d = (keeps d, λ k. and_i k.sizes (and_i k.names (and_i k.parameters (and_i k.solids k.strongs))))

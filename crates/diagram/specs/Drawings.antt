@@ -2,7 +2,7 @@
 use Rattle.std.specs.Prelude.{◌≡◌, true, false, List, [], ◌∷◌, map, ℕ, zero, suc}
 use Rattle.base.specs.Text.{bytes}
 use Rattle.diagram.specs.Tree.{all, one, Flow, flow, Children, none, next, Child, plain, loop, group, replicator, leaf, inner, end}
-use Rattle.diagram.specs.Count.{flow-nodes, flow-copies, flow-events}
+use Rattle.diagram.specs.Count.{flow_nodes, flow_copies, flow_events}
 
 -- T: `flow(trip,1)(leaf(take)(0)loop(leaf(fill))(0)xor(leaf(send)leaf(drop))(0)leaf(free)(1))`.
 abbrev pub T : Flow
@@ -42,8 +42,8 @@ abbrev pub sixteen : Child
 sixteen = replicator all [] 16 (leaf [])
 
 -- `all(v:16)` over a flow of one leaf
-abbrev pub sixteen-flows : Child
-sixteen-flows = replicator all [] 16 (inner (flow [] [] true (plain (leaf [])) true none))
+abbrev pub sixteen_flows : Child
+sixteen_flows = replicator all [] 16 (inner (flow [] [] true (plain (leaf [])) true none))
 
 pub record Counts : Type 0 where
   pub drawing : Flow
@@ -62,11 +62,11 @@ counts =
     ∷ record { drawing = wide (plain (leaf [])) 255 (plain (leaf [])) 0; nodes = 257; copies = 257; events = 256 }
     ∷ record { drawing = wide sixteen 30 sixteen 16; nodes = 79; copies = 544; events = 512 }
     ∷ record { drawing = wide sixteen 30 sixteen 17; nodes = 80; copies = 545; events = 513 }
-    ∷ record { drawing = wide sixteen-flows 22 sixteen-flows 8; nodes = 78; copies = 768; events = 376 }
-    ∷ record { drawing = wide sixteen-flows 22 sixteen-flows 9; nodes = 79; copies = 769; events = 377 } ∷ []
+    ∷ record { drawing = wide sixteen_flows 22 sixteen_flows 8; nodes = 78; copies = 768; events = 376 }
+    ∷ record { drawing = wide sixteen_flows 22 sixteen_flows 9; nodes = 79; copies = 769; events = 377 } ∷ []
 
 -- Each line's counts are those of its drawing.
 abbrev pub Counted : List Counts → Type 0
 Counted cs =
-    map (λ (c : Counts). flow-nodes c.drawing ∷ flow-copies c.drawing ∷ flow-events c.drawing ∷ []) cs
+    map (λ (c : Counts). flow_nodes c.drawing ∷ flow_copies c.drawing ∷ flow_events c.drawing ∷ []) cs
     ≡ map (λ (c : Counts). c.nodes ∷ c.copies ∷ c.events ∷ []) cs

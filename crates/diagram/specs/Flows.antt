@@ -3,27 +3,27 @@ use Rattle.std.specs.Prelude.{Bool, true, false, not, ◌&&◌, cond}
 use Rattle.diagram.specs.Tree.{all, some, one, Flow, flow, Children, none, next, Child, plain, loop, group, replicator, Member, leaf, inner, Members, end, also}
 
 -- "a leaf, flow, xor or one": what a solid child may be.
-abbrev pub may-be-solid : Child → Bool
-may-be-solid (plain m) = true
-may-be-solid (loop m) = false
-may-be-solid (group all a b ms) = false
-may-be-solid (group some a b ms) = false
-may-be-solid (group one a b ms) = true
-may-be-solid (replicator all par size m) = false
-may-be-solid (replicator some par size m) = false
-may-be-solid (replicator one par size m) = true
+abbrev pub may_be_solid : Child → Bool
+may_be_solid (plain m) = true
+may_be_solid (loop m) = false
+may_be_solid (group all a b ms) = false
+may_be_solid (group some a b ms) = false
+may_be_solid (group one a b ms) = true
+may_be_solid (replicator all par size m) = false
+may_be_solid (replicator some par size m) = false
+may_be_solid (replicator one par size m) = true
 
-abbrev pub none-solid : Children → Bool
-none-solid none = true
-none-solid (next c r cs) = not r && none-solid cs
+abbrev pub none_solid : Children → Bool
+none_solid none = true
+none_solid (next c r cs) = not r && none_solid cs
 
-abbrev pub one-solid : Children → Bool
-one-solid none = false
-one-solid (next c r cs) = cond r (may-be-solid c && none-solid cs) (one-solid cs)
+abbrev pub one_solid : Children → Bool
+one_solid none = false
+one_solid (next c r cs) = cond r (may_be_solid c && none_solid cs) (one_solid cs)
 
 -- "A flow has exactly one solid child: a leaf, flow, xor or one."
 abbrev pub solid : Flow → Bool
-solid (flow n ps sw c r cs) = one-solid (next c r cs)
+solid (flow n ps sw c r cs) = one_solid (next c r cs)
 
 -- "sw is 1."
 abbrev pub strong : Flow → Bool
@@ -31,23 +31,23 @@ strong (flow n ps sw c r cs) = sw
 
 -- A condition on each flow of the diagram.
 unfoldable mutual
-  pub each-flow : Flow → (Flow → Bool) → Bool
-  each-flow (flow n ps sw c r cs) ok = ok (flow n ps sw c r cs) && (child-flows c ok && children-flows cs ok)
+  pub each_flow : Flow → (Flow → Bool) → Bool
+  each_flow (flow n ps sw c r cs) ok = ok (flow n ps sw c r cs) && (child_flows c ok && children_flows cs ok)
 
-  pub children-flows : Children → (Flow → Bool) → Bool
-  children-flows none ok = true
-  children-flows (next c r cs) ok = child-flows c ok && children-flows cs ok
+  pub children_flows : Children → (Flow → Bool) → Bool
+  children_flows none ok = true
+  children_flows (next c r cs) ok = child_flows c ok && children_flows cs ok
 
-  pub child-flows : Child → (Flow → Bool) → Bool
-  child-flows (plain m) ok = member-flows m ok
-  child-flows (loop m) ok = member-flows m ok
-  child-flows (group y a b ms) ok = member-flows a ok && (member-flows b ok && members-flows ms ok)
-  child-flows (replicator y par size m) ok = member-flows m ok
+  pub child_flows : Child → (Flow → Bool) → Bool
+  child_flows (plain m) ok = member_flows m ok
+  child_flows (loop m) ok = member_flows m ok
+  child_flows (group y a b ms) ok = member_flows a ok && (member_flows b ok && members_flows ms ok)
+  child_flows (replicator y par size m) ok = member_flows m ok
 
-  pub member-flows : Member → (Flow → Bool) → Bool
-  member-flows (leaf n) ok = true
-  member-flows (inner f) ok = each-flow f ok
+  pub member_flows : Member → (Flow → Bool) → Bool
+  member_flows (leaf n) ok = true
+  member_flows (inner f) ok = each_flow f ok
 
-  pub members-flows : Members → (Flow → Bool) → Bool
-  members-flows end ok = true
-  members-flows (also m ms) ok = member-flows m ok && members-flows ms ok
+  pub members_flows : Members → (Flow → Bool) → Bool
+  members_flows end ok = true
+  members_flows (also m ms) ok = member_flows m ok && members_flows ms ok

@@ -2,6 +2,6 @@
 use Rattle.std.specs.Prelude.{Bool, false, ◌||◌, List, [], ◌∷◌}
 use Rattle.diagram.specs.TreeNodes.{ShownNode, copying}
 
-unfoldable pub some-replicates : List ShownNode → Bool
-some-replicates [] = false
-some-replicates (n ∷ ns) = copying n.kind || some-replicates ns
+unfoldable pub some_replicates : List ShownNode → Bool
+some_replicates [] = false
+some_replicates (n ∷ ns) = copying n.kind || some_replicates ns

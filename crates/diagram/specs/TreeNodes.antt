@@ -2,7 +2,7 @@
 -- record beside the solid mark. The root has depth 1." One list for all who ask about nodes: what they want of each is a function of it.
 use Rattle.std.specs.Prelude.{Bool, true, false, ◌||◌, cond, List, [], ◌∷◌, ◌++◌, ℕ, suc, ◌+◌}
 use Rattle.diagram.specs.Tree.{Name, Way, all, some, one, Flow, flow, Children, none, next, Child, plain, loop, group, replicator, Member, leaf, inner, Members, end, also}
-use Rattle.diagram.specs.Count.{child-nodes, member-nodes}
+use Rattle.diagram.specs.Count.{child_nodes, member_nodes}
 use Rattle.diagram.specs.declared.Kind.{Kind}
 use Rattle.diagram.specs.declared.Kind.TheVariants.{Flow as FlowNode, Leaf, And, Or, Xor, All, Some, One, Loop}
 
@@ -23,7 +23,7 @@ pub record TreeNode : Type 0 where
   pub around : List Name
   pub solids : List Kind
 
--- What a diagram by value shows of it. These determine the tree where it keeps the parameter rules: `diagram.proofs.OneTree.one-tree`.
+-- What a diagram by value shows of it. These determine the tree where it keeps the parameter rules: `diagram.proofs.OneTree.one_tree`.
 pub record ShownNode : Type 0 where
   pub kind : Kind
   pub solid : Bool
@@ -31,14 +31,14 @@ pub record ShownNode : Type 0 where
   pub depth : ℕ
   pub name : Name
 
-abbrev pub shown-as : Kind → Bool → Bool → ℕ → Name → ShownNode
-shown-as k b sw d n = record { kind = k; solid = b; strong = sw; depth = d; name = n }
+abbrev pub shown_as : Kind → Bool → Bool → ℕ → Name → ShownNode
+shown_as k b sw d n = record { kind = k; solid = b; strong = sw; depth = d; name = n }
 
 abbrev pub own : TreeNode → TextNode
 own h = h.own
 
 abbrev pub shown : TreeNode → ShownNode
-shown h = shown-as h.own.kind h.own.solid h.own.strong h.own.depth h.own.name
+shown h = shown_as h.own.kind h.own.solid h.own.strong h.own.depth h.own.name
 
 -- What is asked of a kind.
 abbrev pub flowing : Kind → Bool
@@ -90,8 +90,8 @@ copying Loop = false
 abbrev pub titled : Kind → Bool
 titled k = flowing k || leafy k
 
-abbrev pub has-name : Kind → Bool
-has-name k = flowing k || (leafy k || copying k)
+abbrev pub has_name : Kind → Bool
+has_name k = flowing k || (leafy k || copying k)
 
 abbrev pub size_of : Kind → ℕ
 size_of FlowNode = 0
@@ -105,83 +105,83 @@ size_of (One size) = size
 size_of Loop = 0
 
 -- "a leaf, flow, xor or one": what a solid child may be, by its kind.
-abbrev pub may-be-solid : Kind → Bool
-may-be-solid FlowNode = true
-may-be-solid Leaf = true
-may-be-solid And = false
-may-be-solid Or = false
-may-be-solid Xor = true
-may-be-solid (All size) = false
-may-be-solid (Some size) = false
-may-be-solid (One size) = true
-may-be-solid Loop = false
+abbrev pub may_be_solid : Kind → Bool
+may_be_solid FlowNode = true
+may_be_solid Leaf = true
+may_be_solid And = false
+may_be_solid Or = false
+may_be_solid Xor = true
+may_be_solid (All size) = false
+may_be_solid (Some size) = false
+may_be_solid (One size) = true
+may_be_solid Loop = false
 
-abbrev pub group-kind : Way → Kind
-group-kind all = And
-group-kind some = Or
-group-kind one = Xor
+abbrev pub group_kind : Way → Kind
+group_kind all = And
+group_kind some = Or
+group_kind one = Xor
 
-abbrev pub replicator-kind : Way → ℕ → Kind
-replicator-kind all size = All size
-replicator-kind some size = Some size
-replicator-kind one size = One size
+abbrev pub replicator_kind : Way → ℕ → Kind
+replicator_kind all size = All size
+replicator_kind some size = Some size
+replicator_kind one size = One size
 
-abbrev pub child-kind : Child → Kind
-child-kind (plain (leaf n)) = Leaf
-child-kind (plain (inner f)) = FlowNode
-child-kind (loop m) = Loop
-child-kind (group y a e ms) = group-kind y
-child-kind (replicator y par size m) = replicator-kind y size
+abbrev pub child_kind : Child → Kind
+child_kind (plain (leaf n)) = Leaf
+child_kind (plain (inner f)) = FlowNode
+child_kind (loop m) = Loop
+child_kind (group y a e ms) = group_kind y
+child_kind (replicator y par size m) = replicator_kind y size
 
-abbrev pub solid-kinds : Children → List Kind
-solid-kinds none = []
-solid-kinds (next c r cs) = cond r (child-kind c ∷ solid-kinds cs) (solid-kinds cs)
+abbrev pub solid_kinds : Children → List Kind
+solid_kinds none = []
+solid_kinds (next c r cs) = cond r (child_kind c ∷ solid_kinds cs) (solid_kinds cs)
 
 -- A node of any other kind than a flow, and a flow.
-abbrev pub text-node : ℕ → Kind → Bool → ℕ → Name → TextNode
-text-node i k b d n = record { number = i; kind = k; solid = b; strong = false; depth = d; name = n; pars = [] }
+abbrev pub text_node : ℕ → Kind → Bool → ℕ → Name → TextNode
+text_node i k b d n = record { number = i; kind = k; solid = b; strong = false; depth = d; name = n; pars = [] }
 
-abbrev pub flow-text-node : ℕ → Bool → Bool → ℕ → Name → List Name → TextNode
-flow-text-node i b sw d n ps = record { number = i; kind = FlowNode; solid = b; strong = sw; depth = d; name = n; pars = ps }
+abbrev pub flow_text_node : ℕ → Bool → Bool → ℕ → Name → List Name → TextNode
+flow_text_node i b sw d n ps = record { number = i; kind = FlowNode; solid = b; strong = sw; depth = d; name = n; pars = ps }
 
-abbrev pub tree-node : TextNode → List Name → List Kind → TreeNode
-tree-node t around ks = record { own = t; around = around; solids = ks }
+abbrev pub tree_node : TextNode → List Name → List Kind → TreeNode
+tree_node t around ks = record { own = t; around = around; solids = ks }
 
 -- What g wants of the nodes of a tree, inside the replicators whose pars are `around`: the first is a solid child or not, is at depth d and has the number i;
 -- and then the values given.
 unfoldable mutual
-  pub flow-tree-nodes : {A : Type 0} → (TreeNode → A) → Flow → List Name → Bool → ℕ → ℕ → List A → List A
-  flow-tree-nodes g (flow n ps sw c r cs) around b d i vs =
-      g (tree-node (flow-text-node i b sw d n ps) around (solid-kinds (next c r cs)))
-      ∷ child-tree-nodes g c around r (suc d) (suc i) (children-tree-nodes g cs around (suc d) (suc i + child-nodes c) vs)
+  pub flow_tree_nodes : {A : Type 0} → (TreeNode → A) → Flow → List Name → Bool → ℕ → ℕ → List A → List A
+  flow_tree_nodes g (flow n ps sw c r cs) around b d i vs =
+      g (tree_node (flow_text_node i b sw d n ps) around (solid_kinds (next c r cs)))
+      ∷ child_tree_nodes g c around r (suc d) (suc i) (children_tree_nodes g cs around (suc d) (suc i + child_nodes c) vs)
 
-  pub children-tree-nodes : {A : Type 0} → (TreeNode → A) → Children → List Name → ℕ → ℕ → List A → List A
-  children-tree-nodes g none around d i vs = vs
-  children-tree-nodes g (next c r cs) around d i vs =
-      child-tree-nodes g c around r d i (children-tree-nodes g cs around d (i + child-nodes c) vs)
+  pub children_tree_nodes : {A : Type 0} → (TreeNode → A) → Children → List Name → ℕ → ℕ → List A → List A
+  children_tree_nodes g none around d i vs = vs
+  children_tree_nodes g (next c r cs) around d i vs =
+      child_tree_nodes g c around r d i (children_tree_nodes g cs around d (i + child_nodes c) vs)
 
-  pub child-tree-nodes : {A : Type 0} → (TreeNode → A) → Child → List Name → Bool → ℕ → ℕ → List A → List A
-  child-tree-nodes g (plain m) around b d i vs = member-tree-nodes g m around b d i vs
-  child-tree-nodes g (loop m) around b d i vs =
-      g (tree-node (text-node i Loop b d []) around []) ∷ member-tree-nodes g m around false (suc d) (suc i) vs
-  child-tree-nodes g (group y m e ms) around b d i vs =
-      g (tree-node (text-node i (group-kind y) b d []) around [])
-      ∷ member-tree-nodes g m around false (suc d) (suc i)
-      (member-tree-nodes g e around false (suc d) (suc i + member-nodes m)
-      (members-tree-nodes g ms around (suc d) (suc i + member-nodes m + member-nodes e) vs))
-  child-tree-nodes g (replicator y par size m) around b d i vs =
-      g (tree-node (text-node i (replicator-kind y size) b d par) around [])
-      ∷ member-tree-nodes g m (around ++ (par ∷ [])) false (suc d) (suc i) vs
+  pub child_tree_nodes : {A : Type 0} → (TreeNode → A) → Child → List Name → Bool → ℕ → ℕ → List A → List A
+  child_tree_nodes g (plain m) around b d i vs = member_tree_nodes g m around b d i vs
+  child_tree_nodes g (loop m) around b d i vs =
+      g (tree_node (text_node i Loop b d []) around []) ∷ member_tree_nodes g m around false (suc d) (suc i) vs
+  child_tree_nodes g (group y m e ms) around b d i vs =
+      g (tree_node (text_node i (group_kind y) b d []) around [])
+      ∷ member_tree_nodes g m around false (suc d) (suc i)
+      (member_tree_nodes g e around false (suc d) (suc i + member_nodes m)
+      (members_tree_nodes g ms around (suc d) (suc i + member_nodes m + member_nodes e) vs))
+  child_tree_nodes g (replicator y par size m) around b d i vs =
+      g (tree_node (text_node i (replicator_kind y size) b d par) around [])
+      ∷ member_tree_nodes g m (around ++ (par ∷ [])) false (suc d) (suc i) vs
 
-  pub member-tree-nodes : {A : Type 0} → (TreeNode → A) → Member → List Name → Bool → ℕ → ℕ → List A → List A
-  member-tree-nodes g (leaf n) around b d i vs = g (tree-node (text-node i Leaf b d n) around []) ∷ vs
-  member-tree-nodes g (inner f) around b d i vs = flow-tree-nodes g f around b d i vs
+  pub member_tree_nodes : {A : Type 0} → (TreeNode → A) → Member → List Name → Bool → ℕ → ℕ → List A → List A
+  member_tree_nodes g (leaf n) around b d i vs = g (tree_node (text_node i Leaf b d n) around []) ∷ vs
+  member_tree_nodes g (inner f) around b d i vs = flow_tree_nodes g f around b d i vs
 
-  pub members-tree-nodes : {A : Type 0} → (TreeNode → A) → Members → List Name → ℕ → ℕ → List A → List A
-  members-tree-nodes g end around d i vs = vs
-  members-tree-nodes g (also m ms) around d i vs =
-      member-tree-nodes g m around false d i (members-tree-nodes g ms around d (i + member-nodes m) vs)
+  pub members_tree_nodes : {A : Type 0} → (TreeNode → A) → Members → List Name → ℕ → ℕ → List A → List A
+  members_tree_nodes g end around d i vs = vs
+  members_tree_nodes g (also m ms) around d i vs =
+      member_tree_nodes g m around false d i (members_tree_nodes g ms around d (i + member_nodes m) vs)
 
 -- Those of a whole diagram: "The root has depth 1."
-abbrev pub nodes-by : {A : Type 0} → (TreeNode → A) → Flow → List A
-nodes-by g d = flow-tree-nodes g d [] false 1 0 []
+abbrev pub nodes_by : {A : Type 0} → (TreeNode → A) → Flow → List A
+nodes_by g d = flow_tree_nodes g d [] false 1 0 []

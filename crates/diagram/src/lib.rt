@@ -1,5 +1,5 @@
 ghost use Rattle.std.specs.Prelude.{◌≡◌};
-ghost use Rattle.diagram.specs.Stored.{blank-diagram};
+ghost use Rattle.diagram.specs.Stored.{blank_diagram};
 
 // What a node is. A replicator has its size.
 #[derive(Drop)]
@@ -38,7 +38,7 @@ pub struct Diagram {
 
 // No nodes: what a refused answer carries.
 pub fn empty() -> Diagram
-    ensures { result ≡ blank-diagram }
+    ensures { result ≡ blank_diagram }
 {
     let node = Node {
         kind: Kind::Leaf,

@@ -2,66 +2,66 @@
 -- untouched". The text is lent for reading only.
 use Rattle.std.specs.Prelude.{◌≡◌, ◌⊎◌, List, ℕ, ◌+◌, ◌≤◌, ◌<◌, length, drop}
 use Rattle.std.specs.Borrow.{Bor}
-use Rattle.base.specs.Reports.{result as result-report, refusal as refusal-report}
+use Rattle.base.specs.Reports.{result as result_report, refusal as refusal_report}
 use Rattle.diagram.specs.Tree.{Flow}
-use Rattle.diagram.specs.Count.{flow-events}
+use Rattle.diagram.specs.Count.{flow_events}
 use Rattle.reading.specs.Accepted.{Accepted}
 use Rattle.reading.specs.Refused.{RefusedAt}
-use Rattle.process.specs.Process.{event-of}
+use Rattle.process.specs.Process.{event_of}
 use Rattle.process.specs.Expand.{expand}
 use Rattle.labels.specs.Values.{packed}
 use Rattle.labels.specs.declared.Values.{Values}
 use Rattle.tokens.specs.Parts.{Part}
-use Rattle.events.specs.Reports.{report, event-marked}
+use Rattle.events.specs.Reports.{report, event_marked}
 use Rattle.events.specs.declared.Label.{Label}
 
 -- A name is a part of the text, of at most 24 bytes; empty where refused. Which part it is, `events.specs.Names.Named` says, and there is one:
 -- `events.proofs.Bounds.one_name`.
-pub record Name-bounded (text r : Bor (List ℕ)) : Type 0 where
+pub record NameBounded (text r : Bor (List ℕ)) : Type 0 where
   pub short : length r.now ≤ 24
   pub place : ℕ
   pub inside : place + length r.now ≤ length text.now
-  pub its-part : Part text r place (length r.now)
+  pub its_part : Part text r place (length r.now)
 
 -- At most 3 values, each below 16.
 pub record Within (v : Values) : Type 0 where
   pub few : v.count ≤ 3
   pub first_small : v.first < 16
-  pub second-small : v.second < 16
-  pub third-small : v.third < 16
+  pub second_small : v.second < 16
+  pub third_small : v.third < 16
 
 -- Event e of the drawing: the mark that tells a reset from a leaf, and its values.
-pub record Values-result (text : List ℕ) (e : ℕ) (r : Label) : Type 0 where
+pub record ValuesResult (text : List ℕ) (e : ℕ) (r : Label) : Type 0 where
   pub tree : Flow
   pub limits : Accepted text tree
-  pub below : e < flow-events tree
-  pub reported : report r ≡ result-report (event-marked (event-of (expand tree) e))
-  pub within : Within (packed (event-of (expand tree) e).values)
+  pub below : e < flow_events tree
+  pub reported : report r ≡ result_report (event_marked (event_of (expand tree) e))
+  pub within : Within (packed (event_of (expand tree) e).values)
 
 -- Reading's number and place, each by its own sentence; then 14 at 0, "number at or past E".
 pub data Reason (text : List ℕ) (e number place : ℕ) : Type 0 where
   unread : RefusedAt text number place → Reason text e number place
-  no-event : (d : Flow) → Accepted text d → flow-events d ≤ e → number ≡ 14 → place ≡ 0 → Reason text e number place
+  no_event : (d : Flow) → Accepted text d → flow_events d ≤ e → number ≡ 14 → place ≡ 0 → Reason text e number place
 
 -- One of the numbers 2 to 11 and 14, with a place in a text within the limits or at its end.
-pub record Values-refusal (text : List ℕ) (e : ℕ) (r : Label) : Type 0 where
+pub record ValuesRefusal (text : List ℕ) (e : ℕ) (r : Label) : Type 0 where
   pub number : ℕ
   pub place : ℕ
   pub why : Reason text e number place
-  pub reported : report r ≡ refusal-report number place
+  pub reported : report r ≡ refusal_report number place
   pub one_of : ((2 ≤ number) × (number ≤ 11)) ⊎ (number ≡ 14)
   pub near : place ≤ 16384
 
--- There is one such answer for each text and event number: `events.proofs.Bounds.one-values`.
-pub data Values-bounded (text : List ℕ) (e : ℕ) (r : Label) : Type 0 where
+-- There is one such answer for each text and event number: `events.proofs.Bounds.one_values`.
+pub data ValuesBounded (text : List ℕ) (e : ℕ) (r : Label) : Type 0 where
   -- "a result within the limits"
-  result : Values-result text e r → Values-bounded text e r
+  result : ValuesResult text e r → ValuesBounded text e r
   -- "or one numbered refusal with its place"
-  refusal : Values-refusal text e r → Values-bounded text e r
+  refusal : ValuesRefusal text e r → ValuesBounded text e r
 
 -- The bytes fit, and those past them are as they were. Which bytes they are, `events.specs.Listing.Listed` says, and there is one such list:
 -- `events.proofs.Bounds.one_list`.
-pub record List-bounded (lent : List ℕ) (r : ℕ) (left : List ℕ) : Type 0 where
+pub record ListBounded (lent : List ℕ) (r : ℕ) (left : List ℕ) : Type 0 where
   pub few : r ≤ 32768
-  pub length-stays : length left ≡ length lent
+  pub length_stays : length left ≡ length lent
   pub past : drop r left ≡ drop r lent

@@ -1,10 +1,10 @@
 -- What the values call answers: "The values call takes the same and gives the values with a mark that tells a reset from a leaf, or the refusal."
 use Rattle.std.specs.Prelude.{◌≡◌, cond, List, ℕ, ltb}
-use Rattle.diagram.specs.Count.{flow-events}
-use Rattle.process.specs.Process.{Event, event-of}
+use Rattle.diagram.specs.Count.{flow_events}
+use Rattle.process.specs.Process.{Event, event_of}
 use Rattle.process.specs.Expand.{expand}
 use Rattle.labels.specs.Values.{packed}
-use Rattle.reading.specs.Reading.{Reading, drawing, no-drawing}
+use Rattle.reading.specs.Reading.{Reading, drawing, no_drawing}
 use Rattle.events.specs.declared.Label.{Label}
 use Rattle.events.specs.declared.Label.TheVariants.{Leaf, Reset, Refused}
 
@@ -14,9 +14,9 @@ label l = cond l.reset (Reset (packed l.values)) (Leaf (packed l.values))
 
 -- Event e of the drawing; number 14 at or past E, and reading's refusal where the text is turned away.
 unfoldable pub label_of : {text : List ℕ} → Reading text → ℕ → Label
-label_of (drawing d a) e = cond (ltb e (flow-events d)) (label (event-of (expand d) e)) (Refused 14 0)
-label_of (no-drawing number place r) e = Refused number place
+label_of (drawing d a) e = cond (ltb e (flow_events d)) (label (event_of (expand d) e)) (Refused 14 0)
+label_of (no_drawing number place r) e = Refused number place
 
 pub record Valued (text : List ℕ) (e : ℕ) (r : Label) : Type 0 where
   pub reading : Reading text
-  pub its-label : r ≡ label_of reading e
+  pub its_label : r ≡ label_of reading e

@@ -2,23 +2,23 @@
 use Rattle.std.specs.Prelude.{◌≡◌, List, ◌++◌, ℕ, length}
 use Rattle.base.specs.Fill.{fill}
 use Rattle.diagram.specs.Tree.{Flow}
-use Rattle.diagram.specs.Count.{flow-events, flow-copies}
+use Rattle.diagram.specs.Count.{flow_events, flow_copies}
 use Rattle.process.specs.Process.{events}
 use Rattle.process.specs.Expand.{expand}
-use Rattle.output.specs.Lines.{refused-line}
-use Rattle.lines.specs.Lines.{first-line, lines}
-use Rattle.reading.specs.Reading.{Reading, drawing, no-drawing}
+use Rattle.output.specs.Lines.{refused_line}
+use Rattle.lines.specs.Lines.{first_line, lines}
+use Rattle.reading.specs.Reading.{Reading, drawing, no_drawing}
 
 -- The listing of a drawing.
-abbrev pub drawing-listing : Flow → List ℕ
-drawing-listing d = first-line (flow-events d) (flow-copies d) ++ lines 0 (events (expand d))
+abbrev pub drawing_listing : Flow → List ℕ
+drawing_listing d = first_line (flow_events d) (flow_copies d) ++ lines 0 (events (expand d))
 
 unfoldable pub listing : {text : List ℕ} → Reading text → List ℕ
-listing (drawing d a) = drawing-listing d
-listing (no-drawing number place r) = refused-line number place
+listing (drawing d a) = drawing_listing d
+listing (no_drawing number place r) = refused_line number place
 
 -- What the listing call answers, and every byte of the lent buffer: "On success, bytes past those written stay too."
 pub record Listed (text lent : List ℕ) (r : ℕ) (left : List ℕ) : Type 0 where
   pub reading : Reading text
-  pub its-count : r ≡ length (listing reading)
-  pub its-bytes : left ≡ fill lent (listing reading)
+  pub its_count : r ≡ length (listing reading)
+  pub its_bytes : left ≡ fill lent (listing reading)

@@ -13,8 +13,8 @@ abbrev pub marked : ℕ → Values → List ℕ
 marked mark v = mark ∷ v.count ∷ v.first ∷ v.second ∷ v.third ∷ []
 
 -- An event: 1 for a reset and 0 for a leaf, and its values.
-abbrev pub event-marked : Event → List ℕ
-event-marked l = marked (cond l.reset 1 0) (packed l.values)
+abbrev pub event_marked : Event → List ℕ
+event_marked l = marked (cond l.reset 1 0) (packed l.values)
 
 abbrev pub report : Label → Report
 report (Leaf v) = result (marked 0 v)

@@ -3,7 +3,7 @@ use Rattle.std.specs.Prelude.{◌≡◌, List, [], ◌∷◌, map, ℕ}
 use Rattle.base.specs.Text.{bytes}
 use Rattle.diagram.specs.Tree.{Flow}
 use Rattle.diagram.specs.Drawings.{T, U, nested}
-use Rattle.events.specs.Listing.{drawing-listing}
+use Rattle.events.specs.Listing.{drawing_listing}
 
 pub record Worked : Type 0 where
   pub drawing : Flow
@@ -27,4 +27,4 @@ table =
 
 -- Each drawing's listing is these bytes.
 abbrev pub Shown : List Worked → Type 0
-Shown ws = map (λ (w : Worked). drawing-listing w.drawing) ws ≡ map (λ (w : Worked). w.listing) ws
+Shown ws = map (λ (w : Worked). drawing_listing w.drawing) ws ≡ map (λ (w : Worked). w.listing) ws

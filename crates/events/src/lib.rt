@@ -3,7 +3,7 @@ ghost use Rattle.output.specs.Buffer.{buffer, put_all};
 ghost use Rattle.events.specs.Names.{Named};
 ghost use Rattle.events.specs.Labels.{Valued};
 ghost use Rattle.events.specs.Listing.{Listed};
-ghost use Rattle.events.specs.code.Spots.{passed_on, refusal-line, spot-label};
+ghost use Rattle.events.specs.code.Spots.{passed_on, refusal_line, spot_label};
 
 use diagram::Diagram;
 use labels::Values;
@@ -37,7 +37,7 @@ pub fn name(text: &[u8], event: u64) -> &[u8]
 
 // The label of an event of a drawing that is read.
 fn labelled(d: Diagram, event: u64) -> Label
-    ensures { result ≡ spot-label d event }
+    ensures { result ≡ spot_label d event }
 {
     if (d.events as u64) <= event {
         return Label::Refused(14, 0);
@@ -75,7 +75,7 @@ pub fn values(text: &[u8], event: u64) -> Label
 
 // The line of a text that was not read.
 fn write_refusal(answer: Answer, out: &mut [u8]) -> usize
-    ensures { buffer result out.new ≡ put_all (refusal-line answer) (buffer 0 out.old) }
+    ensures { buffer result out.new ≡ put_all (refusal_line answer) (buffer 0 out.old) }
 {
     match answer {
         Answer::Done => 0,

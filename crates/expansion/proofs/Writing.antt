@@ -5,7 +5,7 @@ use Prim.Native.Nat.{ℕ, ◌<◌}
 use lib.ListN.{length, length-append}
 use borrow.Author.Tests.{lt-ltb}
 use Rattle.base.specs.Fill.{fill}
-use Rattle.base.proofs.Filled.{fill-next}
+use Rattle.base.proofs.Filled.{fill_next}
 use Rattle.expansion.specs.Walks.{Place, place, add}
 
 -- The walk stands at a node, and has written these numbers over the lent bytes.
@@ -13,9 +13,9 @@ abbrev pub written : List ℕ → ℕ → List ℕ → Place
 written lent node ws = place node (length ws) (fill lent ws)
 
 -- Where there is room, one number more is one number more written.
-pub add-written : (lent : List ℕ) (node : ℕ) (ws : List ℕ) (c : ℕ) → length ws < 1024
+pub add_written : (lent : List ℕ) (node : ℕ) (ws : List ℕ) (c : ℕ) → length ws < 1024
     → add c (written lent node ws) ≡ written lent node (ws ++ (c ∷ []))
 unfolding add
-add-written lent node ws c h =
+add_written lent node ws c h =
     rw (lt-ltb (length ws) 1024 h)
-    (ap₂ (place node) (sym (length-append ws (c ∷ []))) (fill-next lent ws c))
+    (ap₂ (place node) (sym (length-append ws (c ∷ []))) (fill_next lent ws c))

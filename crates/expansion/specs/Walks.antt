@@ -3,7 +3,7 @@
 use Rattle.std.specs.Prelude.{cond, ◌&&◌, List, ℕ, zero, suc, ◌+◌, ◌-◌, eqb, leb, ltb, get_or, set}
 use Rattle.diagram.specs.declared.Diagram.{Diagram}
 use Rattle.columns.specs.declared.Nodes.{Nodes}
-use Rattle.columns.specs.Columns.{columns as nodes-of}
+use Rattle.columns.specs.Columns.{columns as nodes_of}
 use Rattle.expansion.specs.declared.Walk.{Walk}
 
 -- What the walk reads of the nodes.
@@ -16,8 +16,8 @@ pub record Columns : Type 0 where
 abbrev pub columns : List ℕ → List ℕ → List ℕ → ℕ → Columns
 columns kinds sizes depths count = record { kinds = kinds; sizes = sizes; depths = depths; count = count }
 
-abbrev pub walk-columns : Nodes → Columns
-walk-columns ns = columns ns.kinds ns.sizes ns.depths ns.count
+abbrev pub walk_columns : Nodes → Columns
+walk_columns ns = columns ns.kinds ns.sizes ns.depths ns.count
 
 -- Where the walk stands, and the lent bytes.
 pub record Place : Type 0 where
@@ -28,8 +28,8 @@ abbrev pub place : ℕ → ℕ → List ℕ → Place
 place node count codes = record { walk = record { node = node; count = count }; codes = codes }
 
 -- The walk at another node.
-abbrev pub at-node : ℕ → Place → Place
-at-node i p = place i p.walk.count p.codes
+abbrev pub at_node : ℕ → Place → Place
+at_node i p = place i p.walk.count p.codes
 
 -- One number more. There is room for 1,024.
 unfoldable pub add : ℕ → Place → Place
@@ -40,27 +40,27 @@ abbrev pub more : Columns → ℕ → ℕ
 more c i = cond (eqb (get_or c.sizes i 0) 0) 255 (get_or c.sizes i 0 - 1)
 
 -- Where the next part of node i begins: a copy where the first part does, any other where the walk stands.
-abbrev pub again-at : Columns → ℕ → ℕ → ℕ
-again-at c i node = cond (eqb (get_or c.sizes i 0) 0) node (i + 1)
+abbrev pub again_at : Columns → ℕ → ℕ → ℕ
+again_at c i node = cond (eqb (get_or c.sizes i 0) 0) node (i + 1)
 
 -- The parts of node i after the first, at most n of them and as long as they are deeper than it, each joined to those before it.
 unfoldable pub further : (Place → Place) → Columns → ℕ → ℕ → Place → Place
 further part c i zero p = p
 further part c i (suc n) p =
-    cond (leb (get_or c.depths (again-at c i p.walk.node) 0) (get_or c.depths i 0)) p
-    (further part c i n (add (get_or c.kinds i 0) (part (at-node (again-at c i p.walk.node) p))))
+    cond (leb (get_or c.depths (again_at c i p.walk.node) 0) (get_or c.depths i 0)) p
+    (further part c i n (add (get_or c.kinds i 0) (part (at_node (again_at c i p.walk.node) p))))
 
 -- A loop over the node that the walk stands at: 1 over a leaf, 2 over a flow.
 abbrev pub looped : (Place → Place) → Columns → Place → Place
 looped part c p =
-    cond (ltb p.walk.node c.count && eqb (get_or c.kinds p.walk.node 0) 0) (add 1 (at-node (p.walk.node + 1) p)) (add 2 (part p))
+    cond (ltb p.walk.node c.count && eqb (get_or c.kinds p.walk.node 0) 0) (add 1 (at_node (p.walk.node + 1) p)) (add 2 (part p))
 
 -- Node i, which the walk stands at: a leaf, a loop, or parts that are joined.
 abbrev pub by_kind : (Place → Place) → Columns → ℕ → Place → Place
 by_kind part c i p =
-    cond (eqb (get_or c.kinds i 0) 0) (add 0 (at-node (i + 1) p))
-    (cond (eqb (get_or c.kinds i 0) 1) (looped part c (at-node (i + 1) p))
-    (further part c i (more c i) (part (at-node (i + 1) p))))
+    cond (eqb (get_or c.kinds i 0) 0) (add 0 (at_node (i + 1) p))
+    (cond (eqb (get_or c.kinds i 0) 1) (looped part c (at_node (i + 1) p))
+    (further part c i (more c i) (part (at_node (i + 1) p))))
 
 -- The node that the walk stands at, with those below it, down to as many depths as are given.
 unfoldable pub part : ℕ → Columns → Place → Place
@@ -69,4 +69,4 @@ part (suc left) c p = cond (leb c.count p.walk.node) p (by_kind (part left c) c 
 
 -- The whole drawing, over the lent bytes: "The root has depth 1", and there are at most 12.
 unfoldable pub expanded : Diagram → List ℕ → Place
-expanded d lent = part 12 (walk-columns (nodes-of d)) (place 0 0 lent)
+expanded d lent = part 12 (walk_columns (nodes_of d)) (place 0 0 lent)

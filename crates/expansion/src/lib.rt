@@ -1,5 +1,5 @@
 ghost use Rattle.std.specs.Prelude.{◌≡◌, ◌<◌};
-ghost use Rattle.expansion.specs.Walks.{Columns, columns, add as added, further as further-of, more as more_of, looped as looped-of, part as part_of, expanded};
+ghost use Rattle.expansion.specs.Walks.{Columns, columns, add as added, further as further_of, more as more_of, looped as looped_of, part as part_of, expanded};
 
 use diagram::Diagram;
 
@@ -70,7 +70,7 @@ fn looped<'a>(
     s: Walk,
     codes: &mut [u8],
 ) -> Walk
-    ensures { record { walk = result; codes = codes.new } ≡ looped-of (part_of left (columns kinds.now sizes.now depths.now count)) (columns kinds.now sizes.now depths.now count) (record { walk = s; codes = codes.old }) }
+    ensures { record { walk = result; codes = codes.new } ≡ looped_of (part_of left (columns kinds.now sizes.now depths.now count)) (columns kinds.now sizes.now depths.now count) (record { walk = s; codes = codes.old }) }
 {
     let i = s.node;
     if i < count {
@@ -110,7 +110,7 @@ fn further<'a>(
     codes: &mut [u8],
 ) -> Walk
     requires { i < count }
-    ensures { record { walk = result; codes = codes.new } ≡ further-of (part_of left (columns kinds.now sizes.now depths.now count)) (columns kinds.now sizes.now depths.now count) i (more_of (columns kinds.now sizes.now depths.now count) i) (record { walk = s; codes = codes.old }) }
+    ensures { record { walk = result; codes = codes.new } ≡ further_of (part_of left (columns kinds.now sizes.now depths.now count)) (columns kinds.now sizes.now depths.now count) i (more_of (columns kinds.now sizes.now depths.now count) i) (record { walk = s; codes = codes.old }) }
 {
     let most = more(sizes, i);
     let size = base::byte(sizes, i);

@@ -7,45 +7,45 @@ use lib.ListN.{length}
 use lib.Dec.{eqb}
 use Rattle.base.specs.Fill.{fill}
 use Rattle.record.specs.Bytes.{words_of, bytes_of}
-use Rattle.table.specs.Steps.{step_of, finished-of, offer-of, offer-left}
+use Rattle.table.specs.Steps.{step_of, finished_of, offer_of, offer_left}
 use Rattle.table.specs.declared.Answer.{Answer}
 use Rattle.table.specs.declared.Answer.TheVariants.{Done}
 use Rattle.table.specs.declared.Finish.{Finish}
 use Rattle.table.specs.declared.Stepped.{Stepped}
-use Rattle.firmware.specs.Calls.{number, left-bytes, finish-number, step-number, step-bytes, finished-number, offer-number, offer-bytes}
+use Rattle.firmware.specs.Calls.{number, left_bytes, finish_number, step_number, step_bytes, finished_number, offer_number, offer_bytes}
 
-pub left-done : (s bits out : List ℕ) (a : Answer) → a ≡ Done → out ≡ fill s (bytes_of bits) → out ≡ left-bytes s bits a
-left-done s bits out a d o = rw d o
+pub left_done : (s bits out : List ℕ) (a : Answer) → a ≡ Done → out ≡ fill s (bytes_of bits) → out ≡ left_bytes s bits a
+left_done s bits out a d o = rw d o
 
 module _ (t s : List ℕ) (e : ℕ) where
-  pub step-short : eqb (length s) 64 ≡ false → (1 ≡ step-number t s e) × (s ≡ step-bytes t s e)
-  unfolding step-number step-bytes
-  step-short h = (rw h, rw h)
+  pub step_short : eqb (length s) 64 ≡ false → (1 ≡ step_number t s e) × (s ≡ step_bytes t s e)
+  unfolding step_number step_bytes
+  step_short h = (rw h, rw h)
 
   module _ (h : eqb (length s) 64 ≡ true) (bits : List ℕ) (B : bits ≡ words_of s) (r : Stepped) (R : r ≡ step_of t (record { bits = bits }) e) where
-    pub step-called : (n : ℕ) (out : List ℕ) → n ≡ number r.answer → out ≡ left-bytes s r.after.bits r.answer
-        → (n ≡ step-number t s e) × (out ≡ step-bytes t s e)
-    unfolding step-number step-bytes
-    step-called n out q o = (rw (h, ← B, ← R) q, rw (h, ← B, ← R) o)
+    pub step_called : (n : ℕ) (out : List ℕ) → n ≡ number r.answer → out ≡ left_bytes s r.after.bits r.answer
+        → (n ≡ step_number t s e) × (out ≡ step_bytes t s e)
+    unfolding step_number step_bytes
+    step_called n out q o = (rw (h, ← B, ← R) q, rw (h, ← B, ← R) o)
 
 module _ (t s : List ℕ) where
-  pub finished-short : eqb (length s) 64 ≡ false → 1 ≡ finished-number t s
-  unfolding finished-number
-  finished-short h = rw h
+  pub finished_short : eqb (length s) 64 ≡ false → 1 ≡ finished_number t s
+  unfolding finished_number
+  finished_short h = rw h
 
-  pub finished-called : eqb (length s) 64 ≡ true → (bits : List ℕ) → bits ≡ words_of s → (f g : Finish) → f ≡ finished-of t (record { bits = bits }) → f ≡ g
-      → finish-number g ≡ finished-number t s
-  unfolding finished-number
-  finished-called h bits B f g F G = rw (h, ← B, ← F, G)
+  pub finished_called : eqb (length s) 64 ≡ true → (bits : List ℕ) → bits ≡ words_of s → (f g : Finish) → f ≡ finished_of t (record { bits = bits }) → f ≡ g
+      → finish_number g ≡ finished_number t s
+  unfolding finished_number
+  finished_called h bits B f g F G = rw (h, ← B, ← F, G)
 
 module _ (t s lent : List ℕ) where
-  pub offer-short : eqb (length s) 64 ≡ false → (1 ≡ offer-number t s lent) × (lent ≡ offer-bytes t s lent)
-  unfolding offer-number offer-bytes
-  offer-short h = (rw h, rw h)
+  pub offer_short : eqb (length s) 64 ≡ false → (1 ≡ offer_number t s lent) × (lent ≡ offer_bytes t s lent)
+  unfolding offer_number offer_bytes
+  offer_short h = (rw h, rw h)
 
-  pub offer-called : eqb (length s) 64 ≡ true → (bits : List ℕ) → bits ≡ words_of s → (a : Answer) (n : ℕ) (out : List ℕ)
-      → (a ≡ offer-of t (record { bits = bits }) lent) × (out ≡ offer-left t (record { bits = bits }) lent (offer-of t (record { bits = bits }) lent))
-      → n ≡ number a → (n ≡ offer-number t s lent) × (out ≡ offer-bytes t s lent)
-  unfolding offer-number offer-bytes
-  offer-called h bits B a n out A N =
+  pub offer_called : eqb (length s) 64 ≡ true → (bits : List ℕ) → bits ≡ words_of s → (a : Answer) (n : ℕ) (out : List ℕ)
+      → (a ≡ offer_of t (record { bits = bits }) lent) × (out ≡ offer_left t (record { bits = bits }) lent (offer_of t (record { bits = bits }) lent))
+      → n ≡ number a → (n ≡ offer_number t s lent) × (out ≡ offer_bytes t s lent)
+  unfolding offer_number offer_bytes
+  offer_called h bits B a n out A N =
       (rw (h, ← B) (N ∙ ap number A.0), rw (h, ← B) A.1)

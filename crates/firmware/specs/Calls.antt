@@ -4,8 +4,8 @@ use Rattle.std.specs.Prelude.{cond, List, ℕ, eqb, length}
 use Rattle.base.specs.Fill.{fill}
 use Rattle.record.specs.Bytes.{words_of, bytes_of}
 use Rattle.record.specs.declared.Record.{Record}
-use Rattle.table.specs.Steps.{check-of, step_of, finished-of, offer-of, offer-left}
-use Rattle.table.specs.Reports.{report, finish-report}
+use Rattle.table.specs.Steps.{check_of, step_of, finished_of, offer_of, offer_left}
+use Rattle.table.specs.Reports.{report, finish_report}
 use Rattle.table.specs.declared.Answer.{Answer}
 use Rattle.table.specs.declared.Answer.TheVariants.{Done, Refused}
 use Rattle.table.specs.declared.Finish.{Finish}
@@ -14,42 +14,42 @@ use Rattle.table.specs.declared.Finish.{Finish}
 abbrev pub number : Answer → ℕ
 number a = (report a).number
 
-abbrev pub finish-number : Finish → ℕ
-finish-number f = (finish-report f).number
+abbrev pub finish_number : Finish → ℕ
+finish_number f = (finish_report f).number
 
 -- The record that 64 bytes hold.
 abbrev pub record_of : List ℕ → Record
 record_of bytes = record { bits = words_of bytes }
 
 -- adl_check.
-abbrev pub check-number : List ℕ → ℕ
-check-number t = number (check-of t)
+abbrev pub check_number : List ℕ → ℕ
+check_number t = number (check_of t)
 
 -- Number 1, "a C record not of 64", before all others.
-abbrev pub with-record : List ℕ → ℕ → ℕ
-with-record bytes n = cond (eqb (length bytes) 64) n 1
+abbrev pub with_record : List ℕ → ℕ → ℕ
+with_record bytes n = cond (eqb (length bytes) 64) n 1
 
 -- adl_step: its number, and the record's bytes after it.
-unfoldable pub step-number : List ℕ → List ℕ → ℕ → ℕ
-step-number t bytes e = with-record bytes (number (step_of t (record_of bytes) e).answer)
+unfoldable pub step_number : List ℕ → List ℕ → ℕ → ℕ
+step_number t bytes e = with_record bytes (number (step_of t (record_of bytes) e).answer)
 
 -- The record's bytes by the answer: those of the record after the event over those before it; a refusal leaves them.
-abbrev pub left-bytes : List ℕ → List ℕ → Answer → List ℕ
-left-bytes bytes bits Done = fill bytes (bytes_of bits)
-left-bytes bytes bits (Refused n place) = bytes
+abbrev pub left_bytes : List ℕ → List ℕ → Answer → List ℕ
+left_bytes bytes bits Done = fill bytes (bytes_of bits)
+left_bytes bytes bits (Refused n place) = bytes
 
-unfoldable pub step-bytes : List ℕ → List ℕ → ℕ → List ℕ
-step-bytes t bytes e =
-    cond (eqb (length bytes) 64) (left-bytes bytes (step_of t (record_of bytes) e).after.bits (step_of t (record_of bytes) e).answer) bytes
+unfoldable pub step_bytes : List ℕ → List ℕ → ℕ → List ℕ
+step_bytes t bytes e =
+    cond (eqb (length bytes) 64) (left_bytes bytes (step_of t (record_of bytes) e).after.bits (step_of t (record_of bytes) e).answer) bytes
 
 -- adl_finished.
-unfoldable pub finished-number : List ℕ → List ℕ → ℕ
-finished-number t bytes = with-record bytes (finish-number (finished-of t (record_of bytes)))
+unfoldable pub finished_number : List ℕ → List ℕ → ℕ
+finished_number t bytes = with_record bytes (finish_number (finished_of t (record_of bytes)))
 
 -- adl_offer: its number, and the lent bytes after it.
-unfoldable pub offer-number : List ℕ → List ℕ → List ℕ → ℕ
-offer-number t bytes lent = with-record bytes (number (offer-of t (record_of bytes) lent))
+unfoldable pub offer_number : List ℕ → List ℕ → List ℕ → ℕ
+offer_number t bytes lent = with_record bytes (number (offer_of t (record_of bytes) lent))
 
-unfoldable pub offer-bytes : List ℕ → List ℕ → List ℕ → List ℕ
-offer-bytes t bytes lent =
-    cond (eqb (length bytes) 64) (offer-left t (record_of bytes) lent (offer-of t (record_of bytes) lent)) lent
+unfoldable pub offer_bytes : List ℕ → List ℕ → List ℕ → List ℕ
+offer_bytes t bytes lent =
+    cond (eqb (length bytes) 64) (offer_left t (record_of bytes) lent (offer_of t (record_of bytes) lent)) lent

@@ -1,7 +1,7 @@
 -- The table worked through in `table.specs.Worked`, by the C calls: their numbers and every byte that they leave.
 use Rattle.std.specs.Prelude.{List, [], ◌∷◌, ◌++◌, ℕ, set, replicate}
 use Rattle.table.specs.Worked.{worked, Line, on, Shown, shown}
-use Rattle.firmware.specs.Calls.{check-number, step-number, step-bytes, finished-number, offer-number, offer-bytes}
+use Rattle.firmware.specs.Calls.{check_number, step_number, step_bytes, finished_number, offer_number, offer_bytes}
 
 -- A call on a table: adl_check; adl_step with a record's bytes and an event number; adl_finished with a record's bytes; adl_offer with these and the
 -- lent bytes.
@@ -35,7 +35,7 @@ lines =
 
 -- What a call answers, and what it leaves.
 abbrev pub does : List ℕ → Call → Shown ℕ
-does t check = shown (check-number t) []
-does t (step held e) = shown (step-number t held e) (step-bytes t held e)
-does t (finished held) = shown (finished-number t held) []
-does t (offer held lent) = shown (offer-number t held lent) (offer-bytes t held lent)
+does t check = shown (check_number t) []
+does t (step held e) = shown (step_number t held e) (step_bytes t held e)
+does t (finished held) = shown (finished_number t held) []
+does t (offer held lent) = shown (offer_number t held lent) (offer_bytes t held lent)

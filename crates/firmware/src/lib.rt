@@ -1,5 +1,5 @@
 ghost use Rattle.std.specs.Prelude.{◌≡◌, eqb, length};
-ghost use Rattle.firmware.specs.Calls.{number, left-bytes, check-number, step-number, step-bytes, finished-number, offer-number, offer-bytes};
+ghost use Rattle.firmware.specs.Calls.{number, left_bytes, check_number, step_number, step_bytes, finished_number, offer_number, offer_bytes};
 
 use record::Record;
 use table::{Answer, Finish};
@@ -23,7 +23,7 @@ fn number_of(answer: Answer) -> u8
 
 // What a step leaves of a record's bytes: those of the record after it where the event was taken, and else what was there.
 fn leave(bytes: &mut [u8], answer: Answer, bits: [u64; 8])
-    ensures { bytes.new ≡ left-bytes bytes.old bits answer }
+    ensures { bytes.new ≡ left_bytes bytes.old bits answer }
 {
     let Answer::Done = answer else {
         return;
@@ -34,7 +34,7 @@ fn leave(bytes: &mut [u8], answer: Answer, bits: [u64; 8])
 // 0 for a sound table, else 12.
 #[unsafe(no_mangle)]
 pub extern "C" fn adl_check(table: &[u8]) -> u8
-    ensures { result ≡ check-number table.now }
+    ensures { result ≡ check_number table.now }
 {
     let answer = table::check(table);
     number_of(answer)
@@ -43,8 +43,8 @@ pub extern "C" fn adl_check(table: &[u8]) -> u8
 // 0 for an event that was taken: the record's 64 bytes are then those after it. A refusal leaves them.
 #[unsafe(no_mangle)]
 pub extern "C" fn adl_step(table: &[u8], bytes: &mut [u8], event: u64) -> u8
-    ensures value { result ≡ step-number table.now bytes.old event }
-    ensures bytes_after { bytes.new ≡ step-bytes table.now bytes.old event }
+    ensures value { result ≡ step_number table.now bytes.old event }
+    ensures bytes_after { bytes.new ≡ step_bytes table.now bytes.old event }
 {
     if !is_record(bytes) {
         return 1;
@@ -61,8 +61,8 @@ pub extern "C" fn adl_step(table: &[u8], bytes: &mut [u8], event: u64) -> u8
 // 0 for an offer: 64 bytes are written then, and those past them stay. A refusal leaves all.
 #[unsafe(no_mangle)]
 pub extern "C" fn adl_offer(table: &[u8], bytes: &[u8], out: &mut [u8]) -> u8
-    ensures value { result ≡ offer-number table.now bytes.now out.old }
-    ensures out_after { out.new ≡ offer-bytes table.now bytes.now out.old }
+    ensures value { result ≡ offer_number table.now bytes.now out.old }
+    ensures out_after { out.new ≡ offer_bytes table.now bytes.now out.old }
 {
     if !is_record(bytes) {
         return 1;
@@ -75,7 +75,7 @@ pub extern "C" fn adl_offer(table: &[u8], bytes: &[u8], out: &mut [u8]) -> u8
 // 255 for a finished run, 0 for one that is not.
 #[unsafe(no_mangle)]
 pub extern "C" fn adl_finished(table: &[u8], bytes: &[u8]) -> u8
-    ensures { result ≡ finished-number table.now bytes.now }
+    ensures { result ≡ finished_number table.now bytes.now }
 {
     if !is_record(bytes) {
         return 1;

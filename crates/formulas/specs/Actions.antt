@@ -26,6 +26,6 @@ perform [] s = s
 perform (a ∷ more) s = perform more (λ i. cond (eqb a.variable i) a.value (s i))
 
 -- They set variables of the first n events only.
-unfoldable pub All-set : ℕ → List Action → Type 0
-All-set n [] = Unit {0}
-All-set n (a ∷ more) = (a.variable < n) × All-set n more
+unfoldable pub AllSet : ℕ → List Action → Type 0
+AllSet n [] = Unit {0}
+AllSet n (a ∷ more) = (a.variable < n) × AllSet n more

@@ -27,7 +27,7 @@ Speaks n (is m b) = m < n
 Speaks n (both f g) = Speaks n f × Speaks n g
 Speaks n (either f g) = Speaks n f × Speaks n g
 
-unfoldable pub All-speak : ℕ → List Formula → Type 0
+unfoldable pub AllSpeak : ℕ → List Formula → Type 0
 unfolding Speaks
-All-speak n [] = Unit {0}
-All-speak n (f ∷ fs) = Speaks n f × All-speak n fs
+AllSpeak n [] = Unit {0}
+AllSpeak n (f ∷ fs) = Speaks n f × AllSpeak n fs

@@ -29,21 +29,21 @@ abbrev pub labelled : List ℕ → ℕ → List ℕ → List ℕ
 labelled label k line = label ++ (decimal k ++ (bytes " " ++ (line ++ bytes "\n")))
 
 -- The guards from number k on.
-unfoldable pub guard-lines : Naming → ℕ → List Formula → List ℕ
+unfoldable pub guard_lines : Naming → ℕ → List Formula → List ℕ
 unfolding formula
-guard-lines v k [] = []
-guard-lines v k (f ∷ fs) = labelled (bytes "@grd_") k (formula v f) ++ guard-lines v (suc k) fs
+guard_lines v k [] = []
+guard_lines v k (f ∷ fs) = labelled (bytes "@grd_") k (formula v f) ++ guard_lines v (suc k) fs
 
 abbrev pub action : Naming → Action → List ℕ
 action v a = v a.variable ++ (bytes " := " ++ truth a.value)
 
 -- The actions from number k on.
-unfoldable pub action-lines : Naming → ℕ → List Action → List ℕ
-action-lines v k [] = []
-action-lines v k (a ∷ more) = labelled (bytes "@act_") k (action v a) ++ action-lines v (suc k) more
+unfoldable pub action_lines : Naming → ℕ → List Action → List ℕ
+action_lines v k [] = []
+action_lines v k (a ∷ more) = labelled (bytes "@act_") k (action v a) ++ action_lines v (suc k) more
 
 -- The text of event e with these guards and actions.
-unfoldable pub event-lines : Naming → ℕ → List Formula → List Action → List ℕ
-unfolding guard-lines action-lines
-event-lines v e guards acts =
-    bytes "event " ++ (v e ++ (bytes "\nwhere\n" ++ (guard-lines v 1 guards ++ (bytes "then\n" ++ (action-lines v 1 acts ++ bytes "end\n")))))
+unfoldable pub event_lines : Naming → ℕ → List Formula → List Action → List ℕ
+unfolding guard_lines action_lines
+event_lines v e guards acts =
+    bytes "event " ++ (v e ++ (bytes "\nwhere\n" ++ (guard_lines v 1 guards ++ (bytes "then\n" ++ (action_lines v 1 acts ++ bytes "end\n")))))

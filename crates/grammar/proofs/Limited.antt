@@ -8,95 +8,95 @@ use native.Mathlib.Omega.{arith}
 use lib.ListN.{length}
 use Rattle.tokens.specs.Token.{Token}
 use Rattle.grammar.specs.Machine.{Want, node, root, Move, off, big, push, Outcome, whole, stop, expand, proceed, run, outcome, depths}
-use Rattle.grammar.proofs.Limits.{nodes-in, count_of, over-limit}
-use Rattle.grammar.proofs.LimitedFrom.{keys, opens, closes, big-at, big-in, big-here, big-later, big-nil, over-limit-in, nodes-cons, Safe, safe-cons}
-use Rattle.grammar.proofs.Levels.{Turns, Level, turns-append, Moves, takes-moves}
+use Rattle.grammar.proofs.Limits.{nodes_in, count_of, over_limit}
+use Rattle.grammar.proofs.LimitedFrom.{keys, opens, closes, big_at, big_in, big_here, big_later, big_nil, over_limit_in, nodes_cons, Safe, safe_cons}
+use Rattle.grammar.proofs.Levels.{Turns, Level, turns_append, Moves, takes_moves}
 use Rattle.grammar.proofs.Takes.{takes}
 
 -- None of the first j tokens is too many or too deep.
-abbrev Safe-below : ℕ → ℕ → List Token → ℕ → Type 0
-Safe-below n p ts j = (i : ℕ) → i < j → big-in n p ts i ≡ false
+abbrev SafeBelow : ℕ → ℕ → List Token → ℕ → Type 0
+SafeBelow n p ts j = (i : ℕ) → i < j → big_in n p ts i ≡ false
 
 -- Why the token j is refused with the number x.
 abbrev Why : ℕ → ℕ → List Token → ℕ → ℕ → Type 0
-Why n p ts j x = (x ≡ 5) ⊎ ((x ≡ 6) × (j < length ts) × (big-in n p ts j ≡ true))
+Why n p ts j x = (x ≡ 5) ⊎ ((x ≡ 6) × (j < length ts) × (big_in n p ts j ≡ true))
 
 -- What an outcome says of the tokens, before which n nodes, p open parentheses and k tokens stand.
 abbrev Limited : ℕ → ℕ → ℕ → List Token → Outcome → Type 0
-Limited n p k ts (whole m) = (m ≡ n + nodes-in ts) × Safe n p ts
-Limited n p k ts (stop x i) = (j : ℕ) × (i ≡ k + j) × (j ≤ length ts) × Safe-below n p ts j × Why n p ts j x
+Limited n p k ts (whole m) = (m ≡ n + nodes_in ts) × Safe n p ts
+Limited n p k ts (stop x i) = (j : ℕ) × (i ≡ k + j) × (j ≤ length ts) × SafeBelow n p ts j × Why n p ts j x
 
 -- One token more in front.
-module _ (n p r k : ℕ) (t : Token) (ts : List Token) (e : r + closes t ≡ p + opens t) (h : big-at t n p ≡ false) where
-  below_more : (j : ℕ) → Safe-below (n + keys t) r ts j → Safe-below n p (t ∷ ts) (suc j)
-  below_more j s zero l = big-here n p t ts ∙ h
-  below_more j s (suc i) l = big-later n p r t ts i e ∙ s i (omega arith)
+module _ (n p r k : ℕ) (t : Token) (ts : List Token) (e : r + closes t ≡ p + opens t) (h : big_at t n p ≡ false) where
+  below_more : (j : ℕ) → SafeBelow (n + keys t) r ts j → SafeBelow n p (t ∷ ts) (suc j)
+  below_more j s zero l = big_here n p t ts ∙ h
+  below_more j s (suc i) l = big_later n p r t ts i e ∙ s i (omega arith)
 
-  why-more : (j x : ℕ) → Why (n + keys t) r ts j x → Why n p (t ∷ ts) (suc j) x
-  why-more j x (inl y) = inl y
-  why-more j x (inr y) = inr (y.0, omega arith, big-later n p r t ts j e ∙ y.2)
+  why_more : (j x : ℕ) → Why (n + keys t) r ts j x → Why n p (t ∷ ts) (suc j) x
+  why_more j x (inl y) = inl y
+  why_more j x (inr y) = inr (y.0, omega arith, big_later n p r t ts j e ∙ y.2)
 
-  limited-more : (o : Outcome) → Limited (n + keys t) r (suc k) ts o → Limited n p k (t ∷ ts) o
-  limited-more (whole m) s = let y = nodes-cons t ts in (omega arith, (safe-cons n p r t ts e).1 (h, s.1))
-  limited-more (stop x i) s = (suc s.0, omega arith, omega arith, below_more s.0 s.3, why-more s.0 x s.4)
+  limited_more : (o : Outcome) → Limited (n + keys t) r (suc k) ts o → Limited n p k (t ∷ ts) o
+  limited_more (whole m) s = let y = nodes_cons t ts in (omega arith, (safe_cons n p r t ts e).1 (h, s.1))
+  limited_more (stop x i) s = (suc s.0, omega arith, omega arith, below_more s.0 s.3, why_more s.0 x s.4)
 
 -- A refusal at the first token.
-limited-here : (n p k : ℕ) (ts : List Token) (x : ℕ) → Why n p ts 0 x → Limited n p k ts (stop x k)
-limited-here n p k ts x y = (0, omega arith, omega arith, λ i l. (let z : ⊥ = omega arith in absurd z), y)
+limited_here : (n p k : ℕ) (ts : List Token) (x : ℕ) → Why n p ts 0 x → Limited n p k ts (stop x k)
+limited_here n p k ts x y = (0, omega arith, omega arith, λ i l. (let z : ⊥ = omega arith in absurd z), y)
 
 -- Of each run.
 module _ (n p k : ℕ) (t : Token) (ts : List Token) (q : ℕ) (go : ℕ → List Want → Outcome) where
-  limited-move : (m : Move) → Moves m n t p q → ((u : ℕ) (vs : List Want) (r : ℕ) → u ≡ keys t → Turns vs r q → Limited (n + keys t) r (suc k) ts (go u vs)) → Limited n p k (t ∷ ts) (proceed m k go)
-  limited-move off s f = limited-here n p k (t ∷ ts) 5 (inl refl)
-  limited-move big s f = limited-here n p k (t ∷ ts) 6 (inr (refl, omega arith, big-here n p t ts ∙ s))
-  limited-move (push u vs) s f = limited-more n p s.2 k t ts s.3 s.0 (go u vs) (f u vs s.2 s.1 s.4)
+  limited_move : (m : Move) → Moves m n t p q → ((u : ℕ) (vs : List Want) (r : ℕ) → u ≡ keys t → Turns vs r q → Limited (n + keys t) r (suc k) ts (go u vs)) → Limited n p k (t ∷ ts) (proceed m k go)
+  limited_move off s f = limited_here n p k (t ∷ ts) 5 (inl refl)
+  limited_move big s f = limited_here n p k (t ∷ ts) 6 (inr (refl, omega arith, big_here n p t ts ∙ s))
+  limited_move (push u vs) s f = limited_more n p s.2 k t ts s.3 s.0 (go u vs) (f u vs s.2 s.1 s.4)
 
-run-limited : (ts : List Token) (ws : List Want) (n p k : ℕ) → Level ws p → Limited n p k ts (run ws n k ts)
+run_limited : (ts : List Token) (ws : List Want) (n p k : ℕ) → Level ws p → Limited n p k ts (run ws n k ts)
 unfolding run count_of
-run-limited [] [] n p k l = (omega arith, λ i. big-nil n p i)
-run-limited [] (w ∷ ws) n p k l = limited-here n p k [] 5 (inl refl)
-run-limited (t ∷ ts) [] n p k l = limited-here n p k (t ∷ ts) 5 (inl refl)
-run-limited (t ∷ ts) (w ∷ ws) n p k l =
-    limited-move n p k t ts l.0 (λ u vs. run (vs ++ ws) (n + u) (suc k) ts) (expand w n t) (takes-moves (takes n w t) p l.0 l.1)
-    (λ u vs r e s. rw e (run-limited ts (vs ++ ws) (n + keys t) r (suc k) (turns-append vs ws r l.0 0 s l.2)))
+run_limited [] [] n p k l = (omega arith, λ i. big_nil n p i)
+run_limited [] (w ∷ ws) n p k l = limited_here n p k [] 5 (inl refl)
+run_limited (t ∷ ts) [] n p k l = limited_here n p k (t ∷ ts) 5 (inl refl)
+run_limited (t ∷ ts) (w ∷ ws) n p k l =
+    limited_move n p k t ts l.0 (λ u vs. run (vs ++ ws) (n + u) (suc k) ts) (expand w n t) (takes_moves (takes n w t) p l.0 l.1)
+    (λ u vs r e s. rw e (run_limited ts (vs ++ ws) (n + keys t) r (suc k) (turns_append vs ws r l.0 0 s l.2)))
 
-outcome-limited : (ts : List Token) → Limited 0 0 0 ts (outcome ts)
+outcome_limited : (ts : List Token) → Limited 0 0 0 ts (outcome ts)
 unfolding outcome
-outcome-limited ts = run-limited ts (node root depths ∷ []) 0 0 0 (0, omega arith, refl)
+outcome_limited ts = run_limited ts (node root depths ∷ []) 0 0 0 (0, omega arith, refl)
 
 -- Why the token k is refused with the number x, by the tokens alone.
 abbrev Known : List Token → ℕ → ℕ → Type 0
-Known ts x k = (x ≡ 5) ⊎ ((x ≡ 6) × (k < length ts) × (over-limit ts k ≡ true))
+Known ts x k = (x ≡ 5) ⊎ ((x ≡ 6) × (k < length ts) × (over_limit ts k ≡ true))
 
 -- What a refusal says of the tokens.
 module _ (ts : List Token) (x k : ℕ) (e : outcome ts ≡ stop x k) where
   refused : Limited 0 0 0 ts (stop x k)
-  refused = rw e at (outcome-limited ts)
+  refused = rw e at (outcome_limited ts)
 
   place : refused.0 ≡ k
   place = let t = refused.1 in omega arith
 
-  none_before : (j : ℕ) → j < k → over-limit ts j ≡ false
-  none_before j l = over-limit-in ts j ∙ refused.3 j (rw place l)
+  none_before : (j : ℕ) → j < k → over_limit ts j ≡ false
+  none_before j l = over_limit_in ts j ∙ refused.3 j (rw place l)
 
   why : Known ts x k
   why = go refused.4
     where
       go : Why 0 0 ts refused.0 x → Known ts x k
       go (inl y) = inl y
-      go (inr y) = inr (y.0, rw place at y.1, over-limit-in ts k ∙ rw place at y.2)
+      go (inr y) = inr (y.0, rw place at y.1, over_limit_in ts k ∙ rw place at y.2)
 
-pub big-over-limit : (ts : List Token) (k : ℕ) → outcome ts ≡ stop 6 k → (k < length ts) × (over-limit ts k ≡ true) × ((j : ℕ) → j < k → over-limit ts j ≡ false)
-big-over-limit ts k e = go (why ts 6 k e)
+pub big_over_limit : (ts : List Token) (k : ℕ) → outcome ts ≡ stop 6 k → (k < length ts) × (over_limit ts k ≡ true) × ((j : ℕ) → j < k → over_limit ts j ≡ false)
+big_over_limit ts k e = go (why ts 6 k e)
   where
-    go : Known ts 6 k → (k < length ts) × (over-limit ts k ≡ true) × ((j : ℕ) → j < k → over-limit ts j ≡ false)
+    go : Known ts 6 k → (k < length ts) × (over_limit ts k ≡ true) × ((j : ℕ) → j < k → over_limit ts j ≡ false)
     go (inl y) = let z : ⊥ = omega arith in absurd z
     go (inr y) = (y.1, y.2, none_before ts 6 k e)
 
-pub off-none-big : (ts : List Token) (k : ℕ) → outcome ts ≡ stop 5 k → (j : ℕ) → j < k → over-limit ts j ≡ false
-off-none-big ts k e = none_before ts 5 k e
+pub off_none_big : (ts : List Token) (k : ℕ) → outcome ts ≡ stop 5 k → (j : ℕ) → j < k → over_limit ts j ≡ false
+off_none_big ts k e = none_before ts 5 k e
 
-pub whole-none-big : (ts : List Token) (n : ℕ) → outcome ts ≡ whole n → (n ≡ nodes-in ts) × ((j : ℕ) → over-limit ts j ≡ false)
-whole-none-big ts n e =
-    let t : Limited 0 0 0 ts (whole n) = rw e at (outcome-limited ts) in
-    (omega arith, λ j. over-limit-in ts j ∙ t.1 j)
+pub whole_none_big : (ts : List Token) (n : ℕ) → outcome ts ≡ whole n → (n ≡ nodes_in ts) × ((j : ℕ) → over_limit ts j ≡ false)
+whole_none_big ts n e =
+    let t : Limited 0 0 0 ts (whole n) = rw e at (outcome_limited ts) in
+    (omega arith, λ j. over_limit_in ts j ∙ t.1 j)

@@ -7,19 +7,19 @@ use native.Mathlib.Omega.{arith}
 use Rattle.diagram.specs.Tree.{Name, flow, Children, Child, plain, loop, group, replicator, Member, leaf, inner, Members}
 use Rattle.tokens.specs.Classes.{between}
 use Rattle.tokens.specs.Token.{closing, comma, Keyword, Token, name, numeral, named}
-use Rattle.tokens.proofs.Between.{in-range}
-use Rattle.grammar.specs.Tokens.{bit, pars-tokens, children-tokens, child-tokens, member-tokens, members-tokens}
+use Rattle.tokens.proofs.Between.{in_range}
+use Rattle.grammar.specs.Tokens.{bit, pars_tokens, children_tokens, child_tokens, member_tokens, members_tokens}
 use Rattle.grammar.specs.Named.{all_named}
 use Rattle.grammar.specs.Machine.{Place, member, child, allows, Want, sign, number, params, param, node, more, others}
 use Rattle.grammar.proofs.Fit.{FitChildren, FitChild, FitMember, FitMembers}
 
 -- The keyword of a node.
-abbrev pub member-shape : Member → Keyword
-member-shape (leaf n) = Keyword.leaf
-member-shape (inner f) = Keyword.flow
+abbrev pub member_shape : Member → Keyword
+member_shape (leaf n) = Keyword.leaf
+member_shape (inner f) = Keyword.flow
 
 abbrev pub shape : Child → Keyword
-shape (plain m) = member-shape m
+shape (plain m) = member_shape m
 shape (loop m) = Keyword.loop
 shape (group y a b ms) = Keyword.group y
 shape (replicator y par size m) = Keyword.replicator y
@@ -29,23 +29,23 @@ module _ (words : List Name) where
     pub pars : List Name
     pub sw : Bool
     pub names : all_named words pars ≡ true
-    pub tokens : ts ≡ pars-tokens pars (Token.sign comma ∷ bit sw ∷ Token.sign closing ∷ rest)
+    pub tokens : ts ≡ pars_tokens pars (Token.sign comma ∷ bit sw ∷ Token.sign closing ∷ rest)
 
   pub record Node (p : Place) (ts rest : List Token) : Type 0 where
     pub tree : Child
     pub fit : FitChild words tree
     pub allowed : allows p (shape tree) ≡ true
-    pub tokens : ts ≡ child-tokens tree rest
+    pub tokens : ts ≡ child_tokens tree rest
 
   pub record More (ts rest : List Token) : Type 0 where
     pub tree : Children
     pub fit : FitChildren words tree
-    pub tokens : ts ≡ children-tokens tree (Token.sign closing ∷ rest)
+    pub tokens : ts ≡ children_tokens tree (Token.sign closing ∷ rest)
 
   pub record Others (ts rest : List Token) : Type 0 where
     pub tree : Members
     pub fit : FitMembers words tree
-    pub tokens : ts ≡ members-tokens tree (Token.sign closing ∷ rest)
+    pub tokens : ts ≡ members_tokens tree (Token.sign closing ∷ rest)
 
   -- The entry spells the tokens up to the rest.
   abbrev pub Spells : Want → List Token → List Token → Type 0
@@ -77,35 +77,35 @@ module _ (words : List Name) where
   pub record Membered (ts rest : List Token) : Type 0 where
     pub tree : Member
     pub fit : FitMember words tree
-    pub tokens : ts ≡ member-tokens tree rest
+    pub tokens : ts ≡ member_tokens tree rest
 
   pub as_member : {ts rest : List Token} → Node member ts rest → Membered ts rest
-  unfolding child-tokens
+  unfolding child_tokens
   as_member {ts} {rest} n = go n.tree n.fit n.allowed n.tokens
     where
-      go : (c : Child) → FitChild words c → allows member (shape c) ≡ true → ts ≡ child-tokens c rest → Membered ts rest
+      go : (c : Child) → FitChild words c → allows member (shape c) ≡ true → ts ≡ child_tokens c rest → Membered ts rest
       go (plain m) h a e = record { tree = m; fit = h; tokens = e }
       go (loop m) h a e = absurd (false≢true a)
       go (group y b c ms) h a e = absurd (false≢true a)
       go (replicator y par size m) h a e = absurd (false≢true a)
 
-  pub a-member : (m : Member) → FitMember words m → (rest : List Token) → Node member (member-tokens m rest) rest
-  unfolding child-tokens
-  a-member m h rest = record { tree = plain m; fit = h; allowed = small m; tokens = refl }
+  pub a_member : (m : Member) → FitMember words m → (rest : List Token) → Node member (member_tokens m rest) rest
+  unfolding child_tokens
+  a_member m h rest = record { tree = plain m; fit = h; allowed = small m; tokens = refl }
     where
-      small : (m : Member) → allows member (member-shape m) ≡ true
+      small : (m : Member) → allows member (member_shape m) ≡ true
       small (leaf n) = refl
       small (inner f) = refl
 
-  pub a-child : (c : Child) → FitChild words c → (rest : List Token) → Node child (child-tokens c rest) rest
-  a-child c h rest = record { tree = c; fit = h; allowed = refl; tokens = refl }
+  pub a_child : (c : Child) → FitChild words c → (rest : List Token) → Node child (child_tokens c rest) rest
+  a_child c h rest = record { tree = c; fit = h; allowed = refl; tokens = refl }
 
 -- "0 or 1"
-pub bit-number : (b : Bool) → (n : ℕ) × (between 0 1 n ≡ true) × (bit b ≡ numeral n)
-bit-number false = (0, refl, refl)
-bit-number true = (1, refl, refl)
+pub bit_number : (b : Bool) → (n : ℕ) × (between 0 1 n ≡ true) × (bit b ≡ numeral n)
+bit_number false = (0, refl, refl)
+bit_number true = (1, refl, refl)
 
 pub number_bit : (n : ℕ) → between 0 1 n ≡ true → (b : Bool) × (numeral n ≡ bit b)
 number_bit zero h = (false, refl)
 number_bit (suc zero) h = (true, refl)
-number_bit (suc (suc n)) h = let z : ⊥ = omega (arith, in-range 0 1 (suc (suc n)) h) in absurd z
+number_bit (suc (suc n)) h = let z : ⊥ = omega (arith, in_range 0 1 (suc (suc n)) h) in absurd z

@@ -3,15 +3,15 @@ use mathlib.Core.Path.{refl}
 use Rattle.tokens.specs.Classes.{class_of}
 use Rattle.tokens.specs.Remarks.{stretch}
 use Rattle.tokens.specs.Words.{front, keywords}
-use Rattle.tokens.specs.Spans.{width, spans, spans-of}
-use Rattle.tokens.specs.Token.{named, word-token, token-of, text-tokens}
+use Rattle.tokens.specs.Spans.{width, spans, spans_of}
+use Rattle.tokens.specs.Token.{named, word_token, token_of, text_tokens}
 use Rattle.grammar.specs.Machine.{expand, run, outcome}
 use Rattle.grammar.specs.Worked.{words, Tokened, drawings, Worked}
 
-pub tokens-worked : Tokened words
-unfolding class_of keywords named word-token token-of
-tokens-worked = (refl, refl)
+pub tokens_worked : Tokened words
+unfolding class_of keywords named word_token token_of
+tokens_worked = (refl, refl)
 
 pub worked : Worked drawings
-unfolding class_of stretch front keywords width spans spans-of named word-token token-of text-tokens expand run outcome
+unfolding class_of stretch front keywords width spans spans_of named word_token token_of text_tokens expand run outcome
 worked = refl

@@ -1,15 +1,15 @@
 -- The reader as a machine: what it still wants is a list, of which each token replaces the first entry.
 use Rattle.std.specs.Prelude.{Bool, true, false, ◌||◌, cond, List, [], ◌∷◌, ◌++◌, ℕ, suc, ◌+◌, ◌-◌, eqb, leb}
 use Rattle.tokens.specs.Classes.{between}
-use Rattle.tokens.specs.Token.{Sign, opening, closing, comma, colon, Keyword, flow, leaf, group, replicator, loop, Token, key, name, numeral, other, sign-code}
+use Rattle.tokens.specs.Token.{Sign, opening, closing, comma, colon, Keyword, flow, leaf, group, replicator, loop, Token, key, name, numeral, other, sign_code}
 
 -- What is asked of a token: is it this sign, a name, a keyword, a number from a to b.
-abbrev pub is-sign : Sign → Token → Bool
-is-sign s (Token.sign r) = eqb (sign-code r) (sign-code s)
-is-sign s (key k) = false
-is-sign s (name w) = false
-is-sign s (numeral n) = false
-is-sign s other = false
+abbrev pub is_sign : Sign → Token → Bool
+is_sign s (Token.sign r) = eqb (sign_code r) (sign_code s)
+is_sign s (key k) = false
+is_sign s (name w) = false
+is_sign s (numeral n) = false
+is_sign s other = false
 
 abbrev pub is_name : Token → Bool
 is_name (Token.sign r) = false
@@ -39,12 +39,12 @@ pub data Place : Type 0 where
   member : Place
   child : Place
 
-abbrev pub is-flow : Keyword → Bool
-is-flow flow = true
-is-flow leaf = false
-is-flow (group y) = false
-is-flow (replicator y) = false
-is-flow loop = false
+abbrev pub is_flow : Keyword → Bool
+is_flow flow = true
+is_flow leaf = false
+is_flow (group y) = false
+is_flow (replicator y) = false
+is_flow loop = false
 
 abbrev pub is_member : Keyword → Bool
 is_member flow = true
@@ -54,7 +54,7 @@ is_member (replicator y) = false
 is_member loop = false
 
 abbrev pub allows : Place → Keyword → Bool
-allows root k = is-flow k
+allows root k = is_flow k
 allows member k = is_member k
 allows child k = true
 
@@ -88,28 +88,28 @@ abbrev pub ref : List Want
 ref = sign opening ∷ number 0 1 ∷ sign closing ∷ []
 
 -- What follows the keyword of a node, whose parts have d depths left.
-abbrev pub flow-parts : ℕ → List Want
-flow-parts d = sign opening ∷ named ∷ params ∷ sign opening ∷ node child d ∷ ref ++ (more d ∷ [])
+abbrev pub flow_parts : ℕ → List Want
+flow_parts d = sign opening ∷ named ∷ params ∷ sign opening ∷ node child d ∷ ref ++ (more d ∷ [])
 
-abbrev pub leaf-parts : List Want
-leaf-parts = sign opening ∷ named ∷ sign closing ∷ []
+abbrev pub leaf_parts : List Want
+leaf_parts = sign opening ∷ named ∷ sign closing ∷ []
 
-abbrev pub group-parts : ℕ → List Want
-group-parts d = sign opening ∷ node member d ∷ node member d ∷ others d ∷ []
+abbrev pub group_parts : ℕ → List Want
+group_parts d = sign opening ∷ node member d ∷ node member d ∷ others d ∷ []
 
-abbrev pub replicator-parts : ℕ → List Want
-replicator-parts d =
+abbrev pub replicator_parts : ℕ → List Want
+replicator_parts d =
     sign opening ∷ named ∷ sign colon ∷ number 1 16 ∷ sign closing ∷ sign opening ∷ node member d ∷ sign closing ∷ []
 
-abbrev pub loop-parts : ℕ → List Want
-loop-parts d = sign opening ∷ node member d ∷ sign closing ∷ []
+abbrev pub loop_parts : ℕ → List Want
+loop_parts d = sign opening ∷ node member d ∷ sign closing ∷ []
 
 abbrev pub parts : Keyword → ℕ → List Want
-parts flow d = flow-parts d
-parts leaf d = leaf-parts
-parts (group y) d = group-parts d
-parts (replicator y) d = replicator-parts d
-parts loop d = loop-parts d
+parts flow d = flow_parts d
+parts leaf d = leaf_parts
+parts (group y) d = group_parts d
+parts (replicator y) d = replicator_parts d
+parts loop d = loop_parts d
 
 -- Number 6: "node 257, or a node at depth 13": n nodes stand before it, and d depths are left.
 abbrev pub full : ℕ → ℕ → Bool
@@ -125,14 +125,14 @@ begin p d n other after = off
 
 -- What becomes of the first entry at the token t, where n nodes stand before it.
 unfoldable pub expand : Want → ℕ → Token → Move
-expand (sign s) n t = cond (is-sign s t) (push 0 []) off
+expand (sign s) n t = cond (is_sign s t) (push 0 []) off
 expand named n t = cond (is_name t) (push 0 []) off
 expand (number a b) n t = cond (counts a b t) (push 0 []) off
-expand params n t = cond (is-sign comma t) (push 0 (param ∷ [])) off
+expand params n t = cond (is_sign comma t) (push 0 (param ∷ [])) off
 expand param n t = cond (is_name t) (push 0 (params ∷ [])) (cond (counts 0 1 t) (push 0 (sign closing ∷ [])) off)
 expand (node p d) n t = begin p d n t []
-expand (more d) n t = cond (is-sign closing t) (push 0 []) (begin child d n t (ref ++ (more d ∷ [])))
-expand (others d) n t = cond (is-sign closing t) (push 0 []) (begin member d n t (others d ∷ []))
+expand (more d) n t = cond (is_sign closing t) (push 0 []) (begin child d n t (ref ++ (more d ∷ [])))
+expand (others d) n t = cond (is_sign closing t) (push 0 []) (begin member d n t (others d ∷ []))
 
 abbrev pub proceed : Move → ℕ → (ℕ → List Want → Outcome) → Outcome
 proceed off k go = stop 5 k

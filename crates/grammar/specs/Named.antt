@@ -8,23 +8,23 @@ all_named words [] = true
 all_named words (p ∷ ps) = named words p && all_named words ps
 
 unfoldable mutual
-  pub flow-named : List Name → Flow → Bool
-  flow-named words (flow n ps sw c r cs) = (named words n && all_named words ps) && (child-named words c && children-named words cs)
+  pub flow_named : List Name → Flow → Bool
+  flow_named words (flow n ps sw c r cs) = (named words n && all_named words ps) && (child_named words c && children_named words cs)
 
-  pub children-named : List Name → Children → Bool
-  children-named words none = true
-  children-named words (next c r cs) = child-named words c && children-named words cs
+  pub children_named : List Name → Children → Bool
+  children_named words none = true
+  children_named words (next c r cs) = child_named words c && children_named words cs
 
-  pub child-named : List Name → Child → Bool
-  child-named words (plain m) = member-named words m
-  child-named words (loop m) = member-named words m
-  child-named words (group y a b ms) = member-named words a && (member-named words b && members-named words ms)
-  child-named words (replicator y par size m) = named words par && member-named words m
+  pub child_named : List Name → Child → Bool
+  child_named words (plain m) = member_named words m
+  child_named words (loop m) = member_named words m
+  child_named words (group y a b ms) = member_named words a && (member_named words b && members_named words ms)
+  child_named words (replicator y par size m) = named words par && member_named words m
 
-  pub member-named : List Name → Member → Bool
-  member-named words (leaf n) = named words n
-  member-named words (inner f) = flow-named words f
+  pub member_named : List Name → Member → Bool
+  member_named words (leaf n) = named words n
+  member_named words (inner f) = flow_named words f
 
-  pub members-named : List Name → Members → Bool
-  members-named words end = true
-  members-named words (also m ms) = member-named words m && members-named words ms
+  pub members_named : List Name → Members → Bool
+  members_named words end = true
+  members_named words (also m ms) = member_named words m && members_named words ms

@@ -10,7 +10,7 @@ use Rattle.tokens.specs.Token.{Token, bytes_of}
 unfoldable pub printed : List ℕ → List ℕ
 printed text = flatten (tokens text)
 
--- The same byte by byte, by whether a remark is open at the front: `grammar.proofs.Printing.without-blanks`. A byte that is kept stands in none,
+-- The same byte by byte, by whether a remark is open at the front: `grammar.proofs.Printing.without_blanks`. A byte that is kept stands in none,
 -- or it is one for which the text is refused.
 unfoldable pub unblanked : Bool → List ℕ → List ℕ
 unblanked o [] = []

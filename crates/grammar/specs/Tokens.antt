@@ -9,35 +9,35 @@ bit false = numeral 0
 bit true = numeral 1
 
 -- The pars of a flow, each after a comma.
-abbrev pub pars-tokens : List Name → List Token → List Token
-pars-tokens [] ts = ts
-pars-tokens (p ∷ ps) ts = sign comma ∷ name p ∷ pars-tokens ps ts
+abbrev pub pars_tokens : List Name → List Token → List Token
+pars_tokens [] ts = ts
+pars_tokens (p ∷ ps) ts = sign comma ∷ name p ∷ pars_tokens ps ts
 
 -- A child's `(ref)`.
-abbrev pub ref-tokens : Bool → List Token → List Token
-ref-tokens r ts = sign opening ∷ bit r ∷ sign closing ∷ ts
+abbrev pub ref_tokens : Bool → List Token → List Token
+ref_tokens r ts = sign opening ∷ bit r ∷ sign closing ∷ ts
 
 unfoldable mutual
-  pub flow-tokens : Flow → List Token → List Token
-  flow-tokens (flow n ps sw c r cs) ts =
+  pub flow_tokens : Flow → List Token → List Token
+  flow_tokens (flow n ps sw c r cs) ts =
       key Keyword.flow ∷ sign opening ∷ name n
-      ∷ pars-tokens ps (sign comma ∷ bit sw ∷ sign closing ∷ sign opening ∷ child-tokens c (ref-tokens r (children-tokens cs (sign closing ∷ ts))))
+      ∷ pars_tokens ps (sign comma ∷ bit sw ∷ sign closing ∷ sign opening ∷ child_tokens c (ref_tokens r (children_tokens cs (sign closing ∷ ts))))
 
-  pub children-tokens : Children → List Token → List Token
-  children-tokens none ts = ts
-  children-tokens (next c r cs) ts = child-tokens c (ref-tokens r (children-tokens cs ts))
+  pub children_tokens : Children → List Token → List Token
+  children_tokens none ts = ts
+  children_tokens (next c r cs) ts = child_tokens c (ref_tokens r (children_tokens cs ts))
 
-  pub child-tokens : Child → List Token → List Token
-  child-tokens (plain m) ts = member-tokens m ts
-  child-tokens (loop m) ts = key Keyword.loop ∷ sign opening ∷ member-tokens m (sign closing ∷ ts)
-  child-tokens (group y a b ms) ts = key (Keyword.group y) ∷ sign opening ∷ member-tokens a (member-tokens b (members-tokens ms (sign closing ∷ ts)))
-  child-tokens (replicator y par size m) ts =
-      key (Keyword.replicator y) ∷ sign opening ∷ name par ∷ sign colon ∷ numeral size ∷ sign closing ∷ sign opening ∷ member-tokens m (sign closing ∷ ts)
+  pub child_tokens : Child → List Token → List Token
+  child_tokens (plain m) ts = member_tokens m ts
+  child_tokens (loop m) ts = key Keyword.loop ∷ sign opening ∷ member_tokens m (sign closing ∷ ts)
+  child_tokens (group y a b ms) ts = key (Keyword.group y) ∷ sign opening ∷ member_tokens a (member_tokens b (members_tokens ms (sign closing ∷ ts)))
+  child_tokens (replicator y par size m) ts =
+      key (Keyword.replicator y) ∷ sign opening ∷ name par ∷ sign colon ∷ numeral size ∷ sign closing ∷ sign opening ∷ member_tokens m (sign closing ∷ ts)
 
-  pub member-tokens : Member → List Token → List Token
-  member-tokens (leaf n) ts = key Keyword.leaf ∷ sign opening ∷ name n ∷ sign closing ∷ ts
-  member-tokens (inner f) ts = flow-tokens f ts
+  pub member_tokens : Member → List Token → List Token
+  member_tokens (leaf n) ts = key Keyword.leaf ∷ sign opening ∷ name n ∷ sign closing ∷ ts
+  member_tokens (inner f) ts = flow_tokens f ts
 
-  pub members-tokens : Members → List Token → List Token
-  members-tokens end ts = ts
-  members-tokens (also m ms) ts = member-tokens m (members-tokens ms ts)
+  pub members_tokens : Members → List Token → List Token
+  members_tokens end ts = ts
+  members_tokens (also m ms) ts = member_tokens m (members_tokens ms ts)

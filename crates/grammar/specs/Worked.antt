@@ -4,7 +4,7 @@ use Rattle.std.specs.Prelude.{◌≡◌, List, [], ◌∷◌, ◌++◌, map, ℕ
 use Rattle.base.specs.Text.{bytes}
 use Rattle.tokens.specs.Words.{keywords}
 use Rattle.diagram.specs.Tree.{all, some, one}
-use Rattle.tokens.specs.Token.{opening, closing, comma, colon, flow, leaf, group, replicator, loop, Token, sign, key, name, numeral, other, token-of, text-tokens, code}
+use Rattle.tokens.specs.Token.{opening, closing, comma, colon, flow, leaf, group, replicator, loop, Token, sign, key, name, numeral, other, token_of, text_tokens, code}
 use Rattle.grammar.specs.Machine.{Outcome, whole, stop, outcome}
 
 -- A word of 24 bytes is a name, one of 25 is not; case counts; a numeral has no leading zero and is at most 16; a tab is foreign.
@@ -39,7 +39,7 @@ words =
     ∷ []
 
 abbrev pub Tokened : List (List ℕ × Token × ℕ) → Type 0
-Tokened ws = (map (λ w. token-of keywords w.0) ws ≡ map (λ w. w.1) ws) × (map (λ w. code w.1) ws ≡ map (λ w. w.2) ws)
+Tokened ws = (map (λ w. token_of keywords w.0) ws ≡ map (λ w. w.1) ws) × (map (λ w. code w.1) ws ≡ map (λ w. w.2) ws)
 
 -- So many children `leaf(a)(0)`, and the root with them.
 abbrev pub leaves : ℕ → List ℕ
@@ -60,4 +60,4 @@ abbrev pub drawings : List (List ℕ × Outcome)
 drawings = (rooted 255, whole 256) ∷ (rooted 256, stop 6 1792) ∷ (nested 11, whole 12) ∷ (nested 12, stop 6 84) ∷ []
 
 abbrev pub Worked : List (List ℕ × Outcome) → Type 0
-Worked ds = map (λ d. outcome (text-tokens keywords d.0)) ds ≡ map (λ d. d.1) ds
+Worked ds = map (λ d. outcome (text_tokens keywords d.0)) ds ≡ map (λ d. d.1) ds

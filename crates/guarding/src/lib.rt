@@ -2,10 +2,10 @@ ghost use Rattle.std.specs.Prelude.{◌≡◌, true, false, [], ◌∷◌, ◌+�
 ghost use Rattle.output.specs.Buffer.{buffer, put_all};
 ghost use Rattle.process.specs.Process.{Process, owns};
 ghost use Rattle.postfix.specs.Postfix.{postfix};
-ghost use Rattle.formulas.specs.Lines.{guard-lines};
-ghost use Rattle.formulas.specs.Conditions.{complete-when, guarded};
+ghost use Rattle.formulas.specs.Lines.{guard_lines};
+ghost use Rattle.formulas.specs.Conditions.{complete_when, guarded};
 ghost use Rattle.variables.specs.code.Spelled.{spelled, over};
-ghost use Rattle.guarding.specs.code.Asked.{label as label_of, own-guard, second-asked, first-asked, cut_at, Fits, Wrote, Guarded};
+ghost use Rattle.guarding.specs.code.Asked.{label as label_of, own_guard, second_asked, first_asked, cut_at, Fits, Wrote, Guarded};
 
 use variables::Variables;
 
@@ -42,7 +42,7 @@ fn idle_line(
     out: &mut [u8],
     at: usize,
 ) -> usize
-    ensures { from + after < 512 → buffer result out.new ≡ put_all (guard-lines (spelled text.now v) k (over false from after ∷ [])) (buffer at out.old) }
+    ensures { from + after < 512 → buffer result out.new ≡ put_all (guard_lines (spelled text.now v) k (over false from after ∷ [])) (buffer at out.old) }
 {
     let a = label(k, out, at);
     let b = variables::range(text, v, from, after, false, out, a);
@@ -60,7 +60,7 @@ fn complete_line(
     at: usize,
 ) -> Lines
     requires { k < 1024 }
-    ensures { (p : Process) → codes.now ≡ postfix p → Fits p codes.now from → Wrote (spelled text.now v) k (guarded (complete-when p)) out.old at result out.new }
+    ensures { (p : Process) → codes.now ≡ postfix p → Fits p codes.now from → Wrote (spelled text.now v) k (guarded (complete_when p)) out.old at result out.new }
 {
     if conditions::lacks(codes, false) {
         return Lines { at, next: k };
@@ -83,7 +83,7 @@ fn ask_second(
     at: usize,
 ) -> Lines
     requires { k < 1024 }
-    ensures { from + after < 512 → Wrote (spelled text.now v) k (second-asked code from after) out.old at result out.new }
+    ensures { from + after < 512 → Wrote (spelled text.now v) k (second_asked code from after) out.old at result out.new }
 {
     if (code == postfix::SEQ) | (code == postfix::XOR) {
         let a = idle_line(text, v, from, after, k, out, at);
@@ -104,7 +104,7 @@ fn ask_first(
     at: usize,
 ) -> Lines
     requires { k < 1024 }
-    ensures { (p : Process) → codes.now ≡ postfix p → Fits p codes.now from → Wrote (spelled text.now v) k (first-asked code p) out.old at result out.new }
+    ensures { (p : Process) → codes.now ≡ postfix p → Fits p codes.now from → Wrote (spelled text.now v) k (first_asked code p) out.old at result out.new }
 {
     if code == postfix::XOR {
         let a = idle_line(text, v, from, parts::after(codes), k, out, at);
@@ -126,7 +126,7 @@ fn own_line(
     out: &mut [u8],
     at: usize,
 ) -> usize
-    ensures { from < 512 → buffer result out.new ≡ put_all (guard-lines (spelled text.now v) k (own-guard code from)) (buffer at out.old) }
+    ensures { from < 512 → buffer result out.new ≡ put_all (guard_lines (spelled text.now v) k (own_guard code from)) (buffer at out.old) }
 {
     if code == postfix::LEAF {
         return idle_line(text, v, from, 0, k, out, at);

@@ -7,29 +7,29 @@ use native.Mathlib.Omega.{arith}
 use lib.ListN.{length, get_or, set, take}
 use lib.Seq.{set_comm, take-suc, length-take-le}
 use Rattle.base.specs.Packed.{put_word}
-use Rattle.guards.specs.code.Rows.{put-rows}
+use Rattle.guards.specs.code.Rows.{put_rows}
 
 -- Rows and then more rows.
-pub put-rows-append : (base k : ℕ) (ws vs o : List ℕ) → put-rows base k (ws ++ vs) o ≡ put-rows base (k + length ws) vs (put-rows base k ws o)
-unfolding put-rows
-put-rows-append base k [] vs o = ap (λ (n : ℕ). put-rows base n vs o) (omega arith)
-put-rows-append base k (w ∷ ws) vs o =
-    put-rows-append base (suc k) ws vs (put_word o (base + 4 * k) w)
-    ∙ ap (λ (n : ℕ). put-rows base n vs (put-rows base (suc k) ws (put_word o (base + 4 * k) w))) (omega arith)
+pub put_rows_append : (base k : ℕ) (ws vs o : List ℕ) → put_rows base k (ws ++ vs) o ≡ put_rows base (k + length ws) vs (put_rows base k ws o)
+unfolding put_rows
+put_rows_append base k [] vs o = ap (λ (n : ℕ). put_rows base n vs o) (omega arith)
+put_rows_append base k (w ∷ ws) vs o =
+    put_rows_append base (suc k) ws vs (put_word o (base + 4 * k) w)
+    ∙ ap (λ (n : ℕ). put_rows base n vs (put_rows base (suc k) ws (put_word o (base + 4 * k) w))) (omega arith)
 
 -- None, and one more of those of a list.
-pub none-put : (base k : ℕ) (o : List ℕ) → o ≡ put-rows base k [] o
-unfolding put-rows
-none-put base k o = refl
+pub none_put : (base k : ℕ) (o : List ℕ) → o ≡ put_rows base k [] o
+unfolding put_rows
+none_put base k o = refl
 
 pub row_put : (base k i place w : ℕ) (ws o p q : List ℕ) → i < length ws → place ≡ base + 4 * (k + i) → w ≡ get_or ws i 0
-    → p ≡ put-rows base k (take i ws) o → q ≡ put_word p place w → q ≡ put-rows base k (take (i + 1) ws) o
-unfolding put-rows
+    → p ≡ put_rows base k (take i ws) o → q ≡ put_word p place w → q ≡ put_rows base k (take (i + 1) ws) o
+unfolding put_rows
 row_put base k i place w ws o p q h at e f g =
     let n : length (take i ws) ≡ i = length-take-le i ws (omega arith) in
-    rw (g, f, at, e, add-one, take-suc ws i 0 h, put-rows-append base k (take i ws) (get_or ws i 0 ∷ []) o, n)
+    rw (g, f, at, e, add-one, take-suc ws i 0 h, put_rows_append base k (take i ws) (get_or ws i 0 ∷ []) o, n)
 
-pub rows_all : (base k i n m : ℕ) (ws o p : List ℕ) → p ≡ put-rows base k (take i ws) o → i ≡ n → n ≡ m → p ≡ put-rows base k (take m ws) o
+pub rows_all : (base k i n m : ℕ) (ws o p : List ℕ) → p ≡ put_rows base k (take i ws) o → i ≡ n → n ≡ m → p ≡ put_rows base k (take m ws) o
 rows_all base k i n m ws o p h e f = rw (e, f) at h
 
 -- What is written below a word does not meet it.
@@ -45,9 +45,9 @@ below_word o i j a w h =
     ∙ ap (λ (l : List ℕ). set (set l (j + 2) b2) (j + 3) b3) (set_comm (set o j b0) (j + 1) i b1 a (omega arith))
     ∙ ap (λ (l : List ℕ). set (set (set l (j + 1) b1) (j + 2) b2) (j + 3) b3) (set_comm o j i b0 a (omega arith))
 
-word-below-word : (o : List ℕ) (i j v w : ℕ) → i + 4 ≤ j → put_word (put_word o j w) i v ≡ put_word (put_word o i v) j w
+word_below_word : (o : List ℕ) (i j v w : ℕ) → i + 4 ≤ j → put_word (put_word o j w) i v ≡ put_word (put_word o i v) j w
 unfolding put_word
-word-below-word o i j v w h =
+word_below_word o i j v w h =
     let b0 : ℕ = v / 16777216 % 256 in
     let b1 : ℕ = v / 65536 % 256 in
     let b2 : ℕ = v / 256 % 256 in
@@ -58,18 +58,18 @@ word-below-word o i j v w h =
     ∙ below_word (set (set (set o i b0) (i + 1) b1) (i + 2) b2) (i + 3) j b3 w (omega arith)
 
 -- A word below rows may as well be written before them, and so may rows.
-pub word-below-rows : (base k i v : ℕ) (ws o : List ℕ) → i + 4 ≤ base + 4 * k
-    → put_word (put-rows base k ws o) i v ≡ put-rows base k ws (put_word o i v)
-unfolding put-rows
-word-below-rows base k i v [] o h = refl
-word-below-rows base k i v (w ∷ ws) o h =
-    word-below-rows base (suc k) i v ws (put_word o (base + 4 * k) w) (omega arith)
-    ∙ ap (put-rows base (suc k) ws) (word-below-word o i (base + 4 * k) v w h)
+pub word_below_rows : (base k i v : ℕ) (ws o : List ℕ) → i + 4 ≤ base + 4 * k
+    → put_word (put_rows base k ws o) i v ≡ put_rows base k ws (put_word o i v)
+unfolding put_rows
+word_below_rows base k i v [] o h = refl
+word_below_rows base k i v (w ∷ ws) o h =
+    word_below_rows base (suc k) i v ws (put_word o (base + 4 * k) w) (omega arith)
+    ∙ ap (put_rows base (suc k) ws) (word_below_word o i (base + 4 * k) v w h)
 
-pub rows-below-rows : (b k base n : ℕ) (vs ws o : List ℕ) → b + 4 * (k + length vs) ≤ base + 4 * n
-    → put-rows b k vs (put-rows base n ws o) ≡ put-rows base n ws (put-rows b k vs o)
-unfolding put-rows
-rows-below-rows b k base n [] ws o h = refl
-rows-below-rows b k base n (v ∷ vs) ws o h =
-    ap (put-rows b (suc k) vs) (word-below-rows base n (b + 4 * k) v ws o (omega arith))
-    ∙ rows-below-rows b (suc k) base n vs ws (put_word o (b + 4 * k) v) (omega arith)
+pub rows_below_rows : (b k base n : ℕ) (vs ws o : List ℕ) → b + 4 * (k + length vs) ≤ base + 4 * n
+    → put_rows b k vs (put_rows base n ws o) ≡ put_rows base n ws (put_rows b k vs o)
+unfolding put_rows
+rows_below_rows b k base n [] ws o h = refl
+rows_below_rows b k base n (v ∷ vs) ws o h =
+    ap (put_rows b (suc k) vs) (word_below_rows base n (b + 4 * k) v ws o (omega arith))
+    ∙ rows_below_rows b (suc k) base n vs ws (put_word o (b + 4 * k) v) (omega arith)

@@ -2,8 +2,8 @@
 use Rattle.std.specs.Prelude.{◌≡◌, Bool, true, false, ◌&&◌, List, ℕ, leb, length}
 use Rattle.base.specs.Fill.{fill}
 use Rattle.diagram.specs.Tree.{Flow}
-use Rattle.diagram.specs.Count.{flow-events}
-use Rattle.diagram.specs.Sizes.{flow-sized}
+use Rattle.diagram.specs.Count.{flow_events}
+use Rattle.diagram.specs.Sizes.{flow_sized}
 use Rattle.process.specs.Expand.{expand}
 use Rattle.postfix.specs.Postfix.{postfix}
 use Rattle.plan.specs.Plan.{planned}
@@ -16,7 +16,7 @@ room ops events lent = leb (length ops) 1024 && (leb events 512 && leb 51204 (le
 -- For the numbers of a drawing's process in postfix order, and how many events it has: its plan, over the front of the lent bytes, and how many bytes that is. For any
 -- other numbers: what the two passes along them make. Where there is no room nothing is written.
 pub record TableWritten (ops : List ℕ) (events : ℕ) (lent : List ℕ) (size : ℕ) (left : List ℕ) : Type 0 where
-  pub its-plan : (d : Flow) → flow-sized d ≡ true → ops ≡ postfix (expand d) → events ≡ flow-events d → room ops events lent ≡ true
+  pub its_plan : (d : Flow) → flow_sized d ≡ true → ops ≡ postfix (expand d) → events ≡ flow_events d → room ops events lent ≡ true
       → (size ≡ length (planned (expand d))) × (left ≡ fill lent (planned (expand d)))
-  pub any-numbers : room ops events lent ≡ true → Passes ops events lent size left
+  pub any_numbers : room ops events lent ≡ true → Passes ops events lent size left
   pub no_room : room ops events lent ≡ false → (size ≡ 0) × (left ≡ lent)

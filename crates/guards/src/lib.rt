@@ -1,10 +1,10 @@
 ghost use Rattle.std.specs.Prelude.{◌≡◌, ◌+◌, ◌-◌, ◌*◌, ◌≤◌, ◌<◌, length};
-ghost use Rattle.plan.specs.Pieces.{leaf-piece, rounds-piece, pair-piece, some-piece};
-ghost use Rattle.rows.specs.code.Words.{listed, event-count as event-count-of, record_of};
+ghost use Rattle.plan.specs.Pieces.{leaf_piece, rounds_piece, pair_piece, some_piece};
+ghost use Rattle.rows.specs.code.Words.{listed, event_count as event_count_of, record_of};
 ghost use Rattle.guards.specs.Table.{TableWritten};
-ghost use Rattle.guards.specs.code.Rows.{put-rows, Adds};
-ghost use Rattle.guards.specs.code.Passes.{piece_of, moved as moved-of, put_record, first-start, first-pass as first-pass-of, FirstEnds};
-ghost use Rattle.guards.specs.code.Passes.{second-start, second-pass as second-pass-of, SecondEnds, Passes};
+ghost use Rattle.guards.specs.code.Rows.{put_rows, Adds};
+ghost use Rattle.guards.specs.code.Passes.{piece_of, moved as moved_of, put_record, first_start, first_pass as first_pass_of, FirstEnds};
+ghost use Rattle.guards.specs.code.Passes.{second_start, second_pass as second_pass_of, SecondEnds, Passes};
 
 use plan::{Needs, PartRows};
 use rows::Words;
@@ -29,7 +29,7 @@ pub struct FirstResult {
 // A leaf, event e, or a loop over it, which is complete by row `done`; its guard needs row `later`.
 fn leaf(k: u16, e: u16, done: u16, later: u16) -> Added
     requires { k < 12000 }
-    ensures { Adds (leaf-piece k e done later) result }
+    ensures { Adds (leaf_piece k e done later) result }
 {
     let words = Words {
         words: [rows::bit_row(e), rows::not_row(k), 0, 0, 0, 0],
@@ -49,7 +49,7 @@ fn leaf(k: u16, e: u16, done: u16, later: u16) -> Added
 // A loop over a flow, of which the rows of m speak; e is its reset.
 fn rounds(k: u16, e: u16, m: PartRows) -> Added
     requires { k < 12000 }
-    ensures { Adds (rounds-piece k e m) result }
+    ensures { Adds (rounds_piece k e m) result }
 {
     let begun = rows::either_row(m.begun, k);
     let words = rows::then_settling(rows::bit_row(e), begun, rows::not_row(k + 1), m);
@@ -71,7 +71,7 @@ fn rounds(k: u16, e: u16, m: PartRows) -> Added
 // Two parts, p before q, complete by a row of its own, `done`; the later part needs row `later`.
 fn join_pair(k: u16, p: PartRows, q: PartRows, done: usize, later: u16) -> Added
     requires { k < 12000 }
-    ensures { Adds (pair-piece k p q done later) result }
+    ensures { Adds (pair_piece k p q done later) result }
 {
     let words = Words {
         words: [
@@ -101,7 +101,7 @@ fn join_pair(k: u16, p: PartRows, q: PartRows, done: usize, later: u16) -> Added
 // Either part or both: begun, and each part complete or not begun.
 fn join_some(k: u16, p: PartRows, q: PartRows) -> Added
     requires { k < 12000 }
-    ensures { Adds (some-piece k p q) result }
+    ensures { Adds (some_piece k p q) result }
 {
     let i = k + rows::unsettled(p);
     let j = i + rows::unsettled(q);
@@ -155,7 +155,7 @@ fn piece(op: u8, k: u16, e: u16, q: PartRows, p: PartRows) -> Added
 // Rows from row k on, where row 0 stands at `base`.
 fn write_rows(out: &mut [u8], base: usize, k: u16, list: Words)
     requires { (base ≤ 2052) × (list.count ≤ 6) }
-    ensures { out.new ≡ put-rows base k (listed list) out.old }
+    ensures { out.new ≡ put_rows base k (listed list) out.old }
 {
     let words = list.words;
     let count = base::wide_short(list.count);
@@ -170,7 +170,7 @@ fn write_rows(out: &mut [u8], base: usize, k: u16, list: Words)
 // The stacks of both passes have 1,026 places in a ring, and grow downwards. Where the top goes by a number that joins no part, `none` places on, or two, `two` on.
 fn moved(op: u8, top: usize, none: usize, two: usize) -> usize
     requires { (top < 1026) × (none < 1026) × (two < 1026) }
-    ensures { (result ≡ moved-of op top none two) × (result < 1026) }
+    ensures { (result ≡ moved_of op top none two) × (result < 1026) }
 {
     if op < postfix::ROUNDS {
         return (top + none) % 1026;
@@ -184,7 +184,7 @@ fn moved(op: u8, top: usize, none: usize, two: usize) -> usize
 // The first pass: the rows of each part.
 fn first_pass(ops: &[u8], base: usize, out: &mut [u8]) -> FirstResult
     requires { (base ≤ 2052) × (length ops.now ≤ 1024) }
-    ensures { FirstEnds (first-pass-of base ops.now (first-start out.old)) result out.new }
+    ensures { FirstEnds (first_pass_of base ops.now (first_start out.old)) result out.new }
 {
     let blank = rows::no_rows();
     let unneeded = Needs {
@@ -225,7 +225,7 @@ fn first_pass(ops: &[u8], base: usize, out: &mut [u8]) -> FirstResult
 
 // A leaf or a reset has a record, that of the event before e, and answers that event; a joint has none.
 fn write_record(out: &mut [u8], op: u8, e: u16, k: u16, m: u16, first: u16) -> u16
-    ensures value { result ≡ e - event-count-of op }
+    ensures value { result ≡ e - event_count_of op }
     ensures out_after { out.new ≡ put_record op result (record_of op k m first result) out.old }
 {
     if postfix::ROUNDS < op {
@@ -243,7 +243,7 @@ fn write_record(out: &mut [u8], op: u8, e: u16, k: u16, m: u16, first: u16) -> u
 // The second pass: the gate of each part, and the event records; answers the next free row.
 fn second_pass(ops: &[u8], base: usize, first: FirstResult, out: &mut [u8]) -> u16
     requires { (base ≤ 2052) × (length ops.now ≤ 1024) × (first.rows ≤ 3 + 6 * 1024) }
-    ensures { SecondEnds (second-pass-of base first.needs ops.now (second-start first.rows first.event (length ops.now) out.old)) result out.new }
+    ensures { SecondEnds (second_pass_of base first.needs ops.now (second_start first.rows first.event (length ops.now) out.old)) result out.new }
 {
     let needs = first.needs;
     let mut gates = [0u16; 1026];

@@ -5,14 +5,14 @@ use Prim.Native.Nat.{ℕ, zero, suc, ◌≤◌, ◌<◌}
 use native.Mathlib.Omega.{arith}
 use lib.ListN.{length, get_or}
 use borrow.Author.Tests.{lt-ltb, le-ltb}
-use Rattle.diagram.specs.Stored.{blank-node}
+use Rattle.diagram.specs.Stored.{blank_node}
 use Rattle.diagram.specs.declared.Node.{Node}
 use Rattle.reading.specs.Answers.{read_of}
 use Rattle.reading.specs.Bounds.{Bounded, result, refusal}
 use Rattle.reading.specs.declared.Answer.{Answer}
 use Rattle.reading.specs.declared.Answer.TheVariants.{Done, Refused as Unread}
 use Rattle.reading.specs.declared.ReadResult.{ReadResult}
-use Rattle.reading.proofs.Bounds.{read-bounded}
+use Rattle.reading.proofs.Bounds.{read_bounded}
 use Rattle.reading.proofs.Exact.{done_refused}
 use Rattle.harness.specs.Nodes.{found_in, found_at, unread}
 use Rattle.harness.specs.declared.Found.{Found}
@@ -25,8 +25,8 @@ same_at (a ∷ l) zero x y h = refl
 same_at (a ∷ l) (suc i) x y h = same_at l i x y (omega arith)
 
 -- A text that is read has at most 256 nodes.
-few-nodes : (text : List ℕ) → (read_of text).answer ≡ Done → (read_of text).diagram.count ≤ 256
-few-nodes text e = go (read-bounded text)
+few_nodes : (text : List ℕ) → (read_of text).answer ≡ Done → (read_of text).diagram.count ≤ 256
+few_nodes text e = go (read_bounded text)
   where
     go : Bounded text (read_of text) → (read_of text).diagram.count ≤ 256
     go (result r) = omega (arith, r.shown.count, r.limits.nodes)
@@ -36,17 +36,17 @@ module _ (text : List ℕ) (i : ℕ) {o : ReadResult} (is : o ≡ read_of text) 
   said : (a : Answer) → o.answer ≡ a → found_in o.diagram i a ≡ found_at (read_of text) i
   said a e = ap (found_in o.diagram i) (sym e) ∙ ap (λ (u : ReadResult). found_at u i) is
 
-  pub found-away : (number place : ℕ) → o.answer ≡ Unread number place → {r : Found} → r ≡ unread o.answer → r ≡ found_at (read_of text) i
-  found-away number place e q = q ∙ (ap unread e ∙ said (Unread number place) e)
+  pub found_away : (number place : ℕ) → o.answer ≡ Unread number place → {r : Found} → r ≡ unread o.answer → r ≡ found_at (read_of text) i
+  found_away number place e q = q ∙ (ap unread e ∙ said (Unread number place) e)
 
-  pub found-past : o.answer ≡ Done → o.diagram.count ≤ i → Refused 255 0 ≡ found_at (read_of text) i
-  found-past e h = rw (le-ltb i o.diagram.count h) at (said Done e)
+  pub found_past : o.answer ≡ Done → o.diagram.count ≤ i → Refused 255 0 ≡ found_at (read_of text) i
+  found_past e h = rw (le-ltb i o.diagram.count h) at (said Done e)
 
-  pub found-there : o.answer ≡ Done → i < o.diagram.count → {n : Node} → n ≡ get_or o.diagram.nodes i blank-node → At n ≡ found_at (read_of text) i
-  found-there e h q = ap At q ∙ (rw (lt-ltb i o.diagram.count h) at (said Done e))
+  pub found_there : o.answer ≡ Done → i < o.diagram.count → {n : Node} → n ≡ get_or o.diagram.nodes i blank_node → At n ≡ found_at (read_of text) i
+  found_there e h q = ap At q ∙ (rw (lt-ltb i o.diagram.count h) at (said Done e))
 
   pub below : o.answer ≡ Done → i < o.diagram.count → i < 256
   below e h =
-      let few = few-nodes text (ap (λ (u : ReadResult). u.answer) (sym is) ∙ e) in
+      let few = few_nodes text (ap (λ (u : ReadResult). u.answer) (sym is) ∙ e) in
       let same = ap (λ (u : ReadResult). u.diagram.count) is in
       omega (arith, few, same)

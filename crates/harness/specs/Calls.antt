@@ -8,33 +8,33 @@ use Rattle.translator.specs.Reports.{report}
 use Rattle.events.specs.declared.Label.{Label}
 use Rattle.events.specs.Labels.{Valued}
 use Rattle.events.specs.Names.{Named}
-use Rattle.events.specs.Reports.{report as label-report}
-use Rattle.modelling.specs.Answers.{Event-answer}
-use Rattle.modelling.specs.Reports.{report as written-report}
+use Rattle.events.specs.Reports.{report as label_report}
+use Rattle.modelling.specs.Answers.{EventAnswer}
+use Rattle.modelling.specs.Reports.{report as written_report}
 use Rattle.modelling.specs.declared.Written.{Written}
 use Rattle.packing.specs.Packed.{packed}
 
 -- Translation's answer, and the lent bytes as it leaves them.
 pub record Translates (text lent : List ℕ) (r : ℕ) (left : List ℕ) : Type 0 where
   pub answer : Translated
-  pub its-promise : Translation text lent answer left
-  pub its-number : r ≡ packed 32 (report answer)
+  pub its_promise : Translation text lent answer left
+  pub its_number : r ≡ packed 32 (report answer)
 
 -- The answer of the call that writes an event of a machine, and the lent bytes as it leaves them.
-pub record Writes-event (text : List ℕ) (e : ℕ) (lent : List ℕ) (r : ℕ) (left : List ℕ) : Type 0 where
+pub record WritesEvent (text : List ℕ) (e : ℕ) (lent : List ℕ) (r : ℕ) (left : List ℕ) : Type 0 where
   pub answer : Written
-  pub its-promise : Event-answer text e lent answer left
-  pub its-number : r ≡ packed 32 (written-report answer)
+  pub its_promise : EventAnswer text e lent answer left
+  pub its_number : r ≡ packed 32 (written_report answer)
 
 -- The label of an event: the mark, the count and the three values.
 pub record Labels (text : List ℕ) (e r : ℕ) : Type 0 where
   pub answer : Label
-  pub its-promise : Valued text e answer
-  pub its-number : r ≡ packed 6 (label-report answer)
+  pub its_promise : Valued text e answer
+  pub its_number : r ≡ packed 6 (label_report answer)
 
 -- How many bytes the name of an event has, and the name over the front of the lent bytes, as far as they go.
 pub record Names (text : Bor (List ℕ)) (e : ℕ) (lent : List ℕ) (r : ℕ) (left : List ℕ) : Type 0 where
   pub answer : Bor (List ℕ)
-  pub its-promise : Named text e answer
-  pub its-count : r ≡ length answer.now
-  pub its-bytes : left ≡ fill lent answer.now
+  pub its_promise : Named text e answer
+  pub its_count : r ≡ length answer.now
+  pub its_bytes : left ≡ fill lent answer.now

@@ -1,7 +1,7 @@
 -- What a node of a text is told as: the diagram of an answer, node by node.
 use Rattle.std.specs.Prelude.{cond, List, ℕ, ltb, get_or}
 use Rattle.base.specs.Reports.{Report, result, refusal}
-use Rattle.diagram.specs.Stored.{blank-node}
+use Rattle.diagram.specs.Stored.{blank_node}
 use Rattle.diagram.specs.declared.Diagram.{Diagram}
 use Rattle.diagram.specs.declared.Node.{Node}
 use Rattle.reading.specs.declared.Answer.{Answer}
@@ -12,7 +12,7 @@ use Rattle.harness.specs.declared.Found.TheVariants.{At, Refused}
 
 -- The node with an index, in the order of the text; 255 past the last one.
 abbrev pub stored_at : Diagram → ℕ → Found
-stored_at d i = cond (ltb i d.count) (At (get_or d.nodes i blank-node)) (Refused 255 0)
+stored_at d i = cond (ltb i d.count) (At (get_or d.nodes i blank_node)) (Refused 255 0)
 
 abbrev pub found_in : Diagram → ℕ → Answer → Found
 found_in d i Done = stored_at d i

@@ -2,18 +2,18 @@
 
 ghost use Rattle.std.specs.Prelude.{◌≡◌, ◌<◌, length, get_or};
 ghost use Rattle.base.specs.Fill.{fill};
-ghost use Rattle.diagram.specs.Stored.{blank-node};
+ghost use Rattle.diagram.specs.Stored.{blank_node};
 ghost use Rattle.reading.specs.Answers.{read_of};
-ghost use Rattle.reading.specs.Reports.{report as read-report};
-ghost use Rattle.printer.specs.Prints.{print-of, left_by};
-ghost use Rattle.printer.specs.Reports.{report as print-report};
-ghost use Rattle.table.specs.Reports.{report as step-report};
-ghost use Rattle.inplace.specs.Updates.{answer-of, left-of};
+ghost use Rattle.reading.specs.Reports.{report as read_report};
+ghost use Rattle.printer.specs.Prints.{print_of, left_by};
+ghost use Rattle.printer.specs.Reports.{report as print_report};
+ghost use Rattle.table.specs.Reports.{report as step_report};
+ghost use Rattle.inplace.specs.Updates.{answer_of, left_of};
 ghost use Rattle.events.specs.Listing.{Listed};
 ghost use Rattle.packing.specs.Packed.{packed};
-ghost use Rattle.packing.specs.Nodes.{node-values, place-values};
-ghost use Rattle.harness.specs.Nodes.{unread as unread-found, found_at, report as found-report};
-ghost use Rattle.harness.specs.Calls.{Translates, Writes-event, Labels, Names};
+ghost use Rattle.packing.specs.Nodes.{node_values, place_values};
+ghost use Rattle.harness.specs.Nodes.{unread as unread_found, found_at, report as found_report};
+ghost use Rattle.harness.specs.Calls.{Translates, WritesEvent, Labels, Names};
 
 use diagram::{Diagram, Node};
 use reading::Answer;
@@ -21,7 +21,7 @@ use record::Record;
 
 #[unsafe(no_mangle)]
 pub extern "C" fn adl_test_read(text: &[u8]) -> u64
-    ensures { result ≡ packed 10 (read-report (read_of text.now)) }
+    ensures { result ≡ packed 10 (read_report (read_of text.now)) }
 {
     let o = reader::read(text);
     packing::read_number(o)
@@ -29,8 +29,8 @@ pub extern "C" fn adl_test_read(text: &[u8]) -> u64
 
 #[unsafe(no_mangle)]
 pub extern "C" fn adl_test_print(text: &[u8], out: &mut [u8]) -> u64
-    ensures value { result ≡ packed 32 (print-report (print-of text.now out.old)) }
-    ensures out_after { out.new ≡ left_by text.now out.old (print-of text.now out.old) }
+    ensures value { result ≡ packed 32 (print_report (print_of text.now out.old)) }
+    ensures out_after { out.new ≡ left_by text.now out.old (print_of text.now out.old) }
 {
     let p = printer::print(text, out);
     packing::print_number(p)
@@ -46,7 +46,7 @@ pub extern "C" fn adl_test_translate(text: &[u8], out: &mut [u8]) -> u64
 
 #[unsafe(no_mangle)]
 pub extern "C" fn adl_test_eventb(text: &[u8], event: u64, out: &mut [u8]) -> u64
-    ensures { Writes-event text.now event out.old result out.new }
+    ensures { WritesEvent text.now event out.old result out.new }
 {
     let w = machines::eventb::event(text, event, out);
     packing::written_number(w)
@@ -98,7 +98,7 @@ enum Found {
 
 // The refusal of a text that is not read.
 fn unread(answer: Answer) -> Found
-    ensures { result ≡ unread-found answer }
+    ensures { result ≡ unread_found answer }
 {
     match answer {
         Answer::Done => Found::Refused(255, 0),
@@ -108,7 +108,7 @@ fn unread(answer: Answer) -> Found
 
 fn node_at(d: Diagram, i: usize) -> Node
     requires { i < 256 }
-    ensures { result ≡ get_or d.nodes i blank-node }
+    ensures { result ≡ get_or d.nodes i blank_node }
 {
     d.nodes[i]
 }
@@ -133,7 +133,7 @@ fn find(text: &[u8], index: u64) -> Found
 // A node of a text, by its index.
 #[unsafe(no_mangle)]
 pub extern "C" fn adl_test_node(text: &[u8], index: u64) -> u64
-    ensures { result ≡ packed 6 (found-report node-values (found_at (read_of text.now) index)) }
+    ensures { result ≡ packed 6 (found_report node_values (found_at (read_of text.now) index)) }
 {
     let found = find(text, index);
     match found {
@@ -145,7 +145,7 @@ pub extern "C" fn adl_test_node(text: &[u8], index: u64) -> u64
 // The places of a node of a text, by its index.
 #[unsafe(no_mangle)]
 pub extern "C" fn adl_test_place(text: &[u8], index: u64) -> u64
-    ensures { result ≡ packed 16 (found-report place-values (found_at (read_of text.now) index)) }
+    ensures { result ≡ packed 16 (found_report place_values (found_at (read_of text.now) index)) }
 {
     let found = find(text, index);
     match found {
@@ -155,7 +155,7 @@ pub extern "C" fn adl_test_place(text: &[u8], index: u64) -> u64
 }
 
 fn step_number(answer: table::Answer) -> u64
-    ensures { result ≡ packed 32 (step-report answer) }
+    ensures { result ≡ packed 32 (step_report answer) }
 {
     match answer {
         table::Answer::Done => 0,
@@ -166,8 +166,8 @@ fn step_number(answer: table::Answer) -> u64
 // The thin call: an event on a record that the caller lends.
 #[unsafe(no_mangle)]
 pub extern "C" fn adl_test_update(table: &[u8], lent: &mut Record, event: u64) -> u64
-    ensures value { result ≡ packed 32 (step-report (answer-of table.now lent.old event)) }
-    ensures lent_after { lent.new ≡ left-of table.now lent.old event }
+    ensures value { result ≡ packed 32 (step_report (answer_of table.now lent.old event)) }
+    ensures lent_after { lent.new ≡ left_of table.now lent.old event }
 {
     let answer = inplace::step(table, lent, event);
     step_number(answer)

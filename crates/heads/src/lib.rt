@@ -1,5 +1,5 @@
 ghost use Rattle.std.specs.Prelude.{◌≡◌, [], ◌∷◌, ℕ, ◌+◌, ◌*◌, ◌-◌, ◌<◌};
-ghost use Rattle.tokens.specs.Token.{Sign, opening, closing as closing-sign, colon, sign-code};
+ghost use Rattle.tokens.specs.Token.{Sign, opening, closing as closing_sign, colon, sign_code};
 ghost use Rattle.grammar.specs.Machine.{sign as sign_of, named, number, params};
 ghost use Rattle.walked.specs.Walk.{store, begun};
 ghost use Rattle.walked.specs.code.Readers.{Closing, Reads, Fills, Begins, Marks};
@@ -13,7 +13,7 @@ use walked::Step;
 // One of the signs ( ) , : by its class. No word is looked at.
 pub fn sign(text: &[u8], at: usize, n: usize, want: u8, lexicon: &[u8; 400]) -> Step
     requires { Lent text.now lexicon.now }
-    ensures { (s : Sign) → sign-code s ≡ want → Reads text.now (sign_of s ∷ []) n at result }
+    ensures { (s : Sign) → sign_code s ≡ want → Reads text.now (sign_of s ∷ []) n at result }
 {
     let start = lexer::gap(text, at, lexicon);
     if text.len() <= start {
@@ -190,7 +190,7 @@ pub fn read_flow_head(
 // Document 01's addition to the par of Figure 5.2, constructor: the size of the node n, from 1 to 16, and the `)`.
 fn read_size(text: &[u8], at: usize, n: usize, rows: &mut [u16; 2056], lexicon: &[u8; 400]) -> Step
     requires { Lent text.now lexicon.now }
-    ensures { Fills text.now (number 1 16 ∷ sign_of closing-sign ∷ []) n at rows.old result rows.new }
+    ensures { Fills text.now (number 1 16 ∷ sign_of closing_sign ∷ []) n at rows.old result rows.new }
 {
     let t: Lexeme = lexer::next(text, at, lexicon);
     if t.code < 17 {
@@ -212,7 +212,7 @@ pub fn read_copies(
     lexicon: &[u8; 400],
 ) -> Step
     requires { Lent text.now lexicon.now }
-    ensures { Fills text.now (sign_of opening ∷ named ∷ sign_of colon ∷ number 1 16 ∷ sign_of closing-sign ∷ []) n at rows.old result rows.new }
+    ensures { Fills text.now (sign_of opening ∷ named ∷ sign_of colon ∷ number 1 16 ∷ sign_of closing_sign ∷ []) n at rows.old result rows.new }
 {
     let s = read_named(text, at, n, rows, lexicon);
     let Step::Go(p, m) = s else {
@@ -234,7 +234,7 @@ pub fn read_leaf(
     lexicon: &[u8; 400],
 ) -> Step
     requires { Lent text.now lexicon.now }
-    ensures { Fills text.now (sign_of opening ∷ named ∷ sign_of closing-sign ∷ []) n at rows.old result rows.new }
+    ensures { Fills text.now (sign_of opening ∷ named ∷ sign_of closing_sign ∷ []) n at rows.old result rows.new }
 {
     let s = read_named(text, at, n, rows, lexicon);
     let Step::Go(p, m) = s else {

@@ -5,9 +5,9 @@ use Rattle.table.specs.Steps.{step_of}
 use Rattle.table.specs.declared.Answer.{Answer}
 
 -- What it answers, with event e on the record `before`: what the step by value answers.
-abbrev pub answer-of : List ℕ → Record → ℕ → Answer
-answer-of t before e = (step_of t before e).answer
+abbrev pub answer_of : List ℕ → Record → ℕ → Answer
+answer_of t before e = (step_of t before e).answer
 
 -- The record that it leaves with the caller: the one that the step by value returns.
-abbrev pub left-of : List ℕ → Record → ℕ → Record
-left-of t before e = (step_of t before e).after
+abbrev pub left_of : List ℕ → Record → ℕ → Record
+left_of t before e = (step_of t before e).after

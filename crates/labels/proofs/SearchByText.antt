@@ -6,45 +6,45 @@ use native.Mathlib.Omega.{arith}
 use lib.ListN.{length, replicate, length-map}
 use lib.Seq.{take_at}
 use Rattle.diagram.specs.Tree.{Flow}
-use Rattle.diagram.specs.Count.{flow-copies, flow-events}
-use Rattle.diagram.specs.Stored.{blank-node}
-use Rattle.diagram.specs.TreeNodes.{TextNode, own, nodes-by}
-use Rattle.reading.specs.Nodes.{name-place, node_of, stored}
+use Rattle.diagram.specs.Count.{flow_copies, flow_events}
+use Rattle.diagram.specs.Stored.{blank_node}
+use Rattle.diagram.specs.TreeNodes.{TextNode, own, nodes_by}
+use Rattle.reading.specs.Nodes.{name_place, node_of, stored}
 use Rattle.reading.specs.Answers.{read_of}
 use Rattle.reading.specs.Accepted.{Accepted}
 use Rattle.reading.specs.declared.ReadResult.{ReadResult}
-use Rattle.reading.proofs.Exact.{accepted-read}
-use Rattle.process.specs.Process.{event-of}
+use Rattle.reading.proofs.Exact.{accepted_read}
+use Rattle.process.specs.Process.{event_of}
 use Rattle.process.specs.Expand.{expand}
-use Rattle.process.proofs.Events.{event-in-order}
+use Rattle.process.proofs.Events.{event_in_order}
 use Rattle.labels.specs.Stands.{Stands}
-use Rattle.labels.specs.SearchNodes.{search-node}
+use Rattle.labels.specs.SearchNodes.{search_node}
 use Rattle.labels.specs.declared.SearchNode.{SearchNode}
 use Rattle.labels.specs.Weights.{weigh}
 use Rattle.labels.specs.Seeks.{begin, seek, spot_of}
 use Rattle.labels.proofs.TreeWeights.{searched}
 use Rattle.labels.proofs.SearchByNode.{sought}
-use Rattle.labels.proofs.SearchByTree.{Labels, nothing, event-found}
-use Rattle.labels.proofs.KeyNodes.{text-known}
+use Rattle.labels.proofs.SearchByTree.{Labels, nothing, event_found}
+use Rattle.labels.proofs.KeyNodes.{text_known}
 
 -- The nodes that the diagram by value holds.
-stored-nodes : (text : List ℕ) (hs : List TextNode) → map search-node (map (node_of text) hs) ≡ map (searched (name-place text)) hs
+stored_nodes : (text : List ℕ) (hs : List TextNode) → map search_node (map (node_of text) hs) ≡ map (searched (name_place text)) hs
 unfolding node_of
-stored-nodes text [] = refl
-stored-nodes text (h ∷ hs) = ap (λ (rs : List SearchNode). searched (name-place text) h ∷ rs) (stored-nodes text hs)
+stored_nodes text [] = refl
+stored_nodes text (h ∷ hs) = ap (λ (rs : List SearchNode). searched (name_place text) h ∷ rs) (stored_nodes text hs)
 
-stored-spot : (text : List ℕ) (hs : List TextNode) (x y e : ℕ) → spot_of (stored text hs x y) e ≡ sought (name-place text) hs (begin e)
+stored_spot : (text : List ℕ) (hs : List TextNode) (x y e : ℕ) → spot_of (stored text hs x y) e ≡ sought (name_place text) hs (begin e)
 unfolding spot_of stored
-stored-spot text hs x y e =
+stored_spot text hs x y e =
     ap (λ (rs : List SearchNode). seek (weigh rs) (begin e))
-    (ap (map search-node) (take_at (map (node_of text) hs) (replicate (256 - length hs) blank-node) (length hs) (length-map hs (node_of text)))
-    ∙ stored-nodes text hs)
+    (ap (map search_node) (take_at (map (node_of text) hs) (replicate (256 - length hs) blank_node) (length hs) (length-map hs (node_of text)))
+    ∙ stored_nodes text hs)
 
-pub labelled : (text : List ℕ) (d : Flow) → Accepted text d → (e : ℕ) → e < flow-events d
-    → Labels (Stands text) (event-of (expand d) e) (spot_of (read_of text).diagram e)
+pub labelled : (text : List ℕ) (d : Flow) → Accepted text d → (e : ℕ) → e < flow_events d
+    → Labels (Stands text) (event_of (expand d) e) (spot_of (read_of text).diagram e)
 labelled text d a e l =
     let keeps = a.keeps in
     let few = a.events in
-    let found = event-found (name-place text) (Stands text) d keeps.sizes keeps.parameters (omega arith) (text-known text d a.derived) e l in
-    let same = ap (λ (o : ReadResult). spot_of o.diagram e) (accepted-read text d a) ∙ stored-spot text (nodes-by own d) (flow-copies d) (flow-events d) e in
-    rw (same, event-in-order d keeps.sizes e nothing l) found
+    let found = event_found (name_place text) (Stands text) d keeps.sizes keeps.parameters (omega arith) (text_known text d a.derived) e l in
+    let same = ap (λ (o : ReadResult). spot_of o.diagram e) (accepted_read text d a) ∙ stored_spot text (nodes_by own d) (flow_copies d) (flow_events d) e in
+    rw (same, event_in_order d keeps.sizes e nothing l) found

@@ -12,37 +12,37 @@ use Rattle.labels.specs.Seeks.{next, entered, inside, turn, onward, seek}
 
 module _ (r q : SearchNode) (s : Search) where
   -- One node further, by its depth and how many events it has.
-  pub turn-other : (r.depth ≡ suc s.above → ⊥) → turn r q s ≡ Go s
+  pub turn_other : (r.depth ≡ suc s.above → ⊥) → turn r q s ≡ Go s
   unfolding turn
-  turn-other h = rw (ne_eqb r.depth (suc s.above) h)
+  turn_other h = rw (ne_eqb r.depth (suc s.above) h)
 
-  pub turn-past : r.depth ≡ suc s.above → r.weight ≤ s.rest
+  pub turn_past : r.depth ≡ suc s.above → r.weight ≤ s.rest
       → turn r q s ≡ Go (record { above = s.above; rest = s.rest - r.weight; values = s.values })
   unfolding turn
-  turn-past h l = rw (eq-eqb r.depth (suc s.above) h, le-leb r.weight s.rest l)
+  turn_past h l = rw (eq-eqb r.depth (suc s.above) h, le-leb r.weight s.rest l)
 
   pub turn_inside : r.depth ≡ suc s.above → s.rest < r.weight → turn r q s ≡ inside r q s
   unfolding turn
   turn_inside h l = rw (eq-eqb r.depth (suc s.above) h, lt-leb r.weight s.rest l)
 
   -- The event is one of its own, by what the node is.
-  pub inside-leaf : r.kind ≡ 0 → inside r q s ≡ Found (record { reset = false; place = r.place; values = s.values })
+  pub inside_leaf : r.kind ≡ 0 → inside r q s ≡ Found (record { reset = false; place = r.place; values = s.values })
   unfolding inside
-  inside-leaf e = rw (eq-eqb r.kind 0 e)
+  inside_leaf e = rw (eq-eqb r.kind 0 e)
 
-  pub inside-reset : r.kind ≡ 1 → q.weight ≤ s.rest → inside r q s ≡ Found (record { reset = true; place = q.place; values = s.values })
+  pub inside_reset : r.kind ≡ 1 → q.weight ≤ s.rest → inside r q s ≡ Found (record { reset = true; place = q.place; values = s.values })
   unfolding inside
-  inside-reset e l = rw (e, le-leb q.weight s.rest l)
+  inside_reset e l = rw (e, le-leb q.weight s.rest l)
 
-  pub inside-body : r.kind ≡ 1 → s.rest < q.weight → inside r q s ≡ Go (entered r.depth r.size q.weight s)
+  pub inside_body : r.kind ≡ 1 → s.rest < q.weight → inside r q s ≡ Go (entered r.depth r.size q.weight s)
   unfolding inside
-  inside-body e l = rw (e, lt-leb q.weight s.rest l)
+  inside_body e l = rw (e, lt-leb q.weight s.rest l)
 
-  pub inside-parts : (r.kind ≡ 0 → ⊥) → (r.kind ≡ 1 → ⊥) → inside r q s ≡ Go (entered r.depth r.size q.weight s)
+  pub inside_parts : (r.kind ≡ 0 → ⊥) → (r.kind ≡ 1 → ⊥) → inside r q s ≡ Go (entered r.depth r.size q.weight s)
   unfolding inside
-  inside-parts a b = rw (ne_eqb r.kind 0 a, ne_eqb r.kind 1 b)
+  inside_parts a b = rw (ne_eqb r.kind 0 a, ne_eqb r.kind 1 b)
 
 -- One node of a list.
-pub seek-turn : (r : SearchNode) (rs : List SearchNode) (s : Search) (t : Step) → turn r (next rs) s ≡ t → seek (r ∷ rs) s ≡ onward t (λ u. seek rs u)
+pub seek_turn : (r : SearchNode) (rs : List SearchNode) (s : Search) (t : Step) → turn r (next rs) s ≡ t → seek (r ∷ rs) s ≡ onward t (λ u. seek rs u)
 unfolding seek
-seek-turn r rs s t e = rw e
+seek_turn r rs s t e = rw e

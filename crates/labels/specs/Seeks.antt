@@ -7,7 +7,7 @@ use Rattle.labels.specs.declared.Search.{Search}
 use Rattle.labels.specs.declared.Step.{Step}
 use Rattle.labels.specs.declared.Step.TheVariants.{Go, Found}
 use Rattle.labels.specs.Values.{values, push}
-use Rattle.labels.specs.SearchNodes.{search-node}
+use Rattle.labels.specs.SearchNodes.{search_node}
 use Rattle.labels.specs.Weights.{weigh}
 
 -- The node after a node; none is like a leaf with no events.
@@ -57,4 +57,4 @@ begin e = record { above = 0; rest = e; values = values 0 0 0 0 }
 
 -- What event e of a diagram by value stands for.
 unfoldable pub spot_of : Diagram → ℕ → Spot
-spot_of d e = seek (weigh (map search-node (take d.count d.nodes))) (begin e)
+spot_of d e = seek (weigh (map search_node (take d.count d.nodes))) (begin e)

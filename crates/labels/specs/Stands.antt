@@ -3,7 +3,7 @@ use Rattle.std.specs.Prelude.{◌≡◌, Bool, true, false, List, ℕ, ◌+◌, 
 use Rattle.diagram.specs.Tree.{Name}
 use Rattle.tokens.specs.Words.{keywords, word_at}
 use Rattle.tokens.specs.Spans.{places}
-use Rattle.tokens.specs.Token.{Token, sign, key, name, numeral, other, text-tokens}
+use Rattle.tokens.specs.Token.{Token, sign, key, name, numeral, other, text_tokens}
 use Rattle.grammar.specs.Machine.{is_member}
 
 -- The keyword of a leaf or flow.
@@ -17,6 +17,6 @@ titling other = false
 -- The token two after a keyword `leaf` or `flow`, the `(` being between them, begins at this place, and is this name.
 pub record Stands (text : List ℕ) (name : Name) (place : ℕ) : Type 0 where
   pub keyword : ℕ
-  pub its-kind : titling (get_or (text-tokens keywords text) keyword other) ≡ true
-  pub its-place : place ≡ get_or (places text) (keyword + 2) 0
-  pub its-name : word_at text place ≡ name
+  pub its_kind : titling (get_or (text_tokens keywords text) keyword other) ≡ true
+  pub its_place : place ≡ get_or (places text) (keyword + 2) 0
+  pub its_name : word_at text place ≡ name

@@ -3,16 +3,16 @@ use Rattle.std.specs.Prelude.{cond, List, [], ◌∷◌, ℕ, suc, ◌+◌, ◌*
 use Rattle.labels.specs.declared.SearchNode.{SearchNode}
 
 -- Sums and products modulo 1,024, as the code has them. A drawing that is read has at most 512 events, so none of them comes to 1,024.
-abbrev pub sum-mod : ℕ → ℕ → ℕ
-sum-mod m n = (m + n % 1024) % 1024
+abbrev pub sum_mod : ℕ → ℕ → ℕ
+sum_mod m n = (m + n % 1024) % 1024
 
-abbrev pub product-mod : ℕ → ℕ → ℕ
-product-mod m n = (m * n) % 1024
+abbrev pub product_mod : ℕ → ℕ → ℕ
+product_mod m n = (m * n) % 1024
 
 -- n and the events of the nodes one deeper than d, of those at the front that are deeper than d: the parts of a node of depth d.
 unfoldable pub parts : ℕ → ℕ → List SearchNode → ℕ
 parts d n [] = n
-parts d n (r ∷ rs) = cond (leb r.depth d) n (parts d (cond (eqb r.depth (suc d)) (sum-mod n r.weight) n) rs)
+parts d n (r ∷ rs) = cond (leb r.depth d) n (parts d (cond (eqb r.depth (suc d)) (sum_mod n r.weight) n) rs)
 
 -- A loop has a reset if its member, the node after it, is no leaf.
 abbrev pub resets : List SearchNode → ℕ
@@ -21,17 +21,17 @@ resets (r ∷ rs) = cond (eqb r.kind 0) 0 1
 
 -- "Events are the leaf copies and, for each copy of a loop over a flow, its reset": those of a node's copy, by what the node is, its size, the events of its parts
 -- and its reset.
-abbrev pub weight-by : ℕ → ℕ → ℕ → ℕ → ℕ
-weight-by kind size n reset = cond (eqb kind 0) 1 (cond (eqb kind 1) (sum-mod n reset) (cond (eqb size 0) n (product-mod size n)))
+abbrev pub weight_by : ℕ → ℕ → ℕ → ℕ → ℕ
+weight_by kind size n reset = cond (eqb kind 0) 1 (cond (eqb kind 1) (sum_mod n reset) (cond (eqb size 0) n (product_mod size n)))
 
 -- By the nodes after it.
 unfoldable pub weight : SearchNode → List SearchNode → ℕ
-weight r rs = weight-by r.kind r.size (parts r.depth 0 rs) (resets rs)
+weight r rs = weight_by r.kind r.size (parts r.depth 0 rs) (resets rs)
 
 -- The nodes, each with its events.
-abbrev pub with-weight : SearchNode → ℕ → SearchNode
-with-weight r w = record { kind = r.kind; size = r.size; depth = r.depth; place = r.place; weight = w }
+abbrev pub with_weight : SearchNode → ℕ → SearchNode
+with_weight r w = record { kind = r.kind; size = r.size; depth = r.depth; place = r.place; weight = w }
 
 unfoldable pub weigh : List SearchNode → List SearchNode
 weigh [] = []
-weigh (r ∷ rs) = with-weight r (weight r (weigh rs)) ∷ weigh rs
+weigh (r ∷ rs) = with_weight r (weight r (weigh rs)) ∷ weigh rs

@@ -11,9 +11,9 @@ use lib.ListN.{length, take, set}
 use lib.Seq.{get_or-take, take-suc-set}
 use borrow.Author.Tests.{lt-ltb, ltb-true, eq-eqb, ne_eqb, eqb-true, eqb-false}
 use Rattle.base.proofs.Truth.{cases, agree, and_l, and_r}
-use Rattle.layout.specs.Fields.{events, row_word, kind-of, left-of, right_of}
-use Rattle.layout.specs.Sound.{row-sound}
-use Rattle.layout.specs.Values.{says, row-value, row-values}
+use Rattle.layout.specs.Fields.{events, row_word, kind_of, left_of, right_of}
+use Rattle.layout.specs.Sound.{row_sound}
+use Rattle.layout.specs.Values.{says, row_value, row_values}
 
 -- That a number is 0, as a bound.
 below_one : (r : ℕ) → ltb r 1 ≡ eqb r 0
@@ -22,45 +22,45 @@ below_one r =
 
 -- A row's soundness as two bounds, by its kind.
 module _ (w n i : ℕ) where
-  pub bounds-bit : kind-of w ≡ 0 → (ltb (left-of w) n && ltb (right_of w) 1) ≡ row-sound w n i
-  unfolding row-sound
-  bounds-bit k = simp (eq-eqb _ _ k, below_one (right_of w))
+  pub bounds_bit : kind_of w ≡ 0 → (ltb (left_of w) n && ltb (right_of w) 1) ≡ row_sound w n i
+  unfolding row_sound
+  bounds_bit k = simp (eq-eqb _ _ k, below_one (right_of w))
 
-  pub bounds-not : kind-of w ≡ 1 → (ltb (left-of w) i && ltb (right_of w) 1) ≡ row-sound w n i
-  unfolding row-sound
-  bounds-not k = simp (k, below_one (right_of w))
+  pub bounds_not : kind_of w ≡ 1 → (ltb (left_of w) i && ltb (right_of w) 1) ≡ row_sound w n i
+  unfolding row_sound
+  bounds_not k = simp (k, below_one (right_of w))
 
-  pub bounds-two : 2 ≤ kind-of w → (ltb (left-of w) i && ltb (right_of w) i) ≡ row-sound w n i
-  unfolding row-sound
-  bounds-two h = simp (ne_eqb (kind-of w) 0 (λ q. omega arith), ne_eqb (kind-of w) 1 (λ q. omega arith))
+  pub bounds_two : 2 ≤ kind_of w → (ltb (left_of w) i && ltb (right_of w) i) ≡ row_sound w n i
+  unfolding row_sound
+  bounds_two h = simp (ne_eqb (kind_of w) 0 (λ q. omega arith), ne_eqb (kind_of w) 1 (λ q. omega arith))
 
 -- What a sound row says.
-module _ (w n i : ℕ) (ok : row-sound w n i ≡ true) where
-  pub left_below : (kind-of w ≡ 0 → ⊥) → left-of w < i
-  unfolding row-sound
-  left_below k = ltb-true _ _ (and_l (ltb (left-of w) i) _ (simp (ne_eqb _ _ k) at ok))
+module _ (w n i : ℕ) (ok : row_sound w n i ≡ true) where
+  pub left_below : (kind_of w ≡ 0 → ⊥) → left_of w < i
+  unfolding row_sound
+  left_below k = ltb-true _ _ (and_l (ltb (left_of w) i) _ (simp (ne_eqb _ _ k) at ok))
 
-  pub right-below : 2 ≤ kind-of w → right_of w < i
-  right-below h = ltb-true _ _ (and_r (ltb (left-of w) i) _ (bounds-two w n i h ∙ ok))
+  pub right_below : 2 ≤ kind_of w → right_of w < i
+  right_below h = ltb-true _ _ (and_r (ltb (left_of w) i) _ (bounds_two w n i h ∙ ok))
 
   -- So it reads only the rows before it.
-  pub value_before : (bits : List ℕ) (vs : List Bool) → row-value w bits vs ≡ row-value w bits (take i vs)
+  pub value_before : (bits : List ℕ) (vs : List Bool) → row_value w bits vs ≡ row_value w bits (take i vs)
   unfolding says
   value_before bits vs =
-      ⊎_elim (λ (e : eqb (kind-of w) 0 ≡ true). simp e)
-      (λ (e : eqb (kind-of w) 0 ≡ false). let k = eqb-false (kind-of w) 0 e in let l = get_or-take i vs (left-of w) false (left_below k) in
-      ⊎_elim (λ (f : eqb (kind-of w) 1 ≡ true). simp (e, f, l))
-      (λ (f : eqb (kind-of w) 1 ≡ false). let j = eqb-false (kind-of w) 1 f in
-      simp (e, f, l, get_or-take i vs (right_of w) false (right-below (omega (arith, k, j)))))
-      (cases (eqb (kind-of w) 1)))
-      (cases (eqb (kind-of w) 0))
+      ⊎_elim (λ (e : eqb (kind_of w) 0 ≡ true). simp e)
+      (λ (e : eqb (kind_of w) 0 ≡ false). let k = eqb-false (kind_of w) 0 e in let l = get_or-take i vs (left_of w) false (left_below k) in
+      ⊎_elim (λ (f : eqb (kind_of w) 1 ≡ true). simp (e, f, l))
+      (λ (f : eqb (kind_of w) 1 ≡ false). let j = eqb-false (kind_of w) 1 f in
+      simp (e, f, l, get_or-take i vs (right_of w) false (right_below (omega (arith, k, j)))))
+      (cases (eqb (kind_of w) 1)))
+      (cases (eqb (kind_of w) 0))
 
 -- The values of the rows, and the list where they stand.
 module _ (t bits : List ℕ) where
   -- One more row worked out.
-  pub values-more : (values : List Bool) (i : ℕ) (v : Bool) → i < length values → take i values ≡ row-values t bits i
-      → row-sound (row_word t i) (events t) i ≡ true → v ≡ row-value (row_word t i) bits values
-      → take (i + 1) (set values i v) ≡ row-values t bits (i + 1)
-  unfolding row-values
-  values-more values i v h q ok p =
+  pub values_more : (values : List Bool) (i : ℕ) (v : Bool) → i < length values → take i values ≡ row_values t bits i
+      → row_sound (row_word t i) (events t) i ≡ true → v ≡ row_value (row_word t i) bits values
+      → take (i + 1) (set values i v) ≡ row_values t bits (i + 1)
+  unfolding row_values
+  values_more values i v h q ok p =
       rw (add-one, take-suc-set values i v h, q, p, value_before (row_word t i) (events t) i ok bits values, q)

@@ -8,53 +8,53 @@ use lib.ListN.{length}
 use borrow.Author.Tests.{leb-true, le-leb, eqb-true, eq-eqb}
 use Rattle.base.proofs.Truth.{and_l, and_r, and_i}
 use Rattle.layout.specs.Fields.{events, rows}
-use Rattle.layout.specs.Sound.{sized, events-sound, rows-sound, sound}
+use Rattle.layout.specs.Sound.{sized, events_sound, rows_sound, sound}
 
 pub record Shaped (t : List ℕ) : Type 0 where
-  pub events-least : 1 ≤ events t
-  pub events-most : events t ≤ 512
-  pub rows-least : 1 ≤ rows t
-  pub rows-most : rows t ≤ 12288
-  pub length-exact : length t ≡ 4 + 4 * events t + 4 * rows t
+  pub events_least : 1 ≤ events t
+  pub events_most : events t ≤ 512
+  pub rows_least : 1 ≤ rows t
+  pub rows_most : rows t ≤ 12288
+  pub length_exact : length t ≡ 4 + 4 * events t + 4 * rows t
 
 module _ (t : List ℕ) where
   -- The test of the size as facts, and back.
-  pub sized-says : sized t ≡ true → Shaped t
+  pub sized_says : sized t ≡ true → Shaped t
   unfolding sized
-  sized-says e =
+  sized_says e =
       let e1 = and_r (leb 1 (events t)) _ e in
       let e2 = and_r (leb (events t) 512) _ e1 in
       let e3 = and_r (leb 1 (rows t)) _ e2 in
       record {
-        events-least = leb-true _ _ (and_l (leb 1 (events t)) _ e);
-        events-most = leb-true _ _ (and_l (leb (events t) 512) _ e1);
-        rows-least = leb-true _ _ (and_l (leb 1 (rows t)) _ e2);
-        rows-most = leb-true _ _ (and_l (leb (rows t) 12288) _ e3);
-        length-exact = eqb-true _ _ (and_r (leb (rows t) 12288) _ e3);
+        events_least = leb-true _ _ (and_l (leb 1 (events t)) _ e);
+        events_most = leb-true _ _ (and_l (leb (events t) 512) _ e1);
+        rows_least = leb-true _ _ (and_l (leb 1 (rows t)) _ e2);
+        rows_most = leb-true _ _ (and_l (leb (rows t) 12288) _ e3);
+        length_exact = eqb-true _ _ (and_r (leb (rows t) 12288) _ e3);
       }
 
-  pub sized-holds : 1 ≤ events t → events t ≤ 512 → 1 ≤ rows t → rows t ≤ 12288 → length t ≡ 4 + 4 * events t + 4 * rows t → sized t ≡ true
+  pub sized_holds : 1 ≤ events t → events t ≤ 512 → 1 ≤ rows t → rows t ≤ 12288 → length t ≡ 4 + 4 * events t + 4 * rows t → sized t ≡ true
   unfolding sized
-  sized-holds a b c d e = and_i (le-leb _ _ a) (and_i (le-leb _ _ b) (and_i (le-leb _ _ c) (and_i (le-leb _ _ d) (eq-eqb _ _ e))))
+  sized_holds a b c d e = and_i (le-leb _ _ a) (and_i (le-leb _ _ b) (and_i (le-leb _ _ c) (and_i (le-leb _ _ d) (eq-eqb _ _ e))))
 
   -- Whether a table is sound, from what the functions answer.
   pub unsized : sized t ≡ false → false ≡ sound t
   unfolding sound
   unsized s = rw s
 
-  pub judged : (a b : Bool) → sized t ≡ true → a ≡ events-sound t (events t) → b ≡ rows-sound t (rows t) → (a && b) ≡ sound t
+  pub judged : (a b : Bool) → sized t ≡ true → a ≡ events_sound t (events t) → b ≡ rows_sound t (rows t) → (a && b) ≡ sound t
   unfolding sound
   judged a b s p q = rw (s, p, q)
 
   module _ (ok : sound t ≡ true) where
-    pub sound-shaped : Shaped t
+    pub sound_shaped : Shaped t
     unfolding sound
-    sound-shaped = sized-says (and_l (sized t) _ ok)
+    sound_shaped = sized_says (and_l (sized t) _ ok)
 
-    pub sound-events : events-sound t (events t) ≡ true
+    pub sound_events : events_sound t (events t) ≡ true
     unfolding sound
-    sound-events = and_l (events-sound t (events t)) _ (and_r (sized t) _ ok)
+    sound_events = and_l (events_sound t (events t)) _ (and_r (sized t) _ ok)
 
-    pub sound-rows : rows-sound t (rows t) ≡ true
+    pub sound_rows : rows_sound t (rows t) ≡ true
     unfolding sound
-    sound-rows = and_r (events-sound t (events t)) _ (and_r (sized t) _ ok)
+    sound_rows = and_r (events_sound t (events t)) _ (and_r (sized t) _ ok)

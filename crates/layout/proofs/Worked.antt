@@ -4,6 +4,6 @@ use Rattle.base.specs.Packed.{field}
 use Rattle.layout.specs.Sound.{sized}
 use Rattle.layout.specs.Worked.{limits, Sizes}
 
-pub sizes-hold : Sizes limits
+pub sizes_hold : Sizes limits
 unfolding field sized
-sizes-hold = refl
+sizes_hold = refl

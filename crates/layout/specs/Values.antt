@@ -1,32 +1,32 @@
 -- The values of the rows: "A step works out every row, in a sheet of 12,288 values that starts all no."
 use Rattle.std.specs.Prelude.{Bool, false, not, cond, ◌&&◌, ◌||◌, List, [], ◌∷◌, ◌++◌, ℕ, zero, suc, ◌-◌, eqb, get_or}
 use Rattle.record.specs.Bits.{bit_at}
-use Rattle.layout.specs.Fields.{rows, row_word, event-word, guard-of, kind-of, left-of, right_of}
+use Rattle.layout.specs.Fields.{rows, row_word, event_word, guard_of, kind_of, left_of, right_of}
 
 -- What a row of word w says, by the control bits and by what the rows say. "Kind 0: control bit `left`. Kind 1: not row `left`. Kind 2: both rows. Kind 3: either
 -- row."
 unfoldable pub says : ℕ → (ℕ → Bool) → (ℕ → Bool) → Bool
 says w bit row =
-    cond (eqb (kind-of w) 0) (bit (left-of w))
-    (cond (eqb (kind-of w) 1) (not (row (left-of w)))
-    (cond (eqb (kind-of w) 2) (row (left-of w) && row (right_of w)) (row (left-of w) || row (right_of w))))
+    cond (eqb (kind_of w) 0) (bit (left_of w))
+    (cond (eqb (kind_of w) 1) (not (row (left_of w)))
+    (cond (eqb (kind_of w) 2) (row (left_of w) && row (right_of w)) (row (left_of w) || row (right_of w))))
 
 -- Its value, from a record's words and the values of the rows before it.
-abbrev pub row-value : ℕ → List ℕ → List Bool → Bool
-row-value w bits vs = says w (bit_at bits) (λ i. get_or vs i false)
+abbrev pub row_value : ℕ → List ℕ → List Bool → Bool
+row_value w bits vs = says w (bit_at bits) (λ i. get_or vs i false)
 
 -- The values of the first i rows, lowest row first.
-unfoldable pub row-values : List ℕ → List ℕ → ℕ → List Bool
-row-values t bits zero = []
-row-values t bits (suc i) = row-values t bits i ++ (row-value (row_word t i) bits (row-values t bits i) ∷ [])
+unfoldable pub row_values : List ℕ → List ℕ → ℕ → List Bool
+row_values t bits zero = []
+row_values t bits (suc i) = row_values t bits i ++ (row_value (row_word t i) bits (row_values t bits i) ∷ [])
 
 -- What every row of a table says.
 abbrev pub values_of : List ℕ → List ℕ → List Bool
-values_of t bits = row-values t bits (rows t)
+values_of t bits = row_values t bits (rows t)
 
 -- Whether event e's guard row says yes.
 abbrev pub allows : List ℕ → List Bool → ℕ → Bool
-allows t vs e = get_or vs (guard-of (event-word t e)) false
+allows t vs e = get_or vs (guard_of (event_word t e)) false
 
 -- "Row R−1 says finished."
 abbrev pub ended : List ℕ → List Bool → Bool

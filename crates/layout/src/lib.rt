@@ -1,8 +1,8 @@
 ghost use Rattle.std.specs.Prelude.{◌≡◌, true, ◌+◌, ◌*◌, ◌<◌, ◌≤◌, length, take};
 ghost use Rattle.base.specs.Packed.{field};
 ghost use Rattle.layout.specs.Fields.{events, rows};
-ghost use Rattle.layout.specs.Sound.{sized, event-sound, row-sound, events-sound, rows-sound, sound};
-ghost use Rattle.layout.specs.Values.{row-value, values_of};
+ghost use Rattle.layout.specs.Sound.{sized, event_sound, row_sound, events_sound, rows_sound, sound};
+ghost use Rattle.layout.specs.Values.{row_value, values_of};
 
 // Where the fields stand in the 32 bits of an event record and of a row: dividing takes what stands below a field away, the remainder what
 // stands above it.
@@ -35,7 +35,7 @@ fn word(t: &[u8], k: usize) -> usize
 
 // Of event e's record, where there are m rows.
 fn event_sound(w: usize, m: usize, e: usize) -> bool
-    ensures { result ≡ event-sound w m e }
+    ensures { result ≡ event_sound w m e }
 {
     let guard = w / GUARD;
     let first = w / RUN % RUN;
@@ -46,7 +46,7 @@ fn event_sound(w: usize, m: usize, e: usize) -> bool
 
 // Of row i, where there are n events: left is below the one number, right below the other.
 fn row_sound(w: usize, n: usize, i: usize) -> bool
-    ensures { result ≡ row-sound w n i }
+    ensures { result ≡ row_sound w n i }
 {
     let kind = w / KIND;
     let left = w / SIDE % SIDE;
@@ -58,7 +58,7 @@ fn row_sound(w: usize, n: usize, i: usize) -> bool
 
 fn events_sound(t: &[u8]) -> bool
     requires { sized t.now ≡ true }
-    ensures { result ≡ events-sound t.now (events t.now) }
+    ensures { result ≡ events_sound t.now (events t.now) }
 {
     let n = base::half(t, 0);
     let m = base::half(t, 2);
@@ -75,7 +75,7 @@ fn events_sound(t: &[u8]) -> bool
 
 fn rows_sound(t: &[u8]) -> bool
     requires { sized t.now ≡ true }
-    ensures { result ≡ rows-sound t.now (rows t.now) }
+    ensures { result ≡ rows_sound t.now (rows t.now) }
 {
     let n = base::half(t, 0);
     let m = base::half(t, 2);
@@ -104,8 +104,8 @@ pub fn sound(t: &[u8]) -> bool
 
 // The value of a sound row, from the control bits and the rows before it.
 fn row_value(w: usize, n: usize, i: usize, bits: &[u64; 8], values: &[bool]) -> bool
-    requires { (row-sound w n i ≡ true) × (i < length values.now) }
-    ensures { result ≡ row-value w bits.now values.now }
+    requires { (row_sound w n i ≡ true) × (i < length values.now) }
+    ensures { result ≡ row_value w bits.now values.now }
 {
     let kind = w / KIND;
     let left = w / SIDE % SIDE;
@@ -127,7 +127,7 @@ fn row_value(w: usize, n: usize, i: usize, bits: &[u64; 8], values: &[bool]) -> 
 // Whether all rows are sound; works out the rows up to the first that is not, lowest row first.
 fn rows_worked(t: &[u8], bits: &[u64; 8], values: &mut [bool]) -> bool
     requires { (sized t.now ≡ true) × (length values.old ≡ 12288) }
-    ensures value { result ≡ rows-sound t.now (rows t.now) }
+    ensures value { result ≡ rows_sound t.now (rows t.now) }
     ensures values_after { result ≡ true → take (rows t.now) values.new ≡ values_of t.now bits.now }
 {
     let n = base::half(t, 0);

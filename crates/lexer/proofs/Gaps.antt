@@ -14,10 +14,10 @@ use Rattle.base.proofs.Truth.{by_cases, clash, is_false}
 use Rattle.tokens.specs.Classes.{between, class_of, within}
 use Rattle.tokens.specs.Remarks.{opened, skipped, stretch, blanks}
 use Rattle.tokens.specs.Words.{front}
-use Rattle.tokens.proofs.Between.{in-range, between_in, class-smaller}
-use Rattle.tokens.proofs.Front.{front-past, front-fails}
-use Rattle.tokens.proofs.Stretch.{stretch-nil, stretch-cons, stretch-end, stretch-stop}
-use Rattle.tokens.proofs.Remarks.{held-by-none}
+use Rattle.tokens.proofs.Between.{in_range, between_in, class_smaller}
+use Rattle.tokens.proofs.Front.{front_past, front_fails}
+use Rattle.tokens.proofs.Stretch.{stretch_nil, stretch_cons, stretch_end, stretch_stop}
+use Rattle.tokens.proofs.Remarks.{held_by_none}
 
 abbrev blank : ℕ → Bool
 blank = within 8 8
@@ -26,45 +26,45 @@ abbrev held : ℕ → Bool
 held = between 32 126
 
 -- A blank is skipped and opens no remark.
-blank-skipped : (b : ℕ) → blank b ≡ true → (skipped false b ≡ true) × (opened false b ≡ false)
+blank_skipped : (b : ℕ) → blank b ≡ true → (skipped false b ≡ true) × (opened false b ≡ false)
 unfolding class_of
-blank-skipped b e =
-    let r = in-range 8 8 (class_of b) e in
+blank_skipped b e =
+    let r = in_range 8 8 (class_of b) e in
     (between_in 8 9 (class_of b) r.0 (omega arith), is_false (eqb b 35) (λ q. clash e (rw (eqb-true b 35 q))))
 
-blank-run : (l : List ℕ) → blanks l ≡ front blank l + blanks (drop (front blank l) l)
+blank_run : (l : List ℕ) → blanks l ≡ front blank l + blanks (drop (front blank l) l)
 unfolding front
-blank-run [] = sym (zero-add _)
-blank-run (b ∷ bs) =
+blank_run [] = sym (zero-add _)
+blank_run (b ∷ bs) =
     by_cases (blank b)
     (λ e.
-    let k = blank-skipped b e in
-    let h = blank-run bs in
-    rw (stretch-cons skipped false b bs, k.0, k.1, e) (omega arith))
+    let k = blank_skipped b e in
+    let h = blank_run bs in
+    rw (stretch_cons skipped false b bs, k.0, k.1, e) (omega arith))
     (λ e. rw e (sym (zero-add _)))
 
 -- What a remark holds is skipped in it and does not end it; what it does not hold is skipped in it as outside.
-held-skipped : (b : ℕ) → held b ≡ true → (skipped true b ≡ true) × (opened true b ≡ true)
-held-skipped b e = let r = in-range 32 126 b e in rw (e, ne_eqb b 10 (λ q. omega arith)) (refl, refl)
+held_skipped : (b : ℕ) → held b ≡ true → (skipped true b ≡ true) × (opened true b ≡ true)
+held_skipped b e = let r = in_range 32 126 b e in rw (e, ne_eqb b 10 (λ q. omega arith)) (refl, refl)
 
-unheld-alike : (b : ℕ) (bs : List ℕ) → held b ≡ false → stretch skipped true (b ∷ bs) ≡ blanks (b ∷ bs)
+unheld_alike : (b : ℕ) (bs : List ℕ) → held b ≡ false → stretch skipped true (b ∷ bs) ≡ blanks (b ∷ bs)
 unfolding class_of
-unheld-alike b bs f =
-    by_cases (eqb b 10) (λ e. rw (eqb-true b 10 e, stretch-cons skipped true 10 bs, stretch-cons skipped false 10 bs))
+unheld_alike b bs f =
+    by_cases (eqb b 10) (λ e. rw (eqb-true b 10 e, stretch_cons skipped true 10 bs, stretch_cons skipped false 10 bs))
     (λ e.
     let n : skipped true b ≡ false = rw (f, e) in
-    rw (stretch-cons skipped true b bs, stretch-cons skipped false b bs, n, held-by-none b n))
+    rw (stretch_cons skipped true b bs, stretch_cons skipped false b bs, n, held_by_none b n))
 
-remark-run : (l : List ℕ) → stretch skipped true l ≡ front held l + blanks (drop (front held l) l)
+remark_run : (l : List ℕ) → stretch skipped true l ≡ front held l + blanks (drop (front held l) l)
 unfolding front
-remark-run [] = rw (stretch-nil skipped true, stretch-nil skipped false)
-remark-run (b ∷ bs) =
+remark_run [] = rw (stretch_nil skipped true, stretch_nil skipped false)
+remark_run (b ∷ bs) =
     by_cases (held b)
     (λ e.
-    let k = held-skipped b e in
-    let h = remark-run bs in
-    rw (stretch-cons skipped true b bs, k.0, k.1, e) (omega arith))
-    (λ e. rw e (unheld-alike b bs e ∙ sym (zero-add _)))
+    let k = held_skipped b e in
+    let h = remark_run bs in
+    rw (stretch_cons skipped true b bs, k.0, k.1, e) (omega arith))
+    (λ e. rw e (unheld_alike b bs e ∙ sym (zero-add _)))
 
 -- From a place on, what is skipped ends where it ends from i on, and no blank stands at i.
 pub record Reached (text : List ℕ) (at i : ℕ) : Type 0 where
@@ -72,37 +72,37 @@ pub record Reached (text : List ℕ) (at i : ℕ) : Type 0 where
   pub past : front blank (drop i text) ≡ 0
 
 module _ (text : List ℕ) where
-  pub reached-start : (at i : ℕ) → i ≡ at + front blank (drop at text) → Reached text at i
-  reached-start at i I =
+  pub reached_start : (at i : ℕ) → i ≡ at + front blank (drop at text) → Reached text at i
+  reached_start at i I =
       let l = drop at text in
       let d : drop (front blank l) l ≡ drop i text = rw I (drop-drop (front blank l) at text) in
-      let q = blank-run l in
-      let p = front-past blank l in
+      let q = blank_run l in
+      let p = front_past blank l in
       record { same = rw (← d) (omega arith); past = rw (← d) p }
 
   module _ (at i : ℕ) (r : Reached text at i) where
     -- Past a # and what its remark holds, and past the blanks after that.
-    pub reached-more : (e j : ℕ) → i < length text → get_or text i 0 ≡ 35 → e ≡ i + 1 + front held (drop (i + 1) text)
+    pub reached_more : (e j : ℕ) → i < length text → get_or text i 0 ≡ 35 → e ≡ i + 1 + front held (drop (i + 1) text)
         → j ≡ e + front blank (drop e text) → Reached text at j
     unfolding class_of
-    reached-more e j h b E J =
+    reached_more e j h b E J =
         let l = drop (i + 1) text in
         let a : blanks (drop i text) ≡ suc (stretch skipped true l) =
-        rw (drop-cons text i 0 h, b, stretch-cons skipped false 35 (drop (suc i) text), add-one i) in
+        rw (drop-cons text i 0 h, b, stretch_cons skipped false 35 (drop (suc i) text), add-one i) in
         let d : drop (front held l) l ≡ drop e text = rw E (drop-drop (front held l) (i + 1) text) in
-        let q : stretch skipped true l ≡ front held l + blanks (drop e text) = rw (← d) (remark-run l) in
-        let s = reached-start e j J in
+        let q : stretch skipped true l ≡ front held l + blanks (drop e text) = rw (← d) (remark_run l) in
+        let s = reached_start e j J in
         record { same = omega (arith, r.same, s.same); past = s.past }
 
     -- Where neither a blank nor a # stands, nothing is skipped.
-    pub reached-stop : i < length text → (get_or text i 0 ≡ 35 → ⊥) → i ≡ at + blanks (drop at text)
-    reached-stop h f =
+    pub reached_stop : i < length text → (get_or text i 0 ≡ 35 → ⊥) → i ≡ at + blanks (drop at text)
+    reached_stop h f =
         let b = get_or text i 0 in
-        let n = front-fails blank b (drop (suc i) text) (rw (drop-cons text i 0 h) at r.past) in
-        let c = class-smaller b (ne_eqb b 35 f) in
+        let n = front_fails blank b (drop (suc i) text) (rw (drop-cons text i 0 h) at r.past) in
+        let c = class_smaller b (ne_eqb b 35 f) in
         let s : skipped false b ≡ false = is_false (skipped false b) (λ e.
-        clash (between_in 8 8 (class_of b) (in-range 8 9 (class_of b) e).0 c) n) in
-        sym (r.same ∙ stretch-stop skipped false text i h s)
+        clash (between_in 8 8 (class_of b) (in_range 8 9 (class_of b) e).0 c) n) in
+        sym (r.same ∙ stretch_stop skipped false text i h s)
 
-    pub reached-end : length text ≤ i → i ≡ at + blanks (drop at text)
-    reached-end h = sym (r.same ∙ stretch-end skipped false text i h)
+    pub reached_end : length text ≤ i → i ≡ at + blanks (drop at text)
+    reached_end h = sym (r.same ∙ stretch_end skipped false text i h)

@@ -8,18 +8,18 @@ use lib.ListN.{length, drop, get_or, length-drop}
 use Rattle.diagram.specs.Tree.{Name}
 use Rattle.tokens.specs.Classes.{between, class_of, worded}
 use Rattle.tokens.specs.Remarks.{blanks}
-use Rattle.tokens.specs.Words.{front, word-code, code}
+use Rattle.tokens.specs.Words.{front, word_code, code}
 use Rattle.tokens.specs.Spans.{width}
 use Rattle.tokens.proofs.Between.{between_in}
-use Rattle.tokens.proofs.Steps.{width_some, width-le}
+use Rattle.tokens.proofs.Steps.{width_some, width_le}
 
 -- A token whose first byte has the class c.
 module _ (w : Name) {b c : ℕ} (B : b ≡ get_or w 0 0) (C : c ≡ class_of b) where
-  pub a-sign : between 5 7 c ≡ false → c ≡ code w
+  pub a_sign : between 5 7 c ≡ false → c ≡ code w
   unfolding code
-  a-sign f = rw (← B, ← C, f)
+  a_sign f = rw (← B, ← C, f)
 
-  pub a_word : 5 ≤ c → c ≤ 7 → code w ≡ word-code w
+  pub a_word : 5 ≤ c → c ≤ 7 → code w ≡ word_code w
   unfolding code
   a_word l u = rw (← B, ← C, between_in 5 7 c l u)
 
@@ -28,38 +28,38 @@ pub end_after : (text : List ℕ) (at e : ℕ) → at < length text → e ≡ at
 end_after text at e h E =
     let l : 0 < length (drop at text) = rw (length-drop at text) (omega arith) in
     let w = width_some (drop at text) l in
-    (omega arith, omega (arith, width-le (drop at text), length-drop at text))
+    (omega arith, omega (arith, width_le (drop at text), length-drop at text))
 
 -- A loop over tokens goes on: less is left of the text.
-pub less-left : (text : List ℕ) (at e i : ℕ) → at < length text → e ≡ at + width (drop at text) → i ≡ e + blanks (drop e text)
+pub less_left : (text : List ℕ) (at e i : ℕ) → at < length text → e ≡ at + width (drop at text) → i ≡ e + blanks (drop e text)
     → length text - i < length text - at
-less-left text at e i h E I = let a = end_after text at e h E in omega arith
+less_left text at e i h E I = let a = end_after text at e h E in omega arith
 
 -- How wide the token at the front of a list is, by the run of a word there.
-width-if : (v : Bool) (n : ℕ) → 0 < cond v (suc n) 0 → cond v (cond v (suc n) 0) 1 ≡ cond v (suc n) 0
-width-if true n h = refl
-width-if false n h = let z : ⊥ = omega arith in absurd z
+width_if : (v : Bool) (n : ℕ) → 0 < cond v (suc n) 0 → cond v (cond v (suc n) 0) 1 ≡ cond v (suc n) 0
+width_if true n h = refl
+width_if false n h = let z : ⊥ = omega arith in absurd z
 
 pub width_word : (l : List ℕ) → 0 < front worded l → width l ≡ front worded l
 unfolding width front
 width_word [] h = refl
-width_word (b ∷ bs) h = width-if (worded b) (front worded bs) h
+width_word (b ∷ bs) h = width_if (worded b) (front worded bs) h
 
-one-if : (v : Bool) (n : ℕ) → cond v (suc n) 0 ≤ 0 → cond v (cond v (suc n) 0) 1 ≡ 1
-one-if true n h = let z : ⊥ = omega arith in absurd z
-one-if false n h = refl
+one_if : (v : Bool) (n : ℕ) → cond v (suc n) 0 ≤ 0 → cond v (cond v (suc n) 0) 1 ≡ 1
+one_if true n h = let z : ⊥ = omega arith in absurd z
+one_if false n h = refl
 
-pub width-sign : (l : List ℕ) → 0 < length l → front worded l ≤ 0 → width l ≡ 1
+pub width_sign : (l : List ℕ) → 0 < length l → front worded l ≤ 0 → width l ≡ 1
 unfolding width front
-width-sign [] h q = let z : ⊥ = omega arith in absurd z
-width-sign (b ∷ bs) h q = one-if (worded b) (front worded bs) q
+width_sign [] h q = let z : ⊥ = omega arith in absurd z
+width_sign (b ∷ bs) h q = one_if (worded b) (front worded bs) q
 
 module _ (text : List ℕ) (at e : ℕ) (E : e ≡ at + front worded (drop at text)) where
-  pub ends-word : at < e → e ≡ at + width (drop at text)
-  ends-word h = let f : 0 < front worded (drop at text) = omega arith in rw (width_word (drop at text) f) E
+  pub ends_word : at < e → e ≡ at + width (drop at text)
+  ends_word h = let f : 0 < front worded (drop at text) = omega arith in rw (width_word (drop at text) f) E
 
-  pub ends-sign : at < length text → e ≤ at → at + 1 ≡ at + width (drop at text)
-  ends-sign h q =
+  pub ends_sign : at < length text → e ≤ at → at + 1 ≡ at + width (drop at text)
+  ends_sign h q =
       let f : front worded (drop at text) ≤ 0 = omega arith in
       let l : 0 < length (drop at text) = rw (length-drop at text) (omega arith) in
-      rw (width-sign (drop at text) l f)
+      rw (width_sign (drop at text) l f)

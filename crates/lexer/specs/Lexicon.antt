@@ -14,11 +14,11 @@ rows_in t zero row = []
 rows_in t (suc n) row = word_in t row ∷ rows_in t n (row + 16)
 
 -- The nine words of a table: their rows stand after the 256 classes.
-unfoldable pub words-in : List ℕ → List Name
-words-in t = rows_in t 9 256
+unfoldable pub words_in : List ℕ → List Name
+words_in t = rows_in t 9 256
 
 -- The class of each byte, and then the keywords in the order of document 01.
 pub record Lexicon (t : List ℕ) : Type 0 where
   pub size : length t ≡ 400
   pub class : (b : ℕ) → b < 256 → get_or t b 0 ≡ class_of b
-  pub words : words-in t ≡ keywords
+  pub words : words_in t ≡ keywords

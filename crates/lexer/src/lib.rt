@@ -1,13 +1,13 @@
 ghost use Rattle.std.specs.Prelude.{◌≡◌, cond, ◌+◌, ◌-◌, ◌≤◌, ◌<◌, get_or, length, take, drop};
 ghost use Rattle.diagram.specs.Names.{same as alike};
-ghost use Rattle.tokens.specs.Classes.{between, class_of, within, worded as worded-byte, unbroken};
+ghost use Rattle.tokens.specs.Classes.{between, class_of, within, worded as worded_byte, unbroken};
 ghost use Rattle.tokens.specs.Remarks.{blanks};
-ghost use Rattle.tokens.specs.Words.{front, word_at, keyword-in, numeral as numeral-of, word-code};
+ghost use Rattle.tokens.specs.Words.{front, word_at, keyword_in, numeral as numeral_of, word_code};
 ghost use Rattle.tokens.specs.Parts.{Word};
-ghost use Rattle.tokens.specs.Spans.{width, spans-of};
+ghost use Rattle.tokens.specs.Spans.{width, spans_of};
 ghost use Rattle.tokens.specs.Rest.{Next};
-ghost use Rattle.tokens.specs.Scanned.{first-foreign, first-long};
-ghost use Rattle.lexer.specs.Lexicon.{Lexicon, word_in, words-in};
+ghost use Rattle.tokens.specs.Scanned.{first_foreign, first_long};
+ghost use Rattle.lexer.specs.Lexicon.{Lexicon, word_in, words_in};
 
 use tokens::Lexeme;
 
@@ -128,7 +128,7 @@ fn row_is(text: &[u8], a: usize, n: usize, lexicon: &[u8; 400], row: usize) -> b
 // The number of a keyword, and 0 for any other word.
 fn keyword(text: &[u8], a: usize, e: usize, lexicon: &[u8; 400]) -> u8
     requires { (a ≤ e) × (e ≤ length text.now) × Lexicon lexicon.now }
-    ensures { result ≡ keyword-in (words-in lexicon.now) (take (e - a) (drop a text.now)) }
+    ensures { result ≡ keyword_in (words_in lexicon.now) (take (e - a) (drop a text.now)) }
 {
     let n = e - a;
     if 14 < n {
@@ -163,7 +163,7 @@ fn digit(b: u8, last: u8, first: u8) -> u8
 // The number of a numeral from 0 to 16 without leading zero, and 5 for any other word.
 fn numeral(text: &[u8], a: usize, e: usize) -> u8
     requires { (a < e) × (e ≤ length text.now) }
-    ensures { result ≡ numeral-of (take (e - a) (drop a text.now)) }
+    ensures { result ≡ numeral_of (take (e - a) (drop a text.now)) }
 {
     let n = e - a;
     if n == 1 {
@@ -181,7 +181,7 @@ fn numeral(text: &[u8], a: usize, e: usize) -> u8
 // The number of the word from `a` to `e`, whose first byte has the class c: a keyword's, 6 for a name, a numeral's, 5 for any other word.
 fn number(text: &[u8], a: usize, e: usize, c: u8, lexicon: &[u8; 400]) -> u8
     requires { (a < e) × (e ≤ length text.now) × (c ≡ class_of (get_or text.now a 0)) × Lexicon lexicon.now }
-    ensures { result ≡ word-code (take (e - a) (drop a text.now)) }
+    ensures { result ≡ word_code (take (e - a) (drop a text.now)) }
 {
     if c != 5 {
         return numeral(text, a, e);
@@ -241,7 +241,7 @@ fn token_end(text: &[u8], at: usize, lexicon: &[u8; 400]) -> usize
 // The place of the first foreign byte, or the text's length.
 pub fn foreign(text: &[u8], lexicon: &[u8; 400]) -> usize
     requires { Lexicon lexicon.now }
-    ensures { result ≡ first-foreign text.now }
+    ensures { result ≡ first_foreign text.now }
 {
     let mut place = gap(text, 0, lexicon);
     while place < text.len() {
@@ -258,7 +258,7 @@ pub fn foreign(text: &[u8], lexicon: &[u8; 400]) -> usize
 // The place of the first token of over 24 bytes, or the text's length.
 pub fn first_long(text: &[u8], lexicon: &[u8; 400]) -> usize
     requires { Lexicon lexicon.now }
-    ensures { result ≡ first-long (spans-of text.now) (length text.now) }
+    ensures { result ≡ first_long (spans_of text.now) (length text.now) }
 {
     let mut at = gap(text, 0, lexicon);
     while at < text.len() {
@@ -273,7 +273,7 @@ pub fn first_long(text: &[u8], lexicon: &[u8; 400]) -> usize
 
 // Whether a byte is a letter, a digit or an underscore. A few comparisons, for who has no table.
 fn worded(b: u8) -> bool
-    ensures { result ≡ worded-byte b }
+    ensures { result ≡ worded_byte b }
 {
     if b'z' < b {
         return false;
@@ -301,7 +301,7 @@ fn worded(b: u8) -> bool
 
 // The end of the word that starts at `at`.
 fn word_end(text: &[u8], at: usize) -> usize
-    ensures { result ≡ at + front worded-byte (drop at text.now) }
+    ensures { result ≡ at + front worded_byte (drop at text.now) }
 {
     let mut i = at;
     while i < text.len() {

@@ -4,11 +4,11 @@ use Rattle.std.specs.Prelude.{Bool, cond, List, [], ◌∷◌, ◌++◌, ℕ, su
 use Rattle.base.specs.Text.{bytes}
 use Rattle.process.specs.Process.{Event}
 use Rattle.output.specs.Decimal.{decimal}
-use Rattle.output.specs.Lines.{two-numbers}
+use Rattle.output.specs.Lines.{two_numbers}
 
 -- `events E copies C`
-unfoldable pub first-line : ℕ → ℕ → List ℕ
-first-line e c = two-numbers (bytes "events ") e (bytes " copies ") c
+unfoldable pub first_line : ℕ → ℕ → List ℕ
+first_line e c = two_numbers (bytes "events ") e (bytes " copies ") c
 
 -- Values, "each after a space".
 unfoldable pub spaced : List ℕ → List ℕ

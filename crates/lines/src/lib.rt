@@ -1,7 +1,7 @@
 ghost use Rattle.std.specs.Prelude.{◌≡◌, ◌+◌, ◌<◌, length};
 ghost use Rattle.output.specs.Buffer.{buffer, put_all};
-ghost use Rattle.lines.specs.code.Written.{line-head, spaced-value, spaced-values, line_at};
-ghost use Rattle.lines.specs.code.Walks.{columns, stands, walk-stands, parts as parts-of, copies as Copies-of, resets as resets-of, part as part_of, walked-listing};
+ghost use Rattle.lines.specs.code.Written.{line_head, spaced_value, spaced_values, line_at};
+ghost use Rattle.lines.specs.code.Walks.{columns, stands, walk_stands, parts as parts_of, copies as CopiesOf, resets as resets_of, part as part_of, walked_listing};
 
 use diagram::Diagram;
 use labels::Values;
@@ -17,7 +17,7 @@ struct Walk {
 
 // The number of an event, and `reset` for a reset, a space after each.
 fn head(out: &mut [u8], at: usize, e: usize, reset: bool) -> usize
-    ensures { buffer result out.new ≡ put_all (line-head e reset) (buffer at out.old) }
+    ensures { buffer result out.new ≡ put_all (line_head e reset) (buffer at out.old) }
 {
     let a = output::number(out, at, e);
     if reset {
@@ -28,7 +28,7 @@ fn head(out: &mut [u8], at: usize, e: usize, reset: bool) -> usize
 
 // A value after a space, if it is there.
 fn value(out: &mut [u8], at: usize, there: bool, v: usize) -> usize
-    ensures { buffer result out.new ≡ put_all (spaced-value there v) (buffer at out.old) }
+    ensures { buffer result out.new ≡ put_all (spaced_value there v) (buffer at out.old) }
 {
     if there {
         let a = output::bytes(out, at, b" ");
@@ -38,7 +38,7 @@ fn value(out: &mut [u8], at: usize, there: bool, v: usize) -> usize
 }
 
 fn spaced(out: &mut [u8], at: usize, v: Values) -> usize
-    ensures { buffer result out.new ≡ put_all (spaced-values v) (buffer at out.old) }
+    ensures { buffer result out.new ≡ put_all (spaced_values v) (buffer at out.old) }
 {
     let a = value(out, at, 0 < v.count, v.first);
     let b = value(out, a, 1 < v.count, v.second);
@@ -65,7 +65,7 @@ fn line(
 
 // Is a node of this kind, over a member of that, a loop over a flow?
 fn resets(kind: u8, member: u8) -> bool
-    ensures { result ≡ resets-of kind member }
+    ensures { result ≡ resets_of kind member }
 {
     if kind == columns::LOOP {
         return member != postfix::LEAF;
@@ -88,7 +88,7 @@ fn part<'a>(
     at: usize,
     out: &mut [u8; 32768],
 ) -> Walk
-    ensures { walk-stands result out.new ≡ part_of text.now left (columns kinds.now sizes.now depths.now names.now) values (stands i event at out.old) }
+    ensures { walk_stands result out.new ≡ part_of text.now left (columns kinds.now sizes.now depths.now names.now) values (stands i event at out.old) }
 {
     let stays = Walk { node: i, event, at };
     if left == 0 {
@@ -179,7 +179,7 @@ fn parts<'a>(
     out: &mut [u8; 32768],
 ) -> Walk
     requires { i < 256 }
-    ensures { walk-stands result out.new ≡ parts-of (part_of text.now left (columns kinds.now sizes.now depths.now names.now) values) (columns kinds.now sizes.now depths.now names.now) i 255 (stands (i + 1) event at out.old) }
+    ensures { walk_stands result out.new ≡ parts_of (part_of text.now left (columns kinds.now sizes.now depths.now names.now) values) (columns kinds.now sizes.now depths.now names.now) i 255 (stands (i + 1) event at out.old) }
 {
     let mut t = Walk {
         node: i + 1,
@@ -216,7 +216,7 @@ fn copies<'a>(
     out: &mut [u8; 32768],
 ) -> Walk
     requires { i < 256 }
-    ensures { walk-stands result out.new ≡ Copies-of (part_of text.now left (columns kinds.now sizes.now depths.now names.now)) i values 0 size (stands (i + 1) event at out.old) }
+    ensures { walk_stands result out.new ≡ CopiesOf (part_of text.now left (columns kinds.now sizes.now depths.now names.now)) i values 0 size (stands (i + 1) event at out.old) }
 {
     let mut t = Walk {
         node: i + 1,
@@ -246,7 +246,7 @@ fn copies<'a>(
 
 // The listing of a drawing that is read, at the front of `out`; answers how many bytes there are.
 pub fn write(text: &[u8], d: Diagram, out: &mut [u8; 32768]) -> usize
-    ensures out_after { buffer result out.new ≡ walked-listing text.now d (buffer 0 out.old) }
+    ensures out_after { buffer result out.new ≡ walked_listing text.now d (buffer 0 out.old) }
     ensures out_len { length out.old ≡ 32768 }
 {
     let at = output::numbers(out, 0, b"events ", d.events, b" copies ", d.copies);

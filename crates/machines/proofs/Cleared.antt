@@ -11,16 +11,16 @@ use borrow.Author.Tests.{eqb-true}
 use Rattle.base.proofs.Truth.{by_cases, clash, is_false}
 use Rattle.process.specs.Process.{Process, event, join, again, rounds, owns}
 use Rattle.process.specs.Bits.{clears}
-use Rattle.process.proofs.Numbered.{size, Numbered, interval, apart, reset-out}
-use Rattle.process.proofs.Cleared.{first-lowest}
+use Rattle.process.proofs.Numbered.{size, Numbered, interval, apart, reset_out}
+use Rattle.process.proofs.Cleared.{first_lowest}
 use Rattle.process.proofs.Local.{closed}
 use Rattle.formulas.specs.Actions.{Action, becomes, cleared, actions}
-use Rattle.formulas.specs.Opening.{cleared-all}
-use Rattle.guarding.specs.code.Asked.{clears-from}
+use Rattle.formulas.specs.Opening.{cleared_all}
+use Rattle.guarding.specs.code.Asked.{clears_from}
 
 -- ---- those that a process clears
-not-its : (p : Process) (x i : ℕ) → owns p x ≡ false → clears p x i ≡ false
-not-its p x i h = is_false (clears p x i) (λ k. clash (closed p x i k).0 h)
+not_its : (p : Process) (x i : ℕ) → owns p x ≡ false → clears p x i ≡ false
+not_its p x i h = is_false (clears p x i) (λ k. clash (closed p x i k).0 h)
 
 -- The events from one on and up to another, and not with it.
 abbrev Run : (ℕ → Bool) → ℕ → ℕ → Type 0
@@ -30,32 +30,32 @@ no_run : (x : ℕ) → Run (λ i. false) x x
 no_run x i = (λ h. absurd (false≢true h), λ (a, b). absurd (omega arith))
 
 module _ (x : ℕ) where
-  clears-run : (p : Process) (lo : ℕ) → Numbered p lo → owns p x ≡ true → Run (clears p x) (clears-from p x) x
-  unfolding clears-from clears owns Numbered
-  clears-run (event n l) lo m h i = no_run x i
-  clears-run (again n l) lo m h i = no_run x i
-  clears-run (join j p q) lo m h i =
+  clears_run : (p : Process) (lo : ℕ) → Numbered p lo → owns p x ≡ true → Run (clears p x) (clears_from p x) x
+  unfolding clears_from clears owns Numbered
+  clears_run (event n l) lo m h i = no_run x i
+  clears_run (again n l) lo m h i = no_run x i
+  clears_run (join j p q) lo m h i =
       by_cases (owns p x)
-      (λ t. let o : clears q x i ≡ false = not-its q x i (is_false (owns q x) (λ k. apart p q lo m.0 m.1 x t k)) in
-      rw (t, o, or-false (clears p x i)) (clears-run p lo m.0 t i))
-      (λ t. rw (t, not-its p x i t) (clears-run q (lo + size p) m.1 (rw t at h) i))
-  clears-run (rounds p r l) lo m h i =
+      (λ t. let o : clears q x i ≡ false = not_its q x i (is_false (owns q x) (λ k. apart p q lo m.0 m.1 x t k)) in
+      rw (t, o, or-false (clears p x i)) (clears_run p lo m.0 t i))
+      (λ t. rw (t, not_its p x i t) (clears_run q (lo + size p) m.1 (rw t at h) i))
+  clears_run (rounds p r l) lo m h i =
       by_cases (owns p x)
-      (λ t. let q : eqb r x ≡ false = is_false (eqb r x) (λ e. clash t (sym (ap (owns p) (eqb-true r x e)) ∙ reset-out p lo r m.0 m.1)) in
-      rw (t, q) (clears-run p lo m.0 t i))
+      (λ t. let q : eqb r x ≡ false = is_false (eqb r x) (λ e. clash t (sym (ap (owns p) (eqb-true r x e)) ∙ reset_out p lo r m.0 m.1)) in
+      rw (t, q) (clears_run p lo m.0 t i))
       (λ t. let q : eqb r x ≡ true = rw t at h in
       let e : lo + size p ≡ x = omega (arith, m.1, eqb-true r x q) in
-      rw (t, q, not-its p x i t, or-false (owns p i), first-lowest p lo m.0, ← e) (interval p lo i m.0))
+      rw (t, q, not_its p x i t, or-false (owns p i), first_lowest p lo m.0, ← e) (interval p lo i m.0))
 
-  pub from-most : (p : Process) (lo : ℕ) → Numbered p lo → owns p x ≡ true → clears-from p x ≤ x
-  unfolding clears-from owns Numbered
-  from-most (event n l) lo m h = omega arith
-  from-most (again n l) lo m h = omega arith
-  from-most (join j p q) lo m h =
-      by_cases (owns p x) (λ t. rw t (from-most p lo m.0 t)) (λ t. rw t (from-most q (lo + size p) m.1 (rw t at h)))
-  from-most (rounds p r l) lo m h =
-      by_cases (owns p x) (λ t. rw t (from-most p lo m.0 t))
-      (λ t. rw t (let e = eqb-true r x (rw t at h) in omega (arith, e, first-lowest p lo m.0, m.1)))
+  pub from_most : (p : Process) (lo : ℕ) → Numbered p lo → owns p x ≡ true → clears_from p x ≤ x
+  unfolding clears_from owns Numbered
+  from_most (event n l) lo m h = omega arith
+  from_most (again n l) lo m h = omega arith
+  from_most (join j p q) lo m h =
+      by_cases (owns p x) (λ t. rw t (from_most p lo m.0 t)) (λ t. rw t (from_most q (lo + size p) m.1 (rw t at h)))
+  from_most (rounds p r l) lo m h =
+      by_cases (owns p x) (λ t. rw t (from_most p lo m.0 t))
+      (λ t. rw t (let e = eqb-true r x (rw t at h) in omega (arith, e, first_lowest p lo m.0, m.1)))
 
 -- ---- the actions that clear them
 module _ (clear : ℕ → Bool) (from to : ℕ) (run : Run clear from to) where
@@ -67,30 +67,30 @@ module _ (clear : ℕ → Bool) (from to : ℕ) (run : Run clear from to) where
   after_run k zero h = refl
   after_run k (suc n) h = rw (not_in k (λ (a, b). omega arith), after_run (suc k) n (omega arith))
 
-  in-run : (k n : ℕ) → from ≤ k → k ≤ to → to ≤ k + n → cleared clear k n ≡ cleared-all k (to - k)
-  unfolding cleared cleared-all
-  in-run k zero f h l = let e : to - k ≡ 0 = omega arith in rw e
-  in-run k (suc n) f h l =
+  in_run : (k n : ℕ) → from ≤ k → k ≤ to → to ≤ k + n → cleared clear k n ≡ cleared_all k (to - k)
+  unfolding cleared cleared_all
+  in_run k zero f h l = let e : to - k ≡ 0 = omega arith in rw e
+  in_run k (suc n) f h l =
       ⊎_elim
       (λ e. let z : to - k ≡ 0 = omega arith in rw z (after_run k (suc n) (omega arith)))
       (λ b. let z : to - k ≡ suc (to - suc k) = omega arith in
-      let later : cleared clear (suc k) n ≡ cleared-all (suc k) (to - suc k) = in-run (suc k) n (omega arith) (omega arith) (omega arith) in
+      let later : cleared clear (suc k) n ≡ cleared_all (suc k) (to - suc k) = in_run (suc k) n (omega arith) (omega arith) (omega arith) in
       rw ((run k).1 (f, b), z, later))
       (eq-or-lt_of_le h)
 
-  before-run : (k n : ℕ) → k ≤ from → from ≤ to → to ≤ k + n → cleared clear k n ≡ cleared-all from (to - from)
+  before_run : (k n : ℕ) → k ≤ from → from ≤ to → to ≤ k + n → cleared clear k n ≡ cleared_all from (to - from)
   unfolding cleared
-  before-run k zero h f l = let e : k ≡ from = omega arith in rw (← e) (in-run k zero (omega arith) (omega arith) l)
-  before-run k (suc n) h f l =
+  before_run k zero h f l = let e : k ≡ from = omega arith in rw (← e) (in_run k zero (omega arith) (omega arith) l)
+  before_run k (suc n) h f l =
       ⊎_elim
-      (λ e. rw (← e) (in-run k (suc n) (omega arith) (omega arith) l))
-      (λ b. rw (not_in k (λ (a, c). omega arith)) (before-run (suc k) n (omega arith) f (omega arith)))
+      (λ e. rw (← e) (in_run k (suc n) (omega arith) (omega arith) l))
+      (λ b. rw (not_in k (λ (a, c). omega arith)) (before_run (suc k) n (omega arith) f (omega arith)))
       (eq-or-lt_of_le h)
 
 -- The actions of an event of a process with n events.
-pub its-actions : (p : Process) (n e : ℕ) → Numbered p 0 → owns p e ≡ true → e ≤ n
-    → becomes e true ∷ cleared-all (clears-from p e) (e - clears-from p e) ≡ actions p n e
+pub its_actions : (p : Process) (n e : ℕ) → Numbered p 0 → owns p e ≡ true → e ≤ n
+    → becomes e true ∷ cleared_all (clears_from p e) (e - clears_from p e) ≡ actions p n e
 unfolding actions
-its-actions p n e m o l =
+its_actions p n e m o l =
     ap (λ (more : List Action). becomes e true ∷ more)
-    (sym (before-run (clears p e) (clears-from p e) e (clears-run e p 0 m o) 0 n (omega arith) (from-most e p 0 m o) (omega arith)))
+    (sym (before_run (clears p e) (clears_from p e) e (clears_run e p 0 m o) 0 n (omega arith) (from_most e p 0 m o) (omega arith)))

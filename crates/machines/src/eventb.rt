@@ -1,8 +1,8 @@
 ghost use Rattle.std.specs.Prelude.{◌≡◌, ◌<◌};
 ghost use Rattle.output.specs.Buffer.{buffer, put_all};
 ghost use Rattle.variables.specs.code.Spelled.{spelled};
-ghost use Rattle.modelling.specs.Texts.{event-text, opening-text};
-ghost use Rattle.modelling.specs.Answers.{Event-answer, Opening-answer};
+ghost use Rattle.modelling.specs.Texts.{event_text, opening_text};
+ghost use Rattle.modelling.specs.Answers.{EventAnswer, OpeningAnswer};
 ghost use Rattle.machines.specs.code.Drawn.{passed_on, head as head_of, Drawn, Admission};
 
 use diagram::Diagram;
@@ -63,7 +63,7 @@ fn head(text: &[u8], v: Variables, e: usize, out: &mut [u8]) -> usize
 // The text of event e of a diagram that was read; answers how many bytes it has.
 fn write(text: &[u8], d: Diagram, e: usize, out: &mut [u8]) -> usize
     requires { Drawn text.now d × (e < d.events) }
-    ensures { (k : Drawn text.now d) → buffer result out.new ≡ put_all (event-text k.tree e) (buffer 0 out.old) }
+    ensures { (k : Drawn text.now d) → buffer result out.new ≡ put_all (event_text k.tree e) (buffer 0 out.old) }
 {
     let mut codes = [0u8; 1024];
     let n = expansion::expand(d, &mut codes);
@@ -78,7 +78,7 @@ fn write(text: &[u8], d: Diagram, e: usize, out: &mut [u8]) -> usize
 // The Event-B event of an event's number, or the refusal: 1 for a buffer of under 65,536 bytes, then reading's, 16 for a diagram with a replicator or over 32 events, 14 for
 // a number at or past E. A refused call leaves the buffer as it was; bytes past those written stay.
 pub fn event(text: &[u8], event: u64, out: &mut [u8]) -> Written
-    ensures { Event-answer text.now event out.old result out.new }
+    ensures { EventAnswer text.now event out.old result out.new }
 {
     if out.len() < 65536 {
         return Written::Refused(1, 0);
@@ -99,7 +99,7 @@ pub fn event(text: &[u8], event: u64, out: &mut [u8]) -> Written
 // A machine of a diagram that was read, up to its first event; answers how many bytes it has.
 fn open(text: &[u8], d: Diagram, out: &mut [u8]) -> usize
     requires { Drawn text.now d }
-    ensures { (k : Drawn text.now d) → buffer result out.new ≡ put_all (opening-text k.tree) (buffer 0 out.old) }
+    ensures { (k : Drawn text.now d) → buffer result out.new ≡ put_all (opening_text k.tree) (buffer 0 out.old) }
 {
     let v = profile::names(d);
     let root = d.nodes[0];
@@ -108,7 +108,7 @@ fn open(text: &[u8], d: Diagram, out: &mut [u8]) -> usize
 
 // The machine of a text up to its first event: its name, its variables with their types, and all of them FALSE; or the refusal, as for an event.
 pub fn opening(text: &[u8], out: &mut [u8]) -> Written
-    ensures { Opening-answer text.now out.old result out.new }
+    ensures { OpeningAnswer text.now out.old result out.new }
 {
     if out.len() < 65536 {
         return Written::Refused(1, 0);

@@ -1,29 +1,29 @@
 -- The machines worked through, computed.
 use mathlib.Core.Path.{refl}
-use Rattle.diagram.specs.Count.{flow-events}
-use Rattle.diagram.specs.TreeNodes.{flow-tree-nodes}
-use Rattle.diagram.specs.Replicators.{some-replicates}
+use Rattle.diagram.specs.Count.{flow_events}
+use Rattle.diagram.specs.TreeNodes.{flow_tree_nodes}
+use Rattle.diagram.specs.Replicators.{some_replicates}
 use Rattle.output.specs.Decimal.{digits}
-use Rattle.process.specs.Process.{owns, event-of, events}
-use Rattle.process.specs.Expand.{flow-process}
+use Rattle.process.specs.Process.{owns, event_of, events}
+use Rattle.process.specs.Expand.{flow_process}
 use Rattle.process.specs.Bits.{clears}
 use Rattle.process.specs.Bodies.{first}
 use Rattle.formulas.specs.Actions.{cleared, actions}
-use Rattle.formulas.specs.Conditions.{some-true, all-false, complete-when, settled-when, conditions}
-use Rattle.formulas.specs.Lines.{formula, guard-lines, action-lines, event-lines}
-use Rattle.formulas.specs.Opening.{variable-lines, invariant-lines, cleared-all, opening-lines}
-use Rattle.modelling.specs.Profile.{in-profile}
-use Rattle.modelling.specs.Texts.{guards-of, actions-of, event-text, opening-text, event-texts, machine-text}
-use Rattle.modelling.specs.Worked.{texts, Texts-worked, Machine-worked, profiles, Profiled}
+use Rattle.formulas.specs.Conditions.{some_true, all_false, complete_when, settled_when, conditions}
+use Rattle.formulas.specs.Lines.{formula, guard_lines, action_lines, event_lines}
+use Rattle.formulas.specs.Opening.{variable_lines, invariant_lines, cleared_all, opening_lines}
+use Rattle.modelling.specs.Profile.{in_profile}
+use Rattle.modelling.specs.Texts.{guards_of, actions_of, event_text, opening_text, event_texts, machine_text}
+use Rattle.modelling.specs.Worked.{texts, TextsWorked, MachineWorked, profiles, Profiled}
 
-pub texts-worked : Texts-worked texts
-unfolding flow-events flow-process owns event-of events clears first digits cleared actions some-true all-false complete-when settled-when conditions formula guard-lines action-lines event-lines guards-of actions-of event-text
-texts-worked = refl
+pub texts_worked : TextsWorked texts
+unfolding flow_events flow_process owns event_of events clears first digits cleared actions some_true all_false complete_when settled_when conditions formula guard_lines action_lines event_lines guards_of actions_of event_text
+texts_worked = refl
 
-pub machine-worked : Machine-worked
-unfolding flow-events flow-process owns event-of events clears first digits cleared actions some-true all-false complete-when settled-when conditions formula guard-lines action-lines event-lines guards-of actions-of event-text variable-lines invariant-lines cleared-all opening-lines opening-text event-texts machine-text
-machine-worked = refl
+pub machine_worked : MachineWorked
+unfolding flow_events flow_process owns event_of events clears first digits cleared actions some_true all_false complete_when settled_when conditions formula guard_lines action_lines event_lines guards_of actions_of event_text variable_lines invariant_lines cleared_all opening_lines opening_text event_texts machine_text
+machine_worked = refl
 
 pub profiled : Profiled profiles
-unfolding flow-events flow-tree-nodes some-replicates in-profile
+unfolding flow_events flow_tree_nodes some_replicates in_profile
 profiled = refl

@@ -3,15 +3,15 @@ use Rattle.std.specs.Prelude.{◌≡◌, Bool, true, false, List, [], ◌∷◌,
 use Rattle.base.specs.Text.{bytes}
 use Rattle.diagram.specs.Tree.{all, Flow, plain, replicator, leaf}
 use Rattle.diagram.specs.Drawings.{T, U, nested, wide}
-use Rattle.modelling.specs.Profile.{in-profile}
-use Rattle.modelling.specs.Texts.{event-text, machine-text}
+use Rattle.modelling.specs.Profile.{in_profile}
+use Rattle.modelling.specs.Texts.{event_text, machine_text}
 
-pub record Event-worked : Type 0 where
+pub record EventWorked : Type 0 where
   pub drawing : Flow
   pub event : ℕ
   pub text : List ℕ
 
-abbrev pub texts : List Event-worked
+abbrev pub texts : List EventWorked
 texts =
     record {
       drawing = T;
@@ -41,8 +41,8 @@ texts =
     }
     ∷ []
 
-abbrev pub Texts-worked : List Event-worked → Type 0
-Texts-worked ws = map (λ (w : Event-worked). event-text w.drawing w.event) ws ≡ map (λ (w : Event-worked). w.text) ws
+abbrev pub TextsWorked : List EventWorked → Type 0
+TextsWorked ws = map (λ (w : EventWorked). event_text w.drawing w.event) ws ≡ map (λ (w : EventWorked). w.text) ws
 
 -- The whole machine of U.
 abbrev pub machine : List ℕ
@@ -54,8 +54,8 @@ machine =
     ++ (bytes "event r_r\nwhere\n@grd_1 v_c = FALSE\n@grd_2 (v_a = TRUE & v_b = TRUE)\nthen\n@act_1 r_r := TRUE\n@act_2 v_a := FALSE\n@act_3 v_b := FALSE\nend\n"
     ++ bytes "event v_c\nwhere\n@grd_1 ((v_a = TRUE & v_b = TRUE) or (v_a = FALSE & v_b = FALSE))\n@grd_2 v_c = FALSE\nthen\n@act_1 v_c := TRUE\nend\nend\n"))))
 
-abbrev pub Machine-worked : Type 0
-Machine-worked = machine-text U ≡ machine
+abbrev pub MachineWorked : Type 0
+MachineWorked = machine_text U ≡ machine
 
 -- In the profile or not: T and U; a root of 32 leaves and of 33; replicators inside each other, and one that makes one copy.
 abbrev pub profiles : List (Flow × Bool)
@@ -64,4 +64,4 @@ profiles =
     ∷ (wide (replicator all [] 1 (leaf [])) 0 (plain (leaf [])) 1, false) ∷ []
 
 abbrev pub Profiled : List (Flow × Bool) → Type 0
-Profiled ps = map (λ p. in-profile p.0) ps ≡ map (λ p. p.1) ps
+Profiled ps = map (λ p. in_profile p.0) ps ≡ map (λ p. p.1) ps

@@ -6,26 +6,26 @@ use Prim.Native.Nat.{ℕ, ◌+◌, ◌-◌, ◌≤◌, ◌<◌}
 use native.Mathlib.Nat.{add-zero}
 use native.Mathlib.Omega.{arith}
 use lib.ListN.{length, get_or, drop}
-use Rattle.base.proofs.Decided.{same-decides}
+use Rattle.base.proofs.Decided.{same_decides}
 use Rattle.base.proofs.Truth.{and_l, is_false}
 use Rattle.diagram.specs.Tree.{Name}
 use Rattle.diagram.specs.Names.{same}
 use Rattle.tokens.specs.Classes.{class_of, worded}
 use Rattle.tokens.specs.Words.{word_at, every}
-use Rattle.tokens.proofs.Front.{front-every}
-use Rattle.tokens.proofs.WordAt.{letter-none, letter-some, zero-none, some-on, words-on}
+use Rattle.tokens.proofs.Front.{front_every}
+use Rattle.tokens.proofs.WordAt.{letter_none, letter_some, zero_none, some_on, words_on}
 use Rattle.walked.specs.Rows.{past_word}
-use Rattle.names.proofs.Marked.{empty, word_byte, word-ends}
+use Rattle.names.proofs.Marked.{empty, word_byte, word_ends}
 
 abbrev answer : List ℕ → ℕ → ℕ → ℕ
 answer text a b = cond (same (word_at text a) (word_at text b)) (past_word text a) 0
 
 module _ (text : List ℕ) (a b : ℕ) where
   others : (word_at text a ≡ word_at text b → ⊥) → 0 ≡ answer text a b
-  others f = rw (is_false (same (word_at text a) (word_at text b)) (λ e. f ((same-decides (word_at text a) (word_at text b)).0 e)))
+  others f = rw (is_false (same (word_at text a) (word_at text b)) (λ e. f ((same_decides (word_at text a) (word_at text b)).0 e)))
 
   pub too_long : {end : ℕ} → end ≡ past_word text b → a ≤ length text → length text - a < end - b → 0 ≡ answer text a b
-  too_long e h l = others (λ q. omega (arith, ap length q, word-ends text a h))
+  too_long e h l = others (λ q. omega (arith, ap length q, word_ends text a h))
 
 -- Up to p and q they are the same.
 pub record Agreed (text : List ℕ) (a b p q : ℕ) : Type 0 where
@@ -33,16 +33,16 @@ pub record Agreed (text : List ℕ) (a b p q : ℕ) : Type 0 where
   pub left : past_word text a ≡ past_word text p
   pub right : past_word text b ≡ past_word text q
 
-pub agreed-start : (text : List ℕ) (a b : ℕ) → Agreed text a b a b
-agreed-start text a b = record { decides = refl; left = refl; right = refl }
+pub agreed_start : (text : List ℕ) (a b : ℕ) → Agreed text a b a b
+agreed_start text a b = record { decides = refl; left = refl; right = refl }
 
-zero-unworded : worded 0 ≡ true → ⊥
+zero_unworded : worded 0 ≡ true → ⊥
 unfolding class_of
-zero-unworded e = false≢true e
+zero_unworded e = false≢true e
 
 module _ {text : List ℕ} {a b p q end : ℕ} (s : Agreed text a b p q) (E : end ≡ past_word text b) where
-  from-here : same (word_at text p) (word_at text q) ≡ false → 0 ≡ answer text a b
-  from-here e = rw (s.decides, e)
+  from_here : same (word_at text p) (word_at text q) ≡ false → 0 ≡ answer text a b
+  from_here e = rw (s.decides, e)
 
   module _ (h : q < end) {x y : ℕ} (X : x ≡ get_or text p 0) (Y : y ≡ get_or text q 0) where
     some : 0 < length (word_at text q)
@@ -51,21 +51,21 @@ module _ {text : List ℕ} {a b p q end : ℕ} (s : Agreed text a b p q) (E : en
     first : y ≡ get_or (word_at text q) 0 0
     first = Y ∙ ap (λ (k : ℕ). get_or text k 0) (sym (add-zero q)) ∙ word_byte text q 0 some
 
-    pub agreed-other : (x ≡ y → ⊥) → 0 ≡ answer text a b
-    agreed-other n =
-        from-here
+    pub agreed_other : (x ≡ y → ⊥) → 0 ≡ answer text a b
+    agreed_other n =
+        from_here
         (is_false (same (word_at text p) (word_at text q)) (λ e.
-        let w = (same-decides (word_at text p) (word_at text q)).0 e in
+        let w = (same_decides (word_at text p) (word_at text q)).0 e in
         n (X ∙ ap (λ (k : ℕ). get_or text k 0) (sym (add-zero p)) ∙ word_byte text p 0 (rw w some) ∙ ap (λ (v : Name). get_or v 0 0) w ∙ sym first)))
 
-    pub agreed-next : x ≡ y → Agreed text a b (p + 1) (q + 1)
-    agreed-next e =
-        let there : y ≡ 0 → ⊥ = λ z. omega (arith, some, ap length (zero-none text q (sym first ∙ z))) in
-        let more = some-on text q y first there in
-        let inside : worded y ≡ true = and_l (worded y) (every worded (word_at text (q + 1))) (rw more.1 at (front-every worded (drop q text))) in
-        let here : x ≡ get_or (word_at text p) 0 0 = letter-some text p X (rw e inside) in
-        let gone = some-on text p x here (λ z. there (sym e ∙ z)) in
-        let on = words-on text p q x y here first e (λ z. there (sym e ∙ z)) in
+    pub agreed_next : x ≡ y → Agreed text a b (p + 1) (q + 1)
+    agreed_next e =
+        let there : y ≡ 0 → ⊥ = λ z. omega (arith, some, ap length (zero_none text q (sym first ∙ z))) in
+        let more = some_on text q y first there in
+        let inside : worded y ≡ true = and_l (worded y) (every worded (word_at text (q + 1))) (rw more.1 at (front_every worded (drop q text))) in
+        let here : x ≡ get_or (word_at text p) 0 0 = letter_some text p X (rw e inside) in
+        let gone = some_on text p x here (λ z. there (sym e ∙ z)) in
+        let on = words_on text p q x y here first e (λ z. there (sym e ∙ z)) in
         record {
           decides = s.decides ∙ on.rest;
           left = s.left ∙ omega (arith, ap length gone.1);
@@ -77,14 +77,14 @@ module _ {text : List ℕ} {a b p q end : ℕ} (s : Agreed text a b p q) (E : en
     ended : word_at text q ≡ []
     ended = empty (word_at text q) (omega (arith, s.right))
 
-    pub agreed-end : worded x ≡ false → p ≡ answer text a b
-    agreed-end e =
-        let none = zero-none text p (sym (letter-none text p X e)) in
+    pub agreed_end : worded x ≡ false → p ≡ answer text a b
+    agreed_end e =
+        let none = zero_none text p (sym (letter_none text p X e)) in
         rw (s.decides, s.left, ended, none) (sym (add-zero p))
 
-    pub agreed-longer : worded x ≡ true → 0 ≡ answer text a b
-    agreed-longer e =
-        from-here
+    pub agreed_longer : worded x ≡ true → 0 ≡ answer text a b
+    agreed_longer e =
+        from_here
         (is_false (same (word_at text p) (word_at text q)) (λ d.
-        let w = (same-decides (word_at text p) (word_at text q)).0 d ∙ ended in
-        zero-unworded (rw (letter-some text p X e ∙ ap (λ (v : Name). get_or v 0 0) w) at e)))
+        let w = (same_decides (word_at text p) (word_at text q)).0 d ∙ ended in
+        zero_unworded (rw (letter_some text p X e ∙ ap (λ (v : Name). get_or v 0 0) w) at e)))

@@ -10,61 +10,61 @@ use Rattle.diagram.specs.Tree.{Name}
 use Rattle.diagram.specs.Names.{equal, same, new}
 use Rattle.diagram.specs.TreeNodes.{flowing, copying}
 use Rattle.tokens.specs.Words.{word_at}
-use Rattle.tokens.proofs.Between.{between_in, between-low, between-high}
-use Rattle.rules.specs.Kept.{around, parameters-kept}
-use Rattle.walked.specs.Rows.{kind-code, past_word, Listed}
-use Rattle.names.specs.code.Kinds.{flow-code, copying-code}
+use Rattle.tokens.proofs.Between.{between_in, between_low, between_high}
+use Rattle.rules.specs.Kept.{around, parameters_kept}
+use Rattle.walked.specs.Rows.{kind_code, past_word, Listed}
+use Rattle.names.specs.code.Kinds.{flow_code, copying_code}
 use Rattle.names.specs.code.Told.{node, earlier, Told}
-use Rattle.names.specs.code.Pars.{pars-at, Around}
-use Rattle.names.proofs.Coded.{flow-coded, copying-coded, copying-named}
-use Rattle.names.proofs.Surrounding.{pars-count}
+use Rattle.names.specs.code.Pars.{pars_at, Around}
+use Rattle.names.proofs.Coded.{flow_coded, copying_coded, copying_named}
+use Rattle.names.proofs.Surrounding.{pars_count}
 
 module _ {text rows : List ℕ} {count i : ℕ} (t : Told text rows count) (h : i < count) (pars : List ℕ) (n : ℕ)
     (A : Around text rows pars n (around (node t.hs i).depth (earlier t.hs i))) where
   abbrev asked : Bool
-  asked = parameters-kept (earlier t.hs i) (node t.hs i) (drop (i + 1) t.hs)
+  asked = parameters_kept (earlier t.hs i) (node t.hs i) (drop (i + 1) t.hs)
 
-  pub asked-many : 3 < n → false ≡ asked
-  asked-many l = rw (A.is, pars-count text rows pars n, lt-leb n 3 l)
+  pub asked_many : 3 < n → false ≡ asked
+  asked_many l = rw (A.is, pars_count text rows pars n, lt-leb n 3 l)
 
   module _ (l : n ≤ 3) {c : ℕ} (p : c ≡ get_or rows (i * 8 + 11) 0) where
-    its-code : c ≡ kind-code (node t.hs i).kind
-    its-code = p ∙ (t.row i h).code
+    its_code : c ≡ kind_code (node t.hs i).kind
+    its_code = p ∙ (t.row i h).code
 
-    its-copying : copying-code c ≡ copying (node t.hs i).kind
-    its-copying = rw its-code (copying-coded (node t.hs i).kind)
+    its_copying : copying_code c ≡ copying (node t.hs i).kind
+    its_copying = rw its_code (copying_coded (node t.hs i).kind)
 
-    its-flowing : flow-code c ≡ flowing (node t.hs i).kind
-    its-flowing = rw its-code (flow-coded (node t.hs i).kind)
+    its_flowing : flow_code c ≡ flowing (node t.hs i).kind
+    its_flowing = rw its_code (flow_coded (node t.hs i).kind)
 
-    by_code : (cond (copying-code c) (new (node t.hs i).name (pars-at text rows pars n)) true
-        && cond (flow-code c) (equal same (reverse (node t.hs i).pars) (pars-at text rows pars n)) true) ≡ asked
-    by_code = rw (A.is, pars-count text rows pars n, le-leb n 3 l, its-copying, its-flowing)
+    by_code : (cond (copying_code c) (new (node t.hs i).name (pars_at text rows pars n)) true
+        && cond (flow_code c) (equal same (reverse (node t.hs i).pars) (pars_at text rows pars n)) true) ≡ asked
+    by_code = rw (A.is, pars_count text rows pars n, le-leb n 3 l, its_copying, its_flowing)
 
-    pub asked-flow : {past : ℕ} {r : Bool} → c ≡ 7 → past ≡ get_or rows (i * 8 + 15) 0
+    pub asked_flow : {past : ℕ} {r : Bool} → c ≡ 7 → past ≡ get_or rows (i * 8 + 15) 0
         → ((at : ℕ) (ps ns : List Name) → past ≡ past_word text at → Listed text at ps → Around text rows pars n ns → r ≡ equal same (reverse ps) ns)
         → r ≡ asked
-    asked-flow {past} {r} e q listed =
+    asked_flow {past} {r} e q listed =
         let row = t.row i h in
         let low : c < 12 = omega arith in
-        let flow : flowing (node t.hs i).kind ≡ true = sym its-flowing ∙ eq-eqb c 7 e in
-        listed (get_or rows (i * 8 + 10) 0) (node t.hs i).pars (pars-at text rows pars n) (q ∙ row.past (rw flow)) (row.listed flow) (rw A.is at A)
-        ∙ (rw (between-low 12 14 c low, eq-eqb c 7 e) at by_code)
+        let flow : flowing (node t.hs i).kind ≡ true = sym its_flowing ∙ eq-eqb c 7 e in
+        listed (get_or rows (i * 8 + 10) 0) (node t.hs i).pars (pars_at text rows pars n) (q ∙ row.past (rw flow)) (row.listed flow) (rw A.is at A)
+        ∙ (rw (between_low 12 14 c low, eq-eqb c 7 e) at by_code)
 
     module _ (no : c ≡ 7 → ⊥) where
       pub asked_low : c < 12 → true ≡ asked
-      asked_low e = rw (between-low 12 14 c e, ne_eqb c 7 no) at by_code
+      asked_low e = rw (between_low 12 14 c e, ne_eqb c 7 no) at by_code
 
-      pub asked-high : 14 < c → true ≡ asked
-      asked-high e = rw (between-high 12 14 c e, ne_eqb c 7 no) at by_code
+      pub asked_high : 14 < c → true ≡ asked
+      asked_high e = rw (between_high 12 14 c e, ne_eqb c 7 no) at by_code
 
-      pub asked-copying : {at : ℕ} {r : Bool} → 12 ≤ c → c ≤ 14 → at ≡ get_or rows (i * 8 + 10) 0
-          → r ≡ new (word_at text at) (pars-at text rows pars n) → r ≡ asked
-      asked-copying {at} {r} e f q fresh =
+      pub asked_copying : {at : ℕ} {r : Bool} → 12 ≤ c → c ≤ 14 → at ≡ get_or rows (i * 8 + 10) 0
+          → r ≡ new (word_at text at) (pars_at text rows pars n) → r ≡ asked
+      asked_copying {at} {r} e f q fresh =
           let k = (node t.hs i).kind in
-          let inside : copying k ≡ true = sym its-copying ∙ between_in 12 14 c e f in
-          let name : (node t.hs i).name ≡ word_at text at = (t.row i h).word ∙ rw (copying-named k inside, q) in
+          let inside : copying k ≡ true = sym its_copying ∙ between_in 12 14 c e f in
+          let name : (node t.hs i).name ≡ word_at text at = (t.row i h).word ∙ rw (copying_named k inside, q) in
           fresh
-          ∙ ap (λ (m : Name). new m (pars-at text rows pars n)) (sym name)
-          ∙ sym (and-true (new (node t.hs i).name (pars-at text rows pars n)))
+          ∙ ap (λ (m : Name). new m (pars_at text rows pars n)) (sym name)
+          ∙ sym (and-true (new (node t.hs i).name (pars_at text rows pars n)))
           ∙ (rw (between_in 12 14 c e f, ne_eqb c 7 no) at by_code)

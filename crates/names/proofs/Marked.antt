@@ -12,8 +12,8 @@ use Rattle.base.proofs.Truth.{by_cases}
 use Rattle.diagram.specs.Tree.{Name}
 use Rattle.tokens.specs.Classes.{worded}
 use Rattle.tokens.specs.Words.{front, word_at}
-use Rattle.tokens.proofs.Front.{front-le}
-use Rattle.tokens.proofs.WordAt.{past-none}
+use Rattle.tokens.proofs.Front.{front_le}
+use Rattle.tokens.proofs.WordAt.{past_none}
 use Rattle.walked.specs.Rows.{past_word}
 use Rattle.names.specs.code.Marks.{mark_of}
 
@@ -22,35 +22,35 @@ empty [] e = refl
 empty (b ∷ w) e = let z : ⊥ = omega arith in absurd z
 
 -- Where fewer than k bytes are, the one that stands k before their end is the first.
-pub at-start : (text : List ℕ) (at n k : ℕ) → n < k → get_or text at 0 ≡ get_or text (at + (n - k)) 0
-at-start text at n k h = let e : n - k ≡ 0 = omega arith in rw (e, add-zero at)
+pub at_start : (text : List ℕ) (at n k : ℕ) → n < k → get_or text at 0 ≡ get_or text (at + (n - k)) 0
+at_start text at n k h = let e : n - k ≡ 0 = omega arith in rw (e, add-zero at)
 
 module _ (text : List ℕ) (at : ℕ) where
-  word-length : length (word_at text at) ≡ front worded (drop at text)
-  word-length = length-take-le (front worded (drop at text)) (drop at text) (front-le worded (drop at text))
+  word_length : length (word_at text at) ≡ front worded (drop at text)
+  word_length = length-take-le (front worded (drop at text)) (drop at text) (front_le worded (drop at text))
 
   pub word_byte : (j : ℕ) → j < length (word_at text at) → get_or text (at + j) 0 ≡ get_or (word_at text at) j 0
-  word_byte j h = sym (get_or-take (front worded (drop at text)) (drop at text) j 0 (rw word-length at h) ∙ get_or-drop at text j 0)
+  word_byte j h = sym (get_or-take (front worded (drop at text)) (drop at text) j 0 (rw word_length at h) ∙ get_or-drop at text j 0)
 
-  pub word-ends : at ≤ length text → past_word text at ≤ length text
-  word-ends h = omega (arith, word-length, front-le worded (drop at text), length-drop at text)
+  pub word_ends : at ≤ length text → past_word text at ≤ length text
+  word_ends h = omega (arith, word_length, front_le worded (drop at text), length-drop at text)
 
   -- The place past it is `end`.
   module _ {end : ℕ} (p : end ≡ past_word text at) where
-    pub mark-none : end ≤ at → 0 ≡ mark_of (word_at text at)
+    pub mark_none : end ≤ at → 0 ≡ mark_of (word_at text at)
     unfolding mark_of
-    mark-none h = rw (empty (word_at text at) (omega arith))
+    mark_none h = rw (empty (word_at text at) (omega arith))
 
-    pub mark-inside : at < end → length text < end → ⊥
-    mark-inside h l =
-        by_cases (leb at (length text)) (λ q. omega (arith, word-ends (leb-true at (length text) q))) (λ q.
-        omega (arith, ap length (past-none text at (let z = leb-false at (length text) q in omega arith))))
+    pub mark_inside : at < end → length text < end → ⊥
+    mark_inside h l =
+        by_cases (leb at (length text)) (λ q. omega (arith, word_ends (leb-true at (length text) q))) (λ q.
+        omega (arith, ap length (past_none text at (let z = leb-false at (length text) q in omega arith))))
 
-    pub mark-is : at < end → {n f m a b c r : ℕ} → n ≡ end - at → f ≡ get_or text at 0 → m ≡ get_or text (at + n / 2) 0 → a ≡ get_or text (at + (n - 1)) 0
+    pub mark_is : at < end → {n f m a b c r : ℕ} → n ≡ end - at → f ≡ get_or text at 0 → m ≡ get_or text (at + n / 2) 0 → a ≡ get_or text (at + (n - 1)) 0
         → b ≡ get_or text (at + (n - 2)) 0 → c ≡ get_or text (at + (n - 3)) 0 → r ≡ (f * 101 + m * 3 + (a + b * 11 + c * 121) + n) % 512
         → r ≡ mark_of (word_at text at)
     unfolding mark_of
-    mark-is h {n} {f} {m} {a} {b} {c} {r} N F M A B C R =
+    mark_is h {n} {f} {m} {a} {b} {c} {r} N F M A B C R =
         let w = word_at text at in
         let l : n ≡ length w = omega arith in
         let f' : f ≡ get_or w 0 0 = F ∙ ap (λ (k : ℕ). get_or text k 0) (sym (add-zero at)) ∙ word_byte 0 (omega arith) in

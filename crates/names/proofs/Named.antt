@@ -11,39 +11,39 @@ use lib.Seq.{get_or-set_same, get_or-set_other}
 use borrow.Author.Tests.{eq-eqb, ne_eqb, eqb-true, eqb-false, not-true, not-false}
 use Rattle.base.proofs.Truth.{by_cases, clash}
 use Rattle.diagram.specs.Tree.{Name}
-use Rattle.diagram.specs.TreeNodes.{titled, has-name}
+use Rattle.diagram.specs.TreeNodes.{titled, has_name}
 use Rattle.tokens.specs.Words.{word_at}
-use Rattle.rules.specs.Kept.{unused, names-kept, fault}
+use Rattle.rules.specs.Kept.{unused, names_kept, fault}
 use Rattle.walked.specs.Rows.{past_word}
 use Rattle.names.specs.code.Told.{node, earlier, Told, found}
-use Rattle.names.specs.code.Marks.{mark_of, titled-at, title-at, unused-at, latest, Linked, Falling}
-use Rattle.names.proofs.Coded.{titled-coded, titled-named}
+use Rattle.names.specs.code.Marks.{mark_of, titled_at, title_at, unused_at, latest, Linked, Falling}
+use Rattle.names.proofs.Coded.{titled_coded, titled_named}
 use Rattle.names.proofs.Tables.{zeros}
-use Rattle.names.proofs.Searched.{Searched, search-next, search-here}
+use Rattle.names.proofs.Searched.{Searched, search_next, search_here}
 
 -- The names of the nodes are those of their rows.
 module _ {text rows : List ℕ} {count : ℕ} (t : Told text rows count) where
   module _ (i : ℕ) (h : i < count) where
-    its-title : titled (node t.hs i).kind ≡ titled-at rows i
-    its-title = rw (t.row i h).code (sym (titled-coded (node t.hs i).kind))
+    its_title : titled (node t.hs i).kind ≡ titled_at rows i
+    its_title = rw (t.row i h).code (sym (titled_coded (node t.hs i).kind))
 
-    named : titled-at rows i ≡ true → has-name (node t.hs i).kind ≡ true
-    named e = titled-named (node t.hs i).kind (its-title ∙ e)
+    named : titled_at rows i ≡ true → has_name (node t.hs i).kind ≡ true
+    named e = titled_named (node t.hs i).kind (its_title ∙ e)
 
-    its-name : titled-at rows i ≡ true → (node t.hs i).name ≡ title-at text rows i
-    its-name e = (t.row i h).word ∙ rw (named e)
+    its_name : titled_at rows i ≡ true → (node t.hs i).name ≡ title_at text rows i
+    its_name e = (t.row i h).word ∙ rw (named e)
 
     -- A mark by the places of the row is that of the name.
-    pub its-mark : titled-at rows i ≡ true → {at end s : ℕ} → at ≡ get_or rows (i * 8 + 10) 0 → end ≡ get_or rows (i * 8 + 15) 0
-        → (end ≡ past_word text at → s ≡ mark_of (word_at text at)) → s ≡ mark_of (title-at text rows i)
-    its-mark e {at} {end} {s} p q mark = mark (q ∙ (t.row i h).past (named e) ∙ rw p) ∙ rw p
+    pub its_mark : titled_at rows i ≡ true → {at end s : ℕ} → at ≡ get_or rows (i * 8 + 10) 0 → end ≡ get_or rows (i * 8 + 15) 0
+        → (end ≡ past_word text at → s ≡ mark_of (word_at text at)) → s ≡ mark_of (title_at text rows i)
+    its_mark e {at} {end} {s} p q mark = mark (q ∙ (t.row i h).past (named e) ∙ rw p) ∙ rw p
 
-  unused-told : (m : Name) (i : ℕ) → i ≤ count → unused m (earlier t.hs i) ≡ unused-at text rows m i
-  unfolding earlier unused-at
-  unused-told m zero h = refl
-  unused-told m (suc i) h =
-      let r = unused-told m i (omega arith) in
-      rw (r, its-title i h) (by_cases (titled-at rows i) (λ e. rw (e, its-name i h e)) (λ e. rw e))
+  unused_told : (m : Name) (i : ℕ) → i ≤ count → unused m (earlier t.hs i) ≡ unused_at text rows m i
+  unfolding earlier unused_at
+  unused_told m zero h = refl
+  unused_told m (suc i) h =
+      let r = unused_told m i (omega arith) in
+      rw (r, its_title i h) (by_cases (titled_at rows i) (λ e. rw (e, its_name i h e)) (λ e. rw e))
 
 -- One table has a node of the first i or none for each mark, the other leads from each node to an earlier one or none.
 pub record Linkable (heads links : List ℕ) (i : ℕ) : Type 0 where
@@ -52,8 +52,8 @@ pub record Linkable (heads links : List ℕ) (i : ℕ) : Type 0 where
   pub low : (s : ℕ) → get_or heads s 0 ≤ i
   pub falling : Falling links
 
-pub linkable-start : Linkable (replicate 512 0) (replicate 256 0) 0
-linkable-start =
+pub linkable_start : Linkable (replicate 512 0) (replicate 256 0) 0
+linkable_start =
     record {
       marks = refl;
       nodes = refl;
@@ -62,11 +62,11 @@ linkable-start =
     }
 
 module _ {heads links : List ℕ} {i : ℕ} (r : Linkable heads links i) where
-  pub linkable-none : Linkable heads links (i + 1)
-  linkable-none = record { marks = r.marks; nodes = r.nodes; low = λ s. omega (arith, r.low s); falling = r.falling }
+  pub linkable_none : Linkable heads links (i + 1)
+  linkable_none = record { marks = r.marks; nodes = r.nodes; low = λ s. omega (arith, r.low s); falling = r.falling }
 
-  pub linkable-next : {s : ℕ} → s < 512 → i < 256 → Linkable (set heads s (i + 1)) (set links i (get_or heads s 0)) (i + 1)
-  linkable-next {s} l h =
+  pub linkable_next : {s : ℕ} → s < 512 → i < 256 → Linkable (set heads s (i + 1)) (set links i (get_or heads s 0)) (i + 1)
+  linkable_next {s} l h =
       record {
         marks = simp length-set r.marks;
         nodes = simp length-set r.nodes;
@@ -85,49 +85,49 @@ pub record Linking (text rows heads links : List ℕ) (i : ℕ) : Type 0 where
   pub headed : (s : ℕ) → s < 512 → get_or heads s 0 ≡ latest text rows s i
   pub linked : Linked text rows links i
 
-pub linking-start : (text rows : List ℕ) → Linking text rows (replicate 512 0) (replicate 256 0) 0
+pub linking_start : (text rows : List ℕ) → Linking text rows (replicate 512 0) (replicate 256 0) 0
 unfolding latest
-linking-start text rows =
+linking_start text rows =
     record { headed = λ s h. zeros 512 s; linked = record { each = λ k h. let z : ⊥ = omega arith in absurd z } }
 
 module _ (text rows : List ℕ) (s i : ℕ) where
-  latest-here : titled-at rows i ≡ true → mark_of (title-at text rows i) ≡ s → latest text rows s (i + 1) ≡ i + 1
+  latest_here : titled_at rows i ≡ true → mark_of (title_at text rows i) ≡ s → latest text rows s (i + 1) ≡ i + 1
   unfolding latest
-  latest-here e q = rw (add-one i, e, eq-eqb (mark_of (title-at text rows i)) s q)
+  latest_here e q = rw (add-one i, e, eq-eqb (mark_of (title_at text rows i)) s q)
 
-  latest-other : titled-at rows i ≡ true → (mark_of (title-at text rows i) ≡ s → ⊥) → latest text rows s (i + 1) ≡ latest text rows s i
+  latest_other : titled_at rows i ≡ true → (mark_of (title_at text rows i) ≡ s → ⊥) → latest text rows s (i + 1) ≡ latest text rows s i
   unfolding latest
-  latest-other e q = rw (add-one i, e, ne_eqb (mark_of (title-at text rows i)) s q)
+  latest_other e q = rw (add-one i, e, ne_eqb (mark_of (title_at text rows i)) s q)
 
-  latest-none : titled-at rows i ≡ false → latest text rows s (i + 1) ≡ latest text rows s i
+  latest_none : titled_at rows i ≡ false → latest text rows s (i + 1) ≡ latest text rows s i
   unfolding latest
-  latest-none e = rw (add-one i, e)
+  latest_none e = rw (add-one i, e)
 
 module _ {text rows heads links : List ℕ} {i : ℕ} (r : Linking text rows heads links i) where
   -- The node i has no name.
-  pub linking-none : titled-at rows i ≡ false → Linking text rows heads links (i + 1)
-  linking-none e =
+  pub linking_none : titled_at rows i ≡ false → Linking text rows heads links (i + 1)
+  linking_none e =
       record {
-        headed = λ s h. r.headed s h ∙ sym (latest-none text rows s i e);
+        headed = λ s h. r.headed s h ∙ sym (latest_none text rows s i e);
         linked = record {
           each = λ k h f.
-              by_cases (eqb k i) (λ q. absurd (clash f (ap (titled-at rows) (eqb-true k i q) ∙ e))) (λ q.
+              by_cases (eqb k i) (λ q. absurd (clash f (ap (titled_at rows) (eqb-true k i q) ∙ e))) (λ q.
               let ne = eqb-false k i q in
               r.linked.each k (omega arith) f);
         };
       }
 
   -- It has one, whose mark is s.
-  pub linking-next : {s : ℕ} → Linkable heads links i → titled-at rows i ≡ true → i < 256 → s ≡ mark_of (title-at text rows i) → s < 512
+  pub linking_next : {s : ℕ} → Linkable heads links i → titled_at rows i ≡ true → i < 256 → s ≡ mark_of (title_at text rows i) → s < 512
       → Linking text rows (set heads s (i + 1)) (set links i (get_or heads s 0)) (i + 1)
-  linking-next {s} room e h p l =
+  linking_next {s} room e h p l =
       let v = get_or heads s 0 in
       record {
         headed = λ k u.
             by_cases (eqb k s) (λ w.
-            rw (eqb-true k s w, get_or-set_same heads s (i + 1) 0 (omega (arith, room.marks)), latest-here text rows s i e (sym p))) (λ w.
+            rw (eqb-true k s w, get_or-set_same heads s (i + 1) 0 (omega (arith, room.marks)), latest_here text rows s i e (sym p))) (λ w.
             let ne = eqb-false k s w in
-            get_or-set_other heads s k (i + 1) 0 ne ∙ r.headed k u ∙ sym (latest-other text rows k i e (λ g. ne (sym g ∙ sym p))));
+            get_or-set_other heads s k (i + 1) 0 ne ∙ r.headed k u ∙ sym (latest_other text rows k i e (λ g. ne (sym g ∙ sym p))));
         linked = record {
           each = λ k u f.
               by_cases (eqb k i) (λ w. rw (eqb-true k i w, get_or-set_same links i v 0 (omega (arith, room.nodes)), ← p) (r.headed s l)) (λ w.
@@ -137,25 +137,25 @@ module _ {text rows heads links : List ℕ} {i : ℕ} (r : Linking text rows hea
       }
 
   -- What a search along the links finds.
-  pub found-by-links : {at s w : ℕ} {b : Bool} → at ≡ get_or rows (i * 8 + 10) 0 → s ≡ mark_of (title-at text rows i) → s < 512 → w ≡ get_or heads s 0
-      → ((j : ℕ) → Linked text rows links j → w ≡ latest text rows (mark_of (word_at text at)) j → b ≡ not (unused-at text rows (word_at text at) j))
-      → b ≡ not (unused-at text rows (title-at text rows i) i)
-  found-by-links {at} {s} {w} {b} p q l v search = search i r.linked (rw (p, ← q) (v ∙ r.headed s l)) ∙ rw p
+  pub found_by_links : {at s w : ℕ} {b : Bool} → at ≡ get_or rows (i * 8 + 10) 0 → s ≡ mark_of (title_at text rows i) → s < 512 → w ≡ get_or heads s 0
+      → ((j : ℕ) → Linked text rows links j → w ≡ latest text rows (mark_of (word_at text at)) j → b ≡ not (unused_at text rows (word_at text at) j))
+      → b ≡ not (unused_at text rows (title_at text rows i) i)
+  found_by_links {at} {s} {w} {b} p q l v search = search i r.linked (rw (p, ← q) (v ∙ r.headed s l)) ∙ rw p
 
 -- Whether the name that it has is used before it.
-module _ {text rows : List ℕ} {count i : ℕ} (t : Told text rows count) (h : i < count) (r : Searched names-kept t.hs i) (e : titled-at rows i ≡ true)
+module _ {text rows : List ℕ} {count i : ℕ} (t : Told text rows count) (h : i < count) (r : Searched names_kept t.hs i) (e : titled_at rows i ≡ true)
     {b : Bool}
-    (p : b ≡ not (unused-at text rows (title-at text rows i) i)) where
-  kept : names-kept (earlier t.hs i) (node t.hs i) (drop (i + 1) t.hs) ≡ unused-at text rows (title-at text rows i) i
-  kept = rw (its-title t i h, e, its-name t i h e) (unused-told t (title-at text rows i) i (omega arith))
+    (p : b ≡ not (unused_at text rows (title_at text rows i) i)) where
+  kept : names_kept (earlier t.hs i) (node t.hs i) (drop (i + 1) t.hs) ≡ unused_at text rows (title_at text rows i) i
+  kept = rw (its_title t i h, e, its_name t i h e) (unused_told t (title_at text rows i) i (omega arith))
 
-  pub name-twice : b ≡ true → fault names-kept [] t.hs ≡ found t.hs (i + 1)
-  name-twice q = search-here r (omega (arith, t.many)) (kept ∙ not-true (unused-at text rows (title-at text rows i) i) (sym p ∙ q))
+  pub name_twice : b ≡ true → fault names_kept [] t.hs ≡ found t.hs (i + 1)
+  name_twice q = search_here r (omega (arith, t.many)) (kept ∙ not-true (unused_at text rows (title_at text rows i) i) (sym p ∙ q))
 
-  pub name-next : b ≡ false → Searched names-kept t.hs (i + 1)
-  name-next q = search-next r (omega (arith, t.many)) (kept ∙ not-false (unused-at text rows (title-at text rows i) i) (sym p ∙ q))
+  pub name_next : b ≡ false → Searched names_kept t.hs (i + 1)
+  name_next q = search_next r (omega (arith, t.many)) (kept ∙ not-false (unused_at text rows (title_at text rows i) i) (sym p ∙ q))
 
 -- The node i has no name.
-pub name-none : {text rows : List ℕ} {count i : ℕ} (t : Told text rows count) → i < count → Searched names-kept t.hs i → titled-at rows i ≡ false
-    → Searched names-kept t.hs (i + 1)
-name-none {text} {rows} {count} {i} t h r e = search-next r (omega (arith, t.many)) (rw (its-title t i h, e))
+pub name_none : {text rows : List ℕ} {count i : ℕ} (t : Told text rows count) → i < count → Searched names_kept t.hs i → titled_at rows i ≡ false
+    → Searched names_kept t.hs (i + 1)
+name_none {text} {rows} {count} {i} t h r e = search_next r (omega (arith, t.many)) (rw (its_title t i h, e))

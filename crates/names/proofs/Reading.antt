@@ -8,7 +8,7 @@ use native.Mathlib.Omega.{arith}
 use lib.Dec.{eqb}
 use lib.ListN.{length, get_or, drop}
 use borrow.Author.Tests.{eq-eqb, ne_eqb, eqb-true}
-use Rattle.base.proofs.Decided.{all-same-decides}
+use Rattle.base.proofs.Decided.{all_same_decides}
 use Rattle.base.proofs.Truth.{and_l, and_r, agree}
 use Rattle.diagram.specs.Tree.{Name}
 use Rattle.diagram.specs.Names.{equal, same}
@@ -16,44 +16,44 @@ use Rattle.tokens.specs.Classes.{class_of}
 use Rattle.tokens.specs.Remarks.{blanks}
 use Rattle.tokens.specs.Words.{keywords, word_at}
 use Rattle.tokens.specs.Token.{closing, comma, Token, sign, name, named}
-use Rattle.grammar.specs.Tokens.{pars-tokens, bit}
+use Rattle.grammar.specs.Tokens.{pars_tokens, bit}
 use Rattle.grammar.specs.Named.{all_named}
-use Rattle.walked.specs.Rows.{tokens-from, past_word, Listed}
-use Rattle.names.specs.code.Pars.{par-start, par-end, pars-at, Around}
-use Rattle.names.proofs.Fronts.{Front, inside, past-comma, name-word, name-letter, past-name, bit-digit}
+use Rattle.walked.specs.Rows.{tokens_from, past_word, Listed}
+use Rattle.names.specs.code.Pars.{par_start, par_end, pars_at, Around}
+use Rattle.names.proofs.Fronts.{Front, inside, past_comma, name_word, name_letter, past_name, bit_digit}
 
 -- m pars around from the k-th on, outermost first.
-abbrev pub pars-on : List ℕ → List ℕ → List ℕ → ℕ → ℕ → List Name
-pars-on text rows pars k zero = []
-pars-on text rows pars k (suc m) = word_at text (par-start rows pars k) ∷ pars-on text rows pars (k + 1) m
+abbrev pub pars_on : List ℕ → List ℕ → List ℕ → ℕ → ℕ → List Name
+pars_on text rows pars k zero = []
+pars_on text rows pars k (suc m) = word_at text (par_start rows pars k) ∷ pars_on text rows pars (k + 1) m
 
 module _ (text rows pars : List ℕ) where
-  pars-last : (k m : ℕ) → pars-on text rows pars k (suc m) ≡ pars-on text rows pars k m ++ (word_at text (par-start rows pars (k + m)) ∷ [])
-  pars-last k zero = rw (add-zero k)
-  pars-last k (suc m) =
+  pars_last : (k m : ℕ) → pars_on text rows pars k (suc m) ≡ pars_on text rows pars k m ++ (word_at text (par_start rows pars (k + m)) ∷ [])
+  pars_last k zero = rw (add-zero k)
+  pars_last k (suc m) =
       let e : k + 1 + m ≡ k + suc m = omega arith in
-      let r = rw e at (pars-last (k + 1) m) in
-      ap (λ (ns : List Name). word_at text (par-start rows pars k) ∷ ns) r
+      let r = rw e at (pars_last (k + 1) m) in
+      ap (λ (ns : List Name). word_at text (par_start rows pars k) ∷ ns) r
 
-  pars-turned : (n : ℕ) → reverse (pars-on text rows pars 0 n) ≡ pars-at text rows pars n
-  unfolding pars-at
-  pars-turned zero = refl
-  pars-turned (suc n) =
-      ap reverse (pars-last 0 n)
-      ∙ reverse-append (pars-on text rows pars 0 n) (word_at text (par-start rows pars (0 + n)) ∷ [])
-      ∙ rw (zero-add n, pars-turned n)
+  pars_turned : (n : ℕ) → reverse (pars_on text rows pars 0 n) ≡ pars_at text rows pars n
+  unfolding pars_at
+  pars_turned zero = refl
+  pars_turned (suc n) =
+      ap reverse (pars_last 0 n)
+      ∙ reverse-append (pars_on text rows pars 0 n) (word_at text (par_start rows pars (0 + n)) ∷ [])
+      ∙ rw (zero-add n, pars_turned n)
 
-equal-turned : (l m : List Name) → equal same (reverse l) (reverse m) ≡ equal same l m
-equal-turned l m =
+equal_turned : (l m : List Name) → equal same (reverse l) (reverse m) ≡ equal same l m
+equal_turned l m =
     agree (equal same (reverse l) (reverse m)) (equal same l m) (λ e.
-    (all-same-decides l m).1 (sym (reverse-reverse l) ∙ ap reverse ((all-same-decides (reverse l) (reverse m)).0 e) ∙ reverse-reverse m)) (λ e.
-    (all-same-decides (reverse l) (reverse m)).1 (ap reverse ((all-same-decides l m).0 e)))
+    (all_same_decides l m).1 (sym (reverse-reverse l) ∙ ap reverse ((all_same_decides (reverse l) (reverse m)).0 e) ∙ reverse-reverse m)) (λ e.
+    (all_same_decides (reverse l) (reverse m)).1 (ap reverse ((all_same_decides l m).0 e)))
 
 -- The place past a par around, by the two numbers of its row.
-pub par-ended : {text rows pars : List ℕ} {n k : ℕ} {ns : List Name} → Around text rows pars n ns → k < n → {x y : ℕ} → x ≡ par-start rows pars k
-    → y ≡ par-end rows pars k
+pub par_ended : {text rows pars : List ℕ} {n k : ℕ} {ns : List Name} → Around text rows pars n ns → k < n → {x y : ℕ} → x ≡ par_start rows pars k
+    → y ≡ par_end rows pars k
     → (y ≡ past_word text x) × (y ≤ length text)
-par-ended {text} {rows} {pars} {n} {k} a l p q = let e = a.ended k l in (q ∙ e.0 ∙ rw p, rw q e.1)
+par_ended {text} {rows} {pars} {n} {k} a l p q = let e = a.ended k l in (q ∙ e.0 ∙ rw p, rw q e.1)
 
 -- k pars are read and are the first k around; more are listed from p on.
 pub record Reading (text rows pars : List ℕ) (n : ℕ) (ps ns : List Name) (p k : ℕ) : Type 0 where
@@ -61,12 +61,12 @@ pub record Reading (text rows pars : List ℕ) (n : ℕ) (ps ns : List Name) (p 
   pub sw : Bool
   pub others : List Token
   pub names : all_named keywords left ≡ true
-  pub tokens : tokens-from text p ≡ pars-tokens left (sign comma ∷ bit sw ∷ sign closing ∷ others)
-  pub is : equal same (reverse ps) ns ≡ equal same left (pars-on text rows pars k (n - k))
+  pub tokens : tokens_from text p ≡ pars_tokens left (sign comma ∷ bit sw ∷ sign closing ∷ others)
+  pub is : equal same (reverse ps) ns ≡ equal same left (pars_on text rows pars k (n - k))
 
-pub read-start : {text rows pars : List ℕ} {n at p : ℕ} {ps ns : List Name} → p ≡ past_word text at → Listed text at ps → Around text rows pars n ns
+pub read_start : {text rows pars : List ℕ} {n at p : ℕ} {ps ns : List Name} → p ≡ past_word text at → Listed text at ps → Around text rows pars n ns
     → Reading text rows pars n ps ns p 0
-read-start {text} {rows} {pars} {n} {at} {p} {ps} {ns} e l a =
+read_start {text} {rows} {pars} {n} {at} {p} {ps} {ns} e l a =
     let all : n - 0 ≡ n = omega arith in
     record {
       left = ps;
@@ -74,10 +74,10 @@ read-start {text} {rows} {pars} {n} {at} {p} {ps} {ns} e l a =
       others = l.others;
       names = l.names;
       tokens = rw e l.tokens;
-      is = rw (a.is, ← pars-turned text rows pars n, all) (equal-turned ps (pars-on text rows pars 0 n));
+      is = rw (a.is, ← pars_turned text rows pars n, all) (equal_turned ps (pars_on text rows pars 0 n));
     }
 
-ends_at : (text rows pars : List ℕ) (k m : ℕ) → equal same [] (pars-on text rows pars k m) ≡ eqb m 0
+ends_at : (text rows pars : List ℕ) (k m : ℕ) → equal same [] (pars_on text rows pars k m) ≡ eqb m 0
 ends_at text rows pars k zero = refl
 ends_at text rows pars k (suc m) = sym (ne_eqb (suc m) 0 (λ e. omega arith))
 
@@ -92,44 +92,44 @@ module _ {text rows pars : List ℕ} {n : ℕ} {ps ns : List Name} {p k : ℕ} (
   abbrev end : List Token
   end = sign comma ∷ bit s.sw ∷ sign closing ∷ s.others
 
-  comma-inside : (left : List Name) → tokens-from text p ≡ pars-tokens left end → i < length text
-  comma-inside [] e = let f : Front text p i (sign comma) (bit s.sw ∷ sign closing ∷ s.others) = record { gap = I; tokens = e } in inside f
-  comma-inside (q ∷ qs) e = let f : Front text p i (sign comma) (name q ∷ pars-tokens qs end) = record { gap = I; tokens = e } in inside f
+  comma_inside : (left : List Name) → tokens_from text p ≡ pars_tokens left end → i < length text
+  comma_inside [] e = let f : Front text p i (sign comma) (bit s.sw ∷ sign closing ∷ s.others) = record { gap = I; tokens = e } in inside f
+  comma_inside (q ∷ qs) e = let f : Front text p i (sign comma) (name q ∷ pars_tokens qs end) = record { gap = I; tokens = e } in inside f
 
-  pub read-inside : i < length text
-  read-inside = comma-inside s.left s.tokens
+  pub read_inside : i < length text
+  read_inside = comma_inside s.left s.tokens
 
   module _ {j : ℕ} (J : j ≡ i + 1 + blanks (drop (i + 1) text)) {c : ℕ} (C : c ≡ class_of (get_or text j 0)) where
-    second : {u : Token} {us : List Token} → tokens-from text p ≡ sign comma ∷ u ∷ us → Front text (i + 1) j u us
-    second {u} {us} e = let f : Front text p i (sign comma) (u ∷ us) = record { gap = I; tokens = e } in record { gap = J; tokens = past-comma f }
+    second : {u : Token} {us : List Token} → tokens_from text p ≡ sign comma ∷ u ∷ us → Front text (i + 1) j u us
+    second {u} {us} e = let f : Front text p i (sign comma) (u ∷ us) = record { gap = I; tokens = e } in record { gap = J; tokens = past_comma f }
 
     -- No more pars, or one more.
-    no-par : (left : List Name) → all_named keywords left ≡ true → tokens-from text p ≡ pars-tokens left end → (c ≡ 5 → ⊥) → left ≡ []
-    no-par [] h e f = refl
-    no-par (q ∷ qs) h e f = absurd (f (C ∙ name-letter (second e) (and_l (named keywords q) (all_named keywords qs) h)))
+    no_par : (left : List Name) → all_named keywords left ≡ true → tokens_from text p ≡ pars_tokens left end → (c ≡ 5 → ⊥) → left ≡ []
+    no_par [] h e f = refl
+    no_par (q ∷ qs) h e f = absurd (f (C ∙ name_letter (second e) (and_l (named keywords q) (all_named keywords qs) h)))
 
-    one-par : (left : List Name) → all_named keywords left ≡ true → tokens-from text p ≡ pars-tokens left end → c ≡ 5
-        → (qs : List Name) × (left ≡ word_at text j ∷ qs) × (all_named keywords qs ≡ true) × (tokens-from text (past_word text j) ≡ pars-tokens qs end)
-    one-par [] h e f = let z = C ∙ bit-digit s.sw (second e) in let no : ⊥ = omega arith in absurd no
-    one-par (q ∷ qs) h e f =
+    one_par : (left : List Name) → all_named keywords left ≡ true → tokens_from text p ≡ pars_tokens left end → c ≡ 5
+        → (qs : List Name) × (left ≡ word_at text j ∷ qs) × (all_named keywords qs ≡ true) × (tokens_from text (past_word text j) ≡ pars_tokens qs end)
+    one_par [] h e f = let z = C ∙ bit_digit s.sw (second e) in let no : ⊥ = omega arith in absurd no
+    one_par (q ∷ qs) h e f =
         let N = and_l (named keywords q) (all_named keywords qs) h in
         let t = second e in
-        (qs, ap (λ (m : Name). m ∷ qs) (sym (name-word t N)), and_r (named keywords q) (all_named keywords qs) h, past-name t N)
+        (qs, ap (λ (m : Name). m ∷ qs) (sym (name_word t N)), and_r (named keywords q) (all_named keywords qs) h, past_name t N)
 
-    pub read-end : (c ≡ 5 → ⊥) → k ≤ n → eqb k n ≡ equal same (reverse ps) ns
-    read-end f l =
-        let e = no-par s.left s.names s.tokens f in
+    pub read_end : (c ≡ 5 → ⊥) → k ≤ n → eqb k n ≡ equal same (reverse ps) ns
+    read_end f l =
+        let e = no_par s.left s.names s.tokens f in
         sym (s.is ∙ rw (e, ends_at text rows pars k (n - k)) (all_read k n l))
 
     module _ (f : c ≡ 5) where
-      more : (qs : List Name) × (s.left ≡ word_at text j ∷ qs) × (all_named keywords qs ≡ true) × (tokens-from text (past_word text j) ≡ pars-tokens qs end)
-      more = one-par s.left s.names s.tokens f
+      more : (qs : List Name) × (s.left ≡ word_at text j ∷ qs) × (all_named keywords qs ≡ true) × (tokens_from text (past_word text j) ≡ pars_tokens qs end)
+      more = one_par s.left s.names s.tokens f
 
-      pub read-over : n ≤ k → false ≡ equal same (reverse ps) ns
-      read-over l = let e : n - k ≡ 0 = omega arith in sym (s.is ∙ rw (more.1, e))
+      pub read_over : n ≤ k → false ≡ equal same (reverse ps) ns
+      read_over l = let e : n - k ≡ 0 = omega arith in sym (s.is ∙ rw (more.1, e))
 
       -- Its end is e if it is the one around.
-      module _ (l : k < n) {e x : ℕ} (X : x ≡ par-start rows pars k) (q : e ≡ cond (same (word_at text j) (word_at text x)) (past_word text j) 0) where
+      module _ (l : k < n) {e x : ℕ} (X : x ≡ par_start rows pars k) (q : e ≡ cond (same (word_at text j) (word_at text x)) (past_word text j) 0) where
         one : n - k ≡ suc (n - (k + 1))
         one = omega arith
 
@@ -137,12 +137,12 @@ module _ {text rows pars : List ℕ} {n : ℕ} {ps ns : List Name} {p k : ℕ} (
         is_same true w z = (refl, w)
         is_same false w z = absurd (z w)
 
-        is-other : (b : Bool) → e ≡ cond b (past_word text j) 0 → e ≡ 0 → b ≡ false
-        is-other true w z = absurd (omega arith)
-        is-other false w z = refl
+        is_other : (b : Bool) → e ≡ cond b (past_word text j) 0 → e ≡ 0 → b ≡ false
+        is_other true w z = absurd (omega arith)
+        is_other false w z = refl
 
-        pub read-other : e ≡ 0 → false ≡ equal same (reverse ps) ns
-        read-other z = sym (s.is ∙ rw (more.1, one, ← X, is-other (same (word_at text j) (word_at text x)) q z))
+        pub read_other : e ≡ 0 → false ≡ equal same (reverse ps) ns
+        read_other z = sym (s.is ∙ rw (more.1, one, ← X, is_other (same (word_at text j) (word_at text x)) q z))
 
         pub read_next : (e ≡ 0 → ⊥) → Reading text rows pars n ps ns e (k + 1)
         read_next z =
@@ -153,5 +153,5 @@ module _ {text rows pars : List ℕ} {n : ℕ} {ps ns : List Name} {p k : ℕ} (
               others = s.others;
               names = more.2;
               tokens = rw y.1 more.3;
-              is = s.is ∙ ap (λ (ns : List Name). equal same ns (pars-on text rows pars k (n - k))) more.1 ∙ rw (one, ← X, y.0);
+              is = s.is ∙ ap (λ (ns : List Name). equal same ns (pars_on text rows pars k (n - k))) more.1 ∙ rw (one, ← X, y.0);
             }

@@ -9,33 +9,33 @@ use borrow.Author.Tests.{not-true, not-false}
 use Rattle.diagram.specs.TreeNodes.{TextNode}
 use Rattle.rules.specs.Kept.{fault}
 use Rattle.names.specs.code.Told.{node, earlier, found}
-use Rattle.names.proofs.Numbered.{earlier-none, earlier_more, from-here, from_past}
+use Rattle.names.proofs.Numbered.{earlier_none, earlier_more, from_here, from_past}
 
 -- The nodes before the number i keep the rule.
 pub record Searched (kept : List TextNode → TextNode → List TextNode → Bool) (hs : List TextNode) (i : ℕ) : Type 0 where
   pub is : fault kept [] hs ≡ fault kept (earlier hs i) (drop i hs)
 
-pub search-start : (kept : List TextNode → TextNode → List TextNode → Bool) (hs : List TextNode) → Searched kept hs 0
-search-start kept hs = record { is = rw (earlier-none hs) }
+pub search_start : (kept : List TextNode → TextNode → List TextNode → Bool) (hs : List TextNode) → Searched kept hs 0
+search_start kept hs = record { is = rw (earlier_none hs) }
 
 module _ {kept : List TextNode → TextNode → List TextNode → Bool} {hs : List TextNode} {i : ℕ} (s : Searched kept hs i) where
-  pub search-end : length hs ≤ i → fault kept [] hs ≡ found hs 0
+  pub search_end : length hs ≤ i → fault kept [] hs ≡ found hs 0
   unfolding fault
-  search-end h = s.is ∙ rw (from_past hs i h)
+  search_end h = s.is ∙ rw (from_past hs i h)
 
   module _ (h : i < length hs) where
-    pub search-next : kept (earlier hs i) (node hs i) (drop (i + 1) hs) ≡ true → Searched kept hs (i + 1)
+    pub search_next : kept (earlier hs i) (node hs i) (drop (i + 1) hs) ≡ true → Searched kept hs (i + 1)
     unfolding fault
-    search-next e = record { is = s.is ∙ rw (from-here hs i h, e, earlier_more hs i) }
+    search_next e = record { is = s.is ∙ rw (from_here hs i h, e, earlier_more hs i) }
 
-    pub search-here : kept (earlier hs i) (node hs i) (drop (i + 1) hs) ≡ false → fault kept [] hs ≡ found hs (i + 1)
+    pub search_here : kept (earlier hs i) (node hs i) (drop (i + 1) hs) ≡ false → fault kept [] hs ≡ found hs (i + 1)
     unfolding fault
-    search-here e = s.is ∙ rw (from-here hs i h, e, add-one i)
+    search_here e = s.is ∙ rw (from_here hs i h, e, add-one i)
 
     -- By a test b that said so, negated.
     module _ {b : Bool} (p : b ≡ kept (earlier hs i) (node hs i) (drop (i + 1) hs)) where
-      pub search-broken : not b ≡ true → fault kept [] hs ≡ found hs (i + 1)
-      search-broken e = search-here (sym p ∙ not-true b e)
+      pub search_broken : not b ≡ true → fault kept [] hs ≡ found hs (i + 1)
+      search_broken e = search_here (sym p ∙ not-true b e)
 
-      pub search-kept : not b ≡ false → Searched kept hs (i + 1)
-      search-kept e = search-next (sym p ∙ not-false b e)
+      pub search_kept : not b ≡ false → Searched kept hs (i + 1)
+      search_kept e = search_next (sym p ∙ not-false b e)

@@ -14,47 +14,47 @@ use Rattle.diagram.specs.Tree.{Name}
 use Rattle.diagram.specs.Names.{same, new}
 use Rattle.tokens.specs.Words.{word_at}
 use Rattle.walked.specs.Rows.{past_word}
-use Rattle.names.specs.code.Pars.{par-start, pars-at, Around}
+use Rattle.names.specs.code.Pars.{par_start, pars_at, Around}
 
 module _ (text rows pars : List ℕ) where
-  pub pars-none : (n : ℕ) → n ≤ 0 → pars-at text rows pars n ≡ []
-  unfolding pars-at
-  pars-none n h = let e : n ≡ 0 = omega arith in rw e
+  pub pars_none : (n : ℕ) → n ≤ 0 → pars_at text rows pars n ≡ []
+  unfolding pars_at
+  pars_none n h = let e : n ≡ 0 = omega arith in rw e
 
-  pub pars-first : (n : ℕ) → 0 < n → pars-at text rows pars n ≡ word_at text (par-start rows pars (n - 1)) ∷ pars-at text rows pars (n - 1)
-  unfolding pars-at
-  pars-first zero h = let z : ⊥ = omega arith in absurd z
-  pars-first (suc n) h = let e : suc n - 1 ≡ n = omega arith in rw e
+  pub pars_first : (n : ℕ) → 0 < n → pars_at text rows pars n ≡ word_at text (par_start rows pars (n - 1)) ∷ pars_at text rows pars (n - 1)
+  unfolding pars_at
+  pars_first zero h = let z : ⊥ = omega arith in absurd z
+  pars_first (suc n) h = let e : suc n - 1 ≡ n = omega arith in rw e
 
-  pub pars-count : (n : ℕ) → length (pars-at text rows pars n) ≡ n
-  unfolding pars-at
-  pars-count zero = refl
-  pars-count (suc n) = ap suc (pars-count n)
+  pub pars_count : (n : ℕ) → length (pars_at text rows pars n) ≡ n
+  unfolding pars_at
+  pars_count zero = refl
+  pars_count (suc n) = ap suc (pars_count n)
 
   -- Another one after them.
-  pub pars-set : (k v n : ℕ) → n ≤ k → pars-at text rows (set pars k v) n ≡ pars-at text rows pars n
-  unfolding pars-at
-  pars-set k v zero h = refl
-  pars-set k v (suc n) h = rw (get_or-set_other pars k n v 0 (λ e. omega arith), pars-set k v n (omega arith))
+  pub pars_set : (k v n : ℕ) → n ≤ k → pars_at text rows (set pars k v) n ≡ pars_at text rows pars n
+  unfolding pars_at
+  pars_set k v zero h = refl
+  pars_set k v (suc n) h = rw (get_or-set_other pars k n v 0 (λ e. omega arith), pars_set k v n (omega arith))
 
 module _ {text rows pars : List ℕ} {n : ℕ} {names : List Name} (s : Around text rows pars n names) where
-  pub around-set : (k x : ℕ) → n ≤ k → Around text rows (set pars k x) n names
-  around-set k x h =
+  pub around_set : (k x : ℕ) → n ≤ k → Around text rows (set pars k x) n names
+  around_set k x h =
       record {
-        is = s.is ∙ sym (pars-set text rows pars k x n h);
+        is = s.is ∙ sym (pars_set text rows pars k x n h);
         ended = λ j l. rw (get_or-set_other pars k j x 0 (λ e. omega arith)) (s.ended j l);
       }
 
   -- One more, which has the number x.
-  pub around-more : (x : ℕ) {m : Name} → n < length pars → m ≡ word_at text (get_or rows (x * 8 + 10) 0)
+  pub around_more : (x : ℕ) {m : Name} → n < length pars → m ≡ word_at text (get_or rows (x * 8 + 10) 0)
       → get_or rows (x * 8 + 15) 0 ≡ past_word text (get_or rows (x * 8 + 10) 0) → get_or rows (x * 8 + 15) 0 ≤ length text
       → Around text rows (set pars n x) (n + 1) (m ∷ names)
-  unfolding pars-at
-  around-more x {m} p w e l =
+  unfolding pars_at
+  around_more x {m} p w e l =
       record {
-        is = rw (add-one n, get_or-set_same pars n x 0 p, w, pars-set text rows pars n x n (omega arith), s.is);
+        is = rw (add-one n, get_or-set_same pars n x 0 p, w, pars_set text rows pars n x n (omega arith), s.is);
         ended = λ j u.
-            by_cases (ltb j n) (λ z. (around-set n x (omega arith)).ended j (ltb-true j n z)) (λ z.
+            by_cases (ltb j n) (λ z. (around_set n x (omega arith)).ended j (ltb-true j n z)) (λ z.
             let one : j ≡ n = let v = ltb-false j n z in omega arith in
             rw (one, get_or-set_same pars n x 0 p) (e, l));
       }
@@ -62,18 +62,18 @@ module _ {text rows pars : List ℕ} {n : ℕ} {names : List Name} (s : Around t
 -- The pars from the place k on differ from m.
 pub record Fresh (text rows pars : List ℕ) (m : Name) (n k : ℕ) : Type 0 where
   pub within : k ≤ n
-  pub is : new m (pars-at text rows pars n) ≡ new m (pars-at text rows pars k)
+  pub is : new m (pars_at text rows pars n) ≡ new m (pars_at text rows pars k)
 
 pub fresh_start : (text rows pars : List ℕ) (m : Name) (n : ℕ) → Fresh text rows pars m n n
 fresh_start text rows pars m n = record { within = omega arith; is = refl }
 
 module _ {text rows pars : List ℕ} {m : Name} {n k : ℕ} (s : Fresh text rows pars m n k) where
-  pub fresh-end : k ≤ 0 → true ≡ new m (pars-at text rows pars n)
-  fresh-end h = rw (s.is, pars-none text rows pars k h)
+  pub fresh_end : k ≤ 0 → true ≡ new m (pars_at text rows pars n)
+  fresh_end h = rw (s.is, pars_none text rows pars k h)
 
-  module _ (h : 0 < k) {x : ℕ} {b : Bool} (q : x ≡ par-start rows pars (k - 1)) (p : b ≡ same m (word_at text x)) where
-    pub fresh-twice : b ≡ true → false ≡ new m (pars-at text rows pars n)
-    fresh-twice e = rw (s.is, pars-first text rows pars k h, ← q, ← p, e)
+  module _ (h : 0 < k) {x : ℕ} {b : Bool} (q : x ≡ par_start rows pars (k - 1)) (p : b ≡ same m (word_at text x)) where
+    pub fresh_twice : b ≡ true → false ≡ new m (pars_at text rows pars n)
+    fresh_twice e = rw (s.is, pars_first text rows pars k h, ← q, ← p, e)
 
-    pub fresh-next : b ≡ false → Fresh text rows pars m n (k - 1)
-    fresh-next e = record { within = omega (arith, s.within); is = s.is ∙ rw (pars-first text rows pars k h, ← q, ← p, e) }
+    pub fresh_next : b ≡ false → Fresh text rows pars m n (k - 1)
+    fresh_next e = record { within = omega (arith, s.within); is = s.is ∙ rw (pars_first text rows pars k h, ← q, ← p, e) }

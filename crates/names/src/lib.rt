@@ -3,12 +3,12 @@ ghost use Rattle.diagram.specs.Tree.{Name};
 ghost use Rattle.diagram.specs.Names.{equal, same, new};
 ghost use Rattle.tokens.specs.Words.{word_at};
 ghost use Rattle.lexer.specs.Lexicon.{Lexicon};
-ghost use Rattle.rules.specs.Kept.{fault, names-kept, around, parameters-kept};
+ghost use Rattle.rules.specs.Kept.{fault, names_kept, around, parameters_kept};
 ghost use Rattle.walked.specs.Rows.{past_word, Listed};
-ghost use Rattle.names.specs.code.Kinds.{titled-code, copying-code};
+ghost use Rattle.names.specs.code.Kinds.{titled_code, copying_code};
 ghost use Rattle.names.specs.code.Told.{node, earlier, Told, found};
-ghost use Rattle.names.specs.code.Marks.{mark_of, titled-at, unused-at, latest, Linked, Falling};
-ghost use Rattle.names.specs.code.Pars.{pars-at, Numbers, Around};
+ghost use Rattle.names.specs.code.Marks.{mark_of, titled_at, unused_at, latest, Linked, Falling};
+ghost use Rattle.names.specs.code.Pars.{pars_at, Numbers, Around};
 
 // A number of the row of the node i: 8 the place of its keyword, 9 its solid mark, 10 the place of its name or par, 11 its keyword, 12 its size,
 // 13 its depth, 14 its sw, 15 the place past its name or par.
@@ -79,7 +79,7 @@ fn mark(text: &[u8], at: usize, end: usize) -> usize
 // Whether one of the nodes linked from a number on has the name that starts at `at`.
 fn taken(text: &[u8], rows: &[u16; 2056], links: &[u16; 256], from: usize, at: usize) -> bool
     requires { (from ≤ 256) × Falling links.now }
-    ensures { (i : ℕ) → Linked text.now rows.now links.now i → from ≡ latest text.now rows.now (mark_of (word_at text.now at)) i → result ≡ not (unused-at text.now rows.now (word_at text.now at) i) }
+    ensures { (i : ℕ) → Linked text.now rows.now links.now i → from ≡ latest text.now rows.now (mark_of (word_at text.now at)) i → result ≡ not (unused_at text.now rows.now (word_at text.now at) i) }
 {
     let mut j = from;
     while 0 < j {
@@ -94,7 +94,7 @@ fn taken(text: &[u8], rows: &[u16; 2056], links: &[u16; 256], from: usize, at: u
 
 // Whether this is the keyword of a leaf or a flow.
 fn titled(c: usize) -> bool
-    ensures { result ≡ titled-code c }
+    ensures { result ≡ titled_code c }
 {
     if c == 7 {
         return true;
@@ -107,8 +107,8 @@ fn titled(c: usize) -> bool
 pub fn names(text: &[u8], rows: &[u16; 2056], count: usize) -> usize
     requires { count ≤ 256 }
     ensures upper_bound { result ≤ count }
-    ensures result_value { 0 < result → titled-at rows.now (result - 1) ≡ true }
-    ensures hs_value { (t : Told text.now rows.now count) → fault names-kept [] t.hs ≡ found t.hs result }
+    ensures result_value { 0 < result → titled_at rows.now (result - 1) ≡ true }
+    ensures hs_value { (t : Told text.now rows.now count) → fault names_kept [] t.hs ≡ found t.hs result }
 {
     let mut heads = [0u16; 512];
     let mut links = [0u16; 256];
@@ -133,7 +133,7 @@ pub fn names(text: &[u8], rows: &[u16; 2056], count: usize) -> usize
 // Whether the par that starts at `at` is none of the first n of those around.
 fn fresh(text: &[u8], rows: &[u16; 2056], pars: &[usize; 4], n: usize, at: usize) -> bool
     requires { (n ≤ 4) × Numbers pars.now }
-    ensures { result ≡ new (word_at text.now at) (pars-at text.now rows.now pars.now n) }
+    ensures { result ≡ new (word_at text.now at) (pars_at text.now rows.now pars.now n) }
 {
     let mut k = n;
     while 0 < k {
@@ -224,7 +224,7 @@ fn kept(
 ) -> bool
     requires { (i < 256) × (n ≤ 4) × Numbers pars.now × Lexicon lexicon.now }
     ensures n_bound { result ≡ true → n ≤ 3 }
-    ensures by_index { (count : ℕ) (t : Told text.now rows.now count) → i < count → Around text.now rows.now pars.now n (around (node t.hs i).depth (earlier t.hs i)) → result ≡ parameters-kept (earlier t.hs i) (node t.hs i) (drop (i + 1) t.hs) }
+    ensures by_index { (count : ℕ) (t : Told text.now rows.now count) → i < count → Around text.now rows.now pars.now n (around (node t.hs i).depth (earlier t.hs i)) → result ≡ parameters_kept (earlier t.hs i) (node t.hs i) (drop (i + 1) t.hs) }
 {
     if 3 < n {
         return false;
@@ -245,7 +245,7 @@ fn kept(
 // 1 if the node i is a replicator, else 0.
 fn replicator(rows: &[u16; 2056], i: usize) -> usize
     requires { i < 256 }
-    ensures value { result ≡ cond (copying-code (get_or rows.now (i * 8 + 11) 0)) 1 0 }
+    ensures value { result ≡ cond (copying_code (get_or rows.now (i * 8 + 11) 0)) 1 0 }
     ensures upper_bound { result ≤ 1 }
 {
     let c = told(rows, i, 11);
@@ -263,7 +263,7 @@ fn replicator(rows: &[u16; 2056], i: usize) -> usize
 pub fn parameters(text: &[u8], rows: &[u16; 2056], count: usize, lexicon: &[u8; 400]) -> usize
     requires { (count ≤ 256) × Lexicon lexicon.now }
     ensures upper_bound { result ≤ count }
-    ensures hs_value { (t : Told text.now rows.now count) → fault parameters-kept [] t.hs ≡ found t.hs result }
+    ensures hs_value { (t : Told text.now rows.now count) → fault parameters_kept [] t.hs ≡ found t.hs result }
 {
     let mut pars = [0usize; 4];
     let mut many = [0usize; 14];

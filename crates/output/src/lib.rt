@@ -1,7 +1,7 @@
 ghost use Rattle.std.specs.Prelude.{◌≡◌, ◌+◌, ◌%◌};
 ghost use Rattle.output.specs.Buffer.{buffer, put, put_all};
 ghost use Rattle.output.specs.Decimal.{digits as digits_of, decimal};
-ghost use Rattle.output.specs.Lines.{two-numbers, refused-line};
+ghost use Rattle.output.specs.Lines.{two_numbers, refused_line};
 
 // One byte more over the buffer, where there is room; answers how many are written.
 pub fn byte(out: &mut [u8], at: usize, b: u8) -> usize
@@ -68,7 +68,7 @@ pub fn number(out: &mut [u8], at: usize, v: usize) -> usize
 
 // A line of two numbers, each after some words.
 pub fn numbers(out: &mut [u8], at: usize, words: &[u8], m: usize, between: &[u8], n: usize) -> usize
-    ensures { buffer result out.new ≡ put_all (two-numbers words.now m between.now n) (buffer at out.old) }
+    ensures { buffer result out.new ≡ put_all (two_numbers words.now m between.now n) (buffer at out.old) }
 {
     let a = bytes(out, at, words);
     let b = number(out, a, m);
@@ -79,7 +79,7 @@ pub fn numbers(out: &mut [u8], at: usize, words: &[u8], m: usize, between: &[u8]
 
 // `refused`, number and place.
 pub fn refused(out: &mut [u8], at: usize, number: u8, place: usize) -> usize
-    ensures { buffer result out.new ≡ put_all (refused-line number place) (buffer at out.old) }
+    ensures { buffer result out.new ≡ put_all (refused_line number place) (buffer at out.old) }
 {
     numbers(out, at, b"refused ", number as usize, b" ", place)
 }

@@ -7,8 +7,8 @@ use Rattle.base.specs.Reports.{Report, result, refusal}
 use Rattle.packing.specs.Packed.{packed}
 
 -- An answer is packed as the case that it is is packed.
-pub by-case : {A : Type 0} (w : ℕ) (report : A → Report) {a b : A} {r : ℕ} → a ≡ b → r ≡ packed w (report b) → r ≡ packed w (report a)
-by-case w report is e = e ∙ ap (λ x. packed w (report x)) (sym is)
+pub by_case : {A : Type 0} (w : ℕ) (report : A → Report) {a b : A} {r : ℕ} → a ≡ b → r ≡ packed w (report b) → r ≡ packed w (report a)
+by_case w report is e = e ∙ ap (λ x. packed w (report x)) (sym is)
 
 pub refused : (w number place : ℕ) {r : ℕ} → r ≡ number * 2 ^ 32 + place % 2 ^ 32 → r ≡ packed w (refusal number place)
 refused w number place e = omega (arith, e)

@@ -1,12 +1,12 @@
 -- What a node is told as.
 use Rattle.std.specs.Prelude.{cond, List, [], ◌∷◌, ℕ}
-use Rattle.columns.specs.Columns.{kind-index, size_number}
+use Rattle.columns.specs.Columns.{kind_index, size_number}
 use Rattle.diagram.specs.declared.Node.{Node}
 
 -- Which of the kinds it is, in their order; size, whether it is a solid child, whether a flow's sw is 1, and depth.
-abbrev pub node-values : Node → List ℕ
-node-values n = kind-index n.kind ∷ size_number n.kind ∷ cond n.solid 1 0 ∷ cond n.strong 1 0 ∷ n.depth ∷ []
+abbrev pub node_values : Node → List ℕ
+node_values n = kind_index n.kind ∷ size_number n.kind ∷ cond n.solid 1 0 ∷ cond n.strong 1 0 ∷ n.depth ∷ []
 
 -- The places of its keyword, and of its name or par.
-abbrev pub place-values : Node → List ℕ
-place-values n = n.at ∷ n.name ∷ []
+abbrev pub place_values : Node → List ℕ
+place_values n = n.at ∷ n.name ∷ []

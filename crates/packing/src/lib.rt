@@ -3,13 +3,13 @@
 
 ghost use Rattle.std.specs.Prelude.{◌≡◌, cond, ◌+◌, ◌*◌, ◌%◌, ◌^◌};
 ghost use Rattle.base.specs.Reports.{result};
-ghost use Rattle.reading.specs.Reports.{report as read-report};
-ghost use Rattle.printer.specs.Reports.{report as print-report};
-ghost use Rattle.translator.specs.Reports.{report as translate-report};
-ghost use Rattle.modelling.specs.Reports.{report as written-report};
-ghost use Rattle.events.specs.Reports.{marked as marked-values, report as label-report};
+ghost use Rattle.reading.specs.Reports.{report as read_report};
+ghost use Rattle.printer.specs.Reports.{report as print_report};
+ghost use Rattle.translator.specs.Reports.{report as translate_report};
+ghost use Rattle.modelling.specs.Reports.{report as written_report};
+ghost use Rattle.events.specs.Reports.{marked as marked_values, report as label_report};
 ghost use Rattle.packing.specs.Packed.{packed};
-ghost use Rattle.packing.specs.Nodes.{node-values, place-values};
+ghost use Rattle.packing.specs.Nodes.{node_values, place_values};
 
 use diagram::Node;
 use events::Label;
@@ -28,7 +28,7 @@ pub fn refusal(number: u8, place: usize) -> u64
 
 // Nodes, node copies and events, of 10 bits each.
 pub fn read_number(o: ReadResult) -> u64
-    ensures* { λ r. ⌜ r ≡ packed 10 (read-report o) ⌝ }
+    ensures* { λ r. ⌜ r ≡ packed 10 (read_report o) ⌝ }
 {
     let answer = o.answer;
     let d = o.diagram;
@@ -45,7 +45,7 @@ pub fn read_number(o: ReadResult) -> u64
 
 // The bytes written.
 pub fn print_number(p: Printed) -> u64
-    ensures* { λ r. ⌜ r ≡ packed 32 (print-report p) ⌝ }
+    ensures* { λ r. ⌜ r ≡ packed 32 (print_report p) ⌝ }
 {
     match p {
         Printed::Bytes(n) => (n as u64) % 4294967296,
@@ -55,7 +55,7 @@ pub fn print_number(p: Printed) -> u64
 
 // The bytes written.
 pub fn translate_number(t: Translated) -> u64
-    ensures* { λ r. ⌜ r ≡ packed 32 (translate-report t) ⌝ }
+    ensures* { λ r. ⌜ r ≡ packed 32 (translate_report t) ⌝ }
 {
     match t {
         Translated::Bytes(n) => (n as u64) % 4294967296,
@@ -65,7 +65,7 @@ pub fn translate_number(t: Translated) -> u64
 
 // The bytes of an event's text.
 pub fn written_number(w: Written) -> u64
-    ensures* { λ r. ⌜ r ≡ packed 32 (written-report w) ⌝ }
+    ensures* { λ r. ⌜ r ≡ packed 32 (written_report w) ⌝ }
 {
     match w {
         Written::Bytes(n) => (n as u64) % 4294967296,
@@ -75,7 +75,7 @@ pub fn written_number(w: Written) -> u64
 
 // The mark of a reset, how many values there are, and the values, of 6 bits each.
 fn marked(mark: u64, v: Values) -> u64
-    ensures* { λ r. ⌜ r ≡ packed 6 (result (marked-values mark v)) ⌝ }
+    ensures* { λ r. ⌜ r ≡ packed 6 (result (marked_values mark v)) ⌝ }
 {
     (((mark % 64 * 64 + (v.count as u64) % 64) * 64 + (v.first as u64) % 64) * 64
         + (v.second as u64) % 64)
@@ -84,7 +84,7 @@ fn marked(mark: u64, v: Values) -> u64
 }
 
 pub fn label_number(l: Label) -> u64
-    ensures* { λ r. ⌜ r ≡ packed 6 (label-report l) ⌝ }
+    ensures* { λ r. ⌜ r ≡ packed 6 (label_report l) ⌝ }
 {
     match l {
         Label::Leaf(v) => marked(0, v),
@@ -104,7 +104,7 @@ fn mark_of(marked: bool) -> u64
 
 // Kind, size, whether it is a solid child, whether a flow's sw is 1, and depth, of 6 bits each.
 pub fn node_number(node: Node) -> u64
-    ensures* { λ r. ⌜ r ≡ packed 6 (result (node-values node)) ⌝ }
+    ensures* { λ r. ⌜ r ≡ packed 6 (result (node_values node)) ⌝ }
 {
     let kind = node.kind;
     let number = columns::index(kind) as u64;
@@ -117,7 +117,7 @@ pub fn node_number(node: Node) -> u64
 
 // Where its keyword stands, and its name or par, of 16 bits each.
 pub fn place_number(node: Node) -> u64
-    ensures* { λ r. ⌜ r ≡ packed 16 (result (place-values node)) ⌝ }
+    ensures* { λ r. ⌜ r ≡ packed 16 (result (place_values node)) ⌝ }
 {
     (node.at as u64) % 65536 * 65536 + (node.name as u64) % 65536
 }

@@ -6,14 +6,14 @@ use native.Mathlib.Omega.{arith}
 use lib.ListN.{length, get_or, take, drop, length-append, length-drop}
 use lib.Seq.{take_at, drop_at, get_or_at, length-take-le}
 use Rattle.process.specs.Process.{Joint, seq, and, or, xor, Process, event, join, again, rounds}
-use Rattle.postfix.specs.Postfix.{postfix, joint-code}
-use Rattle.parts.specs.code.Cuts.{second-begins}
+use Rattle.postfix.specs.Postfix.{postfix, joint_code}
+use Rattle.parts.specs.code.Cuts.{second_begins}
 use Rattle.parts.proofs.Cut.{second_is}
 
 -- A process's own number.
 abbrev pub own : Process → ℕ
 own (event n l) = 0
-own (join j p q) = joint-code j
+own (join j p q) = joint_code j
 own (again n l) = 1
 own (rounds p r l) = 2
 
@@ -27,7 +27,7 @@ inner (rounds p r l) = postfix p
 ends_with : (p : Process) → postfix p ≡ inner p ++ (own p ∷ [])
 unfolding postfix
 ends_with (event n l) = refl
-ends_with (join j p q) = rw (append_assoc (postfix p) (postfix q) (joint-code j ∷ []))
+ends_with (join j p q) = rw (append_assoc (postfix p) (postfix q) (joint_code j ∷ []))
 ends_with (again n l) = refl
 ends_with (rounds p r l) = refl
 
@@ -36,78 +36,78 @@ module _ (cs : List ℕ) (p : Process) (e : cs ≡ postfix p) where
   told : cs ≡ inner p ++ (own p ∷ [])
   told = e ∙ ends_with p
 
-  pub inner-length : length cs ≡ length (inner p) + 1
-  inner-length = ap length told ∙ length-append (inner p) (own p ∷ [])
+  pub inner_length : length cs ≡ length (inner p) + 1
+  inner_length = ap length told ∙ length-append (inner p) (own p ∷ [])
 
   -- There is at least one.
   pub some_number : 1 ≤ length cs
-  some_number = omega (arith, inner-length)
+  some_number = omega (arith, inner_length)
 
-  pub last-is : get_or cs (length cs - 1) 0 ≡ own p
-  last-is =
-      let k : length (inner p) ≡ length cs - 1 = omega (arith, inner-length) in
+  pub last_is : get_or cs (length cs - 1) 0 ≡ own p
+  last_is =
+      let k : length (inner p) ≡ length cs - 1 = omega (arith, inner_length) in
       ap (λ (l : List ℕ). get_or l (length cs - 1) 0) told ∙ get_or_at (inner p) (own p) [] 0 (length cs - 1) k
 
-  pub inner-is : take (length cs - 1) cs ≡ inner p
-  inner-is =
-      let k : length (inner p) ≡ length cs - 1 = omega (arith, inner-length) in
+  pub inner_is : take (length cs - 1) cs ≡ inner p
+  inner_is =
+      let k : length (inner p) ≡ length cs - 1 = omega (arith, inner_length) in
       ap (λ (l : List ℕ). take (length cs - 1) l) told ∙ take_at (inner p) (own p ∷ []) (length cs - 1) k
 
 -- The numbers of a joint, cut where the second part begins.
 module _ (cs : List ℕ) (j : Joint) (p q : Process) (e : cs ≡ postfix (join j p q)) where
-  pub second_at : second-begins (take (length cs - 1) cs) ≡ length (postfix p)
-  second_at = rw (inner-is cs (join j p q) e) (second_is (postfix p) q)
+  pub second_at : second_begins (take (length cs - 1) cs) ≡ length (postfix p)
+  second_at = rw (inner_is cs (join j p q) e) (second_is (postfix p) q)
 
-  pub first_part : (m : ℕ) → m ≡ second-begins (take (length cs - 1) cs) → take m cs ≡ postfix p
+  pub first_part : (m : ℕ) → m ≡ second_begins (take (length cs - 1) cs) → take m cs ≡ postfix p
   unfolding postfix
   first_part m h =
       let k = h ∙ second_at in
-      rw k (ap (λ (l : List ℕ). take (length (postfix p)) l) e ∙ take_at (postfix p) (postfix q ++ (joint-code j ∷ [])) (length (postfix p)) refl)
+      rw k (ap (λ (l : List ℕ). take (length (postfix p)) l) e ∙ take_at (postfix p) (postfix q ++ (joint_code j ∷ [])) (length (postfix p)) refl)
 
-  pub second-part : (m : ℕ) → m ≡ second-begins (take (length cs - 1) cs) → take (length cs - 1 - m) (drop m cs) ≡ postfix q
+  pub second_part : (m : ℕ) → m ≡ second_begins (take (length cs - 1) cs) → take (length cs - 1 - m) (drop m cs) ≡ postfix q
   unfolding postfix
-  second-part m h =
+  second_part m h =
       let k = h ∙ second_at in
-      let n = inner-length cs (join j p q) e in
+      let n = inner_length cs (join j p q) e in
       let s = length-append (postfix p) (postfix q) in
       let l : length (postfix q) ≡ length cs - 1 - m = omega (arith, n, s, k) in
-      let d : drop m cs ≡ postfix q ++ (joint-code j ∷ []) =
-      ap (drop m) e ∙ drop_at (postfix p) (postfix q ++ (joint-code j ∷ [])) m (omega (arith, k)) in
-      rw d (take_at (postfix q) (joint-code j ∷ []) (length cs - 1 - m) l)
+      let d : drop m cs ≡ postfix q ++ (joint_code j ∷ []) =
+      ap (drop m) e ∙ drop_at (postfix p) (postfix q ++ (joint_code j ∷ [])) m (omega (arith, k)) in
+      rw d (take_at (postfix q) (joint_code j ∷ []) (length cs - 1 - m) l)
 
 -- A joint's number is above those of the events.
-pub joint-high : (j : Joint) → 2 < joint-code j
-joint-high seq = omega arith
-joint-high and = omega arith
-joint-high or = omega arith
-joint-high xor = omega arith
+pub joint_high : (j : Joint) → 2 < joint_code j
+joint_high seq = omega arith
+joint_high and = omega arith
+joint_high or = omega arith
+joint_high xor = omega arith
 
 -- The parts have fewer numbers than the whole.
 module _ (cs : List ℕ) (some : length cs ≡ 0 → ⊥) {t : ℕ} (e : length cs ≡ t) where
-  pub inner-fewer : length (take (length cs - 1) cs) < t
-  inner-fewer = omega (arith, some, e, length-take-le (length cs - 1) cs (omega arith))
+  pub inner_fewer : length (take (length cs - 1) cs) < t
+  inner_fewer = omega (arith, some, e, length-take-le (length cs - 1) cs (omega arith))
 
   module _ {m : ℕ} (h : m ≤ length (take (length cs - 1) cs)) where
     below : m ≤ length cs - 1
     below = omega (arith, h, length-take-le (length cs - 1) cs (omega arith))
 
-    pub first-fewer : length (take m cs) < t
-    first-fewer = omega (arith, some, e, below, length-take-le m cs (omega (arith, below)))
+    pub first_fewer : length (take m cs) < t
+    first_fewer = omega (arith, some, e, below, length-take-le m cs (omega (arith, below)))
 
-    pub second-fewer : length (take (length cs - 1 - m) (drop m cs)) < t
-    second-fewer =
+    pub second_fewer : length (take (length cs - 1 - m) (drop m cs)) < t
+    second_fewer =
         let d = length-drop m cs in
         omega (arith, some, e, below, length-take-le (length cs - 1 - m) (drop m cs) (omega (arith, d, below)))
 
-    pub second-inside : (m ≤ length cs - 1) × (length cs - 1 ≤ length cs)
-    second-inside = (below, omega arith)
+    pub second_inside : (m ≤ length cs - 1) × (length cs - 1 ≤ length cs)
+    second_inside = (below, omega arith)
 
 -- A part has as many numbers as its bounds say.
-pub inner-count : (cs : List ℕ) → length cs - 1 ≡ length (take (length cs - 1) cs)
-inner-count cs = sym (length-take-le (length cs - 1) cs (omega arith))
+pub inner_count : (cs : List ℕ) → length cs - 1 ≡ length (take (length cs - 1) cs)
+inner_count cs = sym (length-take-le (length cs - 1) cs (omega arith))
 
 pub first_count : (cs : List ℕ) {m : ℕ} → m ≤ length (take (length cs - 1) cs) → m ≡ length (take m cs)
-first_count cs {m} h = sym (length-take-le m cs (omega (arith, h, inner-count cs)))
+first_count cs {m} h = sym (length-take-le m cs (omega (arith, h, inner_count cs)))
 
-pub within-inner : (cs : List ℕ) {m : ℕ} → m ≤ length cs - 1 → m ≤ length (take (length cs - 1) cs)
-within-inner cs h = omega (arith, h, inner-count cs)
+pub within_inner : (cs : List ℕ) {m : ℕ} → m ≤ length cs - 1 → m ≤ length (take (length cs - 1) cs)
+within_inner cs h = omega (arith, h, inner_count cs)

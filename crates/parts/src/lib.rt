@@ -1,12 +1,12 @@
 // Parts of a process in postfix order: the numbers of a process are those of its parts and then its own.
 
 ghost use Rattle.std.specs.Prelude.{◌≡◌, [], ◌∷◌, ◌-◌, ◌^◌, ◌≤◌, ◌<◌, length};
-ghost use Rattle.parts.specs.code.Cuts.{wanted as wanted-before, second-begins, event-count};
+ghost use Rattle.parts.specs.code.Cuts.{wanted as wanted_before, second_begins, event_count};
 
 // How many parts are wanted before a number, where so many were wanted after it.
 fn wanted(code: u8, n: usize) -> usize
     requires { (0 < n) × (n < 2 ^ 63) }
-    ensures { result ≡ wanted-before code n }
+    ensures { result ≡ wanted_before code n }
 {
     if code <= postfix::AGAIN {
         return n - 1;
@@ -19,7 +19,7 @@ fn wanted(code: u8, n: usize) -> usize
 
 // Where the second of two parts begins: from the end, up to where one part is whole.
 pub fn second(codes: &[u8]) -> usize
-    ensures { (result ≡ second-begins codes.now) × (result ≤ length codes.now) }
+    ensures { (result ≡ second_begins codes.now) × (result ≤ length codes.now) }
 {
     let mut i = codes.len();
     let mut n = 1;
@@ -35,7 +35,7 @@ pub fn second(codes: &[u8]) -> usize
 
 // Each leaf, loop over a leaf and reset is an event.
 fn counted(code: u8) -> usize
-    ensures { (result ≡ event-count (code ∷ [])) × (result ≤ 1) }
+    ensures { (result ≡ event_count (code ∷ [])) × (result ≤ 1) }
 {
     if code <= postfix::ROUNDS {
         return 1;
@@ -45,7 +45,7 @@ fn counted(code: u8) -> usize
 
 // How many events there are.
 pub fn events(codes: &[u8]) -> usize
-    ensures { (result ≡ event-count codes.now) × (result ≤ length codes.now) }
+    ensures { (result ≡ event_count codes.now) × (result ≤ length codes.now) }
 {
     let mut n = 0;
     let mut i = 0;
@@ -58,7 +58,7 @@ pub fn events(codes: &[u8]) -> usize
 
 // How many events come after the first.
 pub fn after(codes: &[u8]) -> usize
-    ensures { (result ≡ event-count codes.now - 1) × (result ≤ length codes.now - 1) }
+    ensures { (result ≡ event_count codes.now - 1) × (result ≤ length codes.now - 1) }
 {
     let n = events(codes);
     if n == 0 {

@@ -6,7 +6,7 @@ use Prim.Native.Nat.{ℕ, suc, ◌<◌, ◌^◌}
 use Rattle.process.specs.Process.{Process}
 use Rattle.process.specs.Bits.{Bits}
 use Rattle.process.specs.Guards.{begun, complete}
-use Rattle.layout.specs.Sound.{Row-keeps}
+use Rattle.layout.specs.Sound.{RowKeeps}
 use Rattle.layout.specs.Values.{says}
 use Rattle.plan.specs.declared.PartRows.{PartRows}
 
@@ -18,21 +18,21 @@ Obeys s v k (w ∷ ws) = (v k ≡ says w s v) × Obeys s v (suc k) ws
 
 -- The rows of a part say of a process what the bits say.
 pub record PartAgrees (p : Process) (s : Bits) (v : ℕ → Bool) (m : PartRows) : Type 0 where
-  pub its-begun : v m.begun ≡ begun p s
-  pub its-idle : v m.idle ≡ not (begun p s)
-  pub its-done : v m.done ≡ complete p s
-  pub its-settled : (m.settled ≡ 0 → ⊥) → v m.settled ≡ (complete p s || not (begun p s))
+  pub its_begun : v m.begun ≡ begun p s
+  pub its_idle : v m.idle ≡ not (begun p s)
+  pub its_done : v m.done ≡ complete p s
+  pub its_settled : (m.settled ≡ 0 → ⊥) → v m.settled ≡ (complete p s || not (begun p s))
 
 -- ---- what rows name
 -- Each row is a word of 32 bits that keeps the sentences on rows, where there are n events; the first of them is row k.
 unfoldable pub Lower : ℕ → ℕ → List ℕ → Type 0
 Lower n k [] = Unit {0}
-Lower n k (w ∷ ws) = Row-keeps w n k × (w < 2 ^ 32) × Lower n (suc k) ws
+Lower n k (w ∷ ws) = RowKeeps w n k × (w < 2 ^ 32) × Lower n (suc k) ws
 
 -- The rows of a part are below k, and row 0 is none of them except as "no row yet"; the first event is the part's.
 pub record Below (k first : ℕ) (m : PartRows) : Type 0 where
-  pub its-begun : m.begun < k
-  pub its-idle : m.idle < k
-  pub its-done : m.done < k
-  pub its-settled : m.settled < k
-  pub its-first : m.first ≡ first
+  pub its_begun : m.begun < k
+  pub its_idle : m.idle < k
+  pub its_done : m.done < k
+  pub its_settled : m.settled < k
+  pub its_first : m.first ≡ first

@@ -6,10 +6,10 @@ use Prim.Native.Nat.{ℕ, suc, ◌+◌, ◌-◌, ◌≤◌, ◌<◌}
 use native.Mathlib.Numerals.{add-one}
 use lib.ListN.{length, take, drop}
 use Rattle.output.specs.Buffer.{Buffer, put, put_all}
-use Rattle.output.proofs.Buffers.{put-all-append, before}
+use Rattle.output.proofs.Buffers.{put_all_append, before}
 use Rattle.record.specs.Bits.{bit_at}
 use Rattle.said.specs.Lines.{lines, LineEnds}
-use Rattle.said.proofs.Lines.{line_at, none-at}
+use Rattle.said.proofs.Lines.{line_at, none_at}
 use Rattle.player.specs.Shown.{item, chosen}
 
 chosen_on : (ls : List (List ℕ)) (l : List ℕ) (on : List (List ℕ)) (q : ls ≡ l ∷ on) (bits : List ℕ) (e : ℕ)
@@ -17,9 +17,9 @@ chosen_on : (ls : List (List ℕ)) (l : List ℕ) (on : List (List ℕ)) (q : ls
 unfolding chosen
 chosen_on ls l on q bits e = rw q
 
-none-chosen : (ls : List (List ℕ)) (bits : List ℕ) (e : ℕ) → ls ≡ [] → chosen ls bits e ≡ []
+none_chosen : (ls : List (List ℕ)) (bits : List ℕ) (e : ℕ) → ls ≡ [] → chosen ls bits e ≡ []
 unfolding chosen
-none-chosen ls bits e q = rw q
+none_chosen ls bits e q = rw q
 
 -- The lines that are chosen, one after the other.
 pub chosen_more : (s bits : List ℕ) (at end e : ℕ) (there : Bool) (b t : Buffer) → at < length s → LineEnds s at end
@@ -30,11 +30,11 @@ chosen_more s bits at end e there b t h q p g =
     let c = chosen_on (lines (drop at s)) (take (end - at) (drop at s)) (lines (drop (end + 1) s)) w bits e in
     let i = item there (take (end - at) (drop at s)) in
     let on = chosen (lines (drop (end + 1) s)) bits (e + 1) in
-    ap (put_all on) p ∙ (sym (put-all-append i on b) ∙ ap (λ (x : List ℕ). put_all x b) (rw (add-one e, g) (sym c)))
+    ap (put_all on) p ∙ (sym (put_all_append i on b) ∙ ap (λ (x : List ℕ). put_all x b) (rw (add-one e, g) (sym c)))
 
-pub chosen-done : (s bits : List ℕ) (at e : ℕ) (b : Buffer) → length s ≤ at → b ≡ put_all (chosen (lines (drop at s)) bits e) b
+pub chosen_done : (s bits : List ℕ) (at e : ℕ) (b : Buffer) → length s ≤ at → b ≡ put_all (chosen (lines (drop at s)) bits e) b
 unfolding put_all
-chosen-done s bits at e b h = rw (none-chosen (lines (drop at s)) bits e (none-at s at h))
+chosen_done s bits at e b h = rw (none_chosen (lines (drop at s)) bits e (none_at s at h))
 
 -- These bytes, and then one more.
 pub and_byte : (s : Buffer) (bs : List ℕ) (b : ℕ) {t u : Buffer} → t ≡ put_all bs s → u ≡ put b t → u ≡ put_all (bs ++ (b ∷ [])) s

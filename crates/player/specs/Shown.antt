@@ -3,17 +3,17 @@ use Rattle.std.specs.Prelude.{Bool, cond, List, [], ◌∷◌, ◌++◌, ℕ, su
 use Rattle.base.specs.Text.{bytes}
 use Rattle.record.specs.Bits.{bit_at}
 use Rattle.record.specs.Bytes.{words_of}
-use Rattle.record.specs.Blank.{blank-record}
+use Rattle.record.specs.Blank.{blank_record}
 use Rattle.record.specs.declared.Record.{Record}
-use Rattle.table.specs.Steps.{step_of, finished-of, offer-of, offer-left}
+use Rattle.table.specs.Steps.{step_of, finished_of, offer_of, offer_left}
 use Rattle.table.specs.declared.Answer.{Answer}
 use Rattle.table.specs.declared.Answer.TheVariants.{Done, Refused}
 use Rattle.table.specs.declared.Finish.{Finish}
 use Rattle.table.specs.declared.Finish.TheVariants.{No, Yes, Refused as FinishRefused}
 use Rattle.table.specs.declared.Stepped.{Stepped}
-use Rattle.output.specs.Lines.{refused-line}
-use Rattle.said.specs.Lines.{lines, first, event-lines}
-use Rattle.said.specs.Said.{event-said}
+use Rattle.output.specs.Lines.{refused_line}
+use Rattle.said.specs.Lines.{lines, first, event_lines}
+use Rattle.said.specs.Said.{event_said}
 
 -- An event's line in brackets, after a space; or nothing.
 abbrev pub item : Bool → List ℕ → List ℕ
@@ -25,43 +25,43 @@ chosen [] bits e = []
 chosen (l ∷ ls) bits e = item (bit_at bits e) l ++ chosen ls bits (suc e)
 
 -- A line: a word, and the events of a listing whose bits are set.
-unfoldable pub events-line : List ℕ → List ℕ → List ℕ → List ℕ
-events-line word listing bits = (word ++ chosen (event-lines listing) bits 0) ++ bytes "\n"
+unfoldable pub events_line : List ℕ → List ℕ → List ℕ → List ℕ
+events_line word listing bits = (word ++ chosen (event_lines listing) bits 0) ++ bytes "\n"
 
 -- The words of what a step would take; none are set where the offer is refused.
-unfoldable pub next-bits : List ℕ → Record → List ℕ
-next-bits table r = words_of (offer-left table r (replicate 64 0) (offer-of table r (replicate 64 0)))
+unfoldable pub next_bits : List ℕ → Record → List ℕ
+next_bits table r = words_of (offer_left table r (replicate 64 0) (offer_of table r (replicate 64 0)))
 
 -- `bits` and the events whose control bits are set, `next` and the events that may come next.
-unfoldable pub state-text : List ℕ → List ℕ → Record → List ℕ
-state-text listing table r = events-line (bytes "bits") listing r.bits ++ events-line (bytes "next") listing (next-bits table r)
+unfoldable pub state_text : List ℕ → List ℕ → Record → List ℕ
+state_text listing table r = events_line (bytes "bits") listing r.bits ++ events_line (bytes "next") listing (next_bits table r)
 
 -- `done`, or `refused`, number and place.
-abbrev pub answer-text : Answer → List ℕ
-answer-text Done = bytes "done\n"
-answer-text (Refused number place) = refused-line number place
+abbrev pub answer_text : Answer → List ℕ
+answer_text Done = bytes "done\n"
+answer_text (Refused number place) = refused_line number place
 
 -- What was said, and the answer to it.
-unfoldable pub answer-line : List ℕ → Answer → List ℕ
-answer-line said a = said ++ (bytes ": " ++ answer-text a)
+unfoldable pub answer_line : List ℕ → Answer → List ℕ
+answer_line said a = said ++ (bytes ": " ++ answer_text a)
 
 -- What was said, the answer to it, and the state after it.
-unfoldable pub stepped-text : List ℕ → List ℕ → List ℕ → Stepped → List ℕ
-stepped-text listing table said s = answer-line said s.answer ++ state-text listing table s.after
+unfoldable pub stepped_text : List ℕ → List ℕ → List ℕ → Stepped → List ℕ
+stepped_text listing table said s = answer_line said s.answer ++ state_text listing table s.after
 
 -- A step with the event that is said.
-unfoldable pub said-step : List ℕ → List ℕ → Record → List ℕ → Stepped
-said-step listing table before said = step_of table before (event-said listing said)
+unfoldable pub said_step : List ℕ → List ℕ → Record → List ℕ → Stepped
+said_step listing table before said = step_of table before (event_said listing said)
 
 -- The listing's first line, and the state of the blank record.
-unfoldable pub opening-text : List ℕ → List ℕ → List ℕ
-opening-text listing table = (first (lines listing) ++ bytes "\n") ++ state-text listing table blank-record
+unfoldable pub opening_text : List ℕ → List ℕ → List ℕ
+opening_text listing table = (first (lines listing) ++ bytes "\n") ++ state_text listing table blank_record
 
 -- `finished` or `not finished`.
-abbrev pub finish-text : Finish → List ℕ
-finish-text Yes = bytes "finished\n"
-finish-text No = bytes "not finished\n"
-finish-text (FinishRefused number place) = refused-line number place
+abbrev pub finish_text : Finish → List ℕ
+finish_text Yes = bytes "finished\n"
+finish_text No = bytes "not finished\n"
+finish_text (FinishRefused number place) = refused_line number place
 
-unfoldable pub closing-text : List ℕ → Record → List ℕ
-closing-text table r = finish-text (finished-of table r)
+unfoldable pub closing_text : List ℕ → Record → List ℕ
+closing_text table r = finish_text (finished_of table r)

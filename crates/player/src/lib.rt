@@ -1,6 +1,6 @@
 ghost use Rattle.std.specs.Prelude.{◌≡◌};
 ghost use Rattle.output.specs.Buffer.{buffer, put_all};
-ghost use Rattle.player.specs.Shown.{item as item_of, events-line as events-line-of, next-bits as next-bits-of, state-text, answer-line as answer-line-of, stepped-text, said-step, opening-text, closing-text};
+ghost use Rattle.player.specs.Shown.{item as item_of, events_line as events_line_of, next_bits as next_bits_of, state_text, answer_line as answer_line_of, stepped_text, said_step, opening_text, closing_text};
 
 use record::Record;
 use table::{Answer, Finish};
@@ -26,7 +26,7 @@ fn item(out: &mut [u8], at: usize, there: bool, line: &[u8]) -> usize
 
 // A line: a word, and the events of a listing whose bits are set.
 fn events_line(word: &[u8], listing: &[u8], bits: &[u64; 8], out: &mut [u8], from: usize) -> usize
-    ensures { buffer result out.new ≡ put_all (events-line-of word.now listing.now bits.now) (buffer from out.old) }
+    ensures { buffer result out.new ≡ put_all (events_line_of word.now listing.now bits.now) (buffer from out.old) }
 {
     let mut n = output::bytes(out, from, word);
     let mut at = said::line_end(listing, 0) + 1;
@@ -43,7 +43,7 @@ fn events_line(word: &[u8], listing: &[u8], bits: &[u64; 8], out: &mut [u8], fro
 
 // A bit for each event that may come next; none is set where the offer is refused.
 fn next_bits(table: &[u8], r: Record) -> [u64; 8]
-    ensures { result ≡ next-bits-of table.now r }
+    ensures { result ≡ next_bits_of table.now r }
 {
     let mut offered = [0u8; 64];
     table::offer(table, r, &mut offered);
@@ -52,7 +52,7 @@ fn next_bits(table: &[u8], r: Record) -> [u64; 8]
 
 // The control bits that are set, and what may come next.
 fn state_lines(listing: &[u8], table: &[u8], r: Record, out: &mut [u8], at: usize) -> usize
-    ensures { buffer result out.new ≡ put_all (state-text listing.now table.now r) (buffer at out.old) }
+    ensures { buffer result out.new ≡ put_all (state_text listing.now table.now r) (buffer at out.old) }
 {
     let bits = r.bits;
     let next = next_bits(table, r);
@@ -62,7 +62,7 @@ fn state_lines(listing: &[u8], table: &[u8], r: Record, out: &mut [u8], at: usiz
 
 // What was said, and the answer to it.
 fn answer_line(said: &[u8], answer: Answer, out: &mut [u8]) -> usize
-    ensures { buffer result out.new ≡ put_all (answer-line-of said.now answer) (buffer 0 out.old) }
+    ensures { buffer result out.new ≡ put_all (answer_line_of said.now answer) (buffer 0 out.old) }
 {
     let a = output::bytes(out, 0, said);
     let b = output::bytes(out, a, b": ");
@@ -75,8 +75,8 @@ fn answer_line(said: &[u8], answer: Answer, out: &mut [u8]) -> usize
 // Takes the event that is said, by its number or by what the listing calls it, and shows the answer, the control bits that are set and what may come next; as far
 // as `out` goes.
 pub fn turn(listing: &[u8], table: &[u8], before: Record, said: &[u8], out: &mut [u8]) -> Played
-    ensures out_after { buffer result.count out.new ≡ put_all (stepped-text listing.now table.now said.now (said-step listing.now table.now before said.now)) (buffer 0 out.old) }
-    ensures after_value { result.after ≡ (said-step listing.now table.now before said.now).after }
+    ensures out_after { buffer result.count out.new ≡ put_all (stepped_text listing.now table.now said.now (said_step listing.now table.now before said.now)) (buffer 0 out.old) }
+    ensures after_value { result.after ≡ (said_step listing.now table.now before said.now).after }
 {
     let event = said::event(listing, said);
     let stepped = table::step(table, before, event as u64);
@@ -89,7 +89,7 @@ pub fn turn(listing: &[u8], table: &[u8], before: Record, said: &[u8], out: &mut
 
 // What is shown before the first event.
 pub fn opening(listing: &[u8], table: &[u8], out: &mut [u8]) -> usize
-    ensures { buffer result out.new ≡ put_all (opening-text listing.now table.now) (buffer 0 out.old) }
+    ensures { buffer result out.new ≡ put_all (opening_text listing.now table.now) (buffer 0 out.old) }
 {
     let end = said::line_end(listing, 0);
     let a = output::bytes(out, 0, &listing[..end]);
@@ -100,7 +100,7 @@ pub fn opening(listing: &[u8], table: &[u8], out: &mut [u8]) -> usize
 
 // What is shown after the last event: whether the run is finished.
 pub fn closing(table: &[u8], r: Record, out: &mut [u8]) -> usize
-    ensures { buffer result out.new ≡ put_all (closing-text table.now r) (buffer 0 out.old) }
+    ensures { buffer result out.new ≡ put_all (closing_text table.now r) (buffer 0 out.old) }
 {
     let finish = table::finished(table, r);
     match finish {

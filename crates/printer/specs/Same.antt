@@ -7,25 +7,25 @@ use Rattle.diagram.specs.declared.Node.{Node}
 use Rattle.diagram.specs.declared.Diagram.{Diagram}
 use Rattle.reading.specs.Answers.{read_of}
 use Rattle.reading.specs.Accepted.{Accepted}
-use Rattle.reading.specs.Shows.{shown-nodes, Shows}
+use Rattle.reading.specs.Shows.{shown_nodes, Shows}
 use Rattle.reading.specs.declared.Answer.TheVariants.{Done}
-use Rattle.printer.specs.Prints.{print-of, left_by}
+use Rattle.printer.specs.Prints.{print_of, left_by}
 use Rattle.printer.specs.Reports.{report}
 use Rattle.printer.specs.declared.Printed.{Printed}
 use Rattle.printer.specs.declared.Printed.TheVariants.{Bytes, Refused}
 
 -- A diagram by value without its places: a node tells where its keyword and its name stand in the text, and without the blanks they stand elsewhere. Nothing
--- else is left out: `printer.proofs.Same.only-places`.
-abbrev pub unplaced-node : Node → Node
-unplaced-node n = record { kind = n.kind; solid = n.solid; strong = n.strong; depth = n.depth; at = 0; name = 0 }
+-- else is left out: `printer.proofs.Same.only_places`.
+abbrev pub unplaced_node : Node → Node
+unplaced_node n = record { kind = n.kind; solid = n.solid; strong = n.strong; depth = n.depth; at = 0; name = 0 }
 
 unfoldable pub unplaced : Diagram → Diagram
-unplaced g = record { nodes = map unplaced-node g.nodes; count = g.count; copies = g.copies; events = g.events }
+unplaced g = record { nodes = map unplaced_node g.nodes; count = g.count; copies = g.copies; events = g.events }
 
 -- Two texts have the same diagram, places aside: nodes and counts are equal but for the places, and so are the names that stand at those places.
 pub record Same (s : List ℕ) (g : Diagram) (t : List ℕ) (h : Diagram) : Type 0 where
   pub nodes : unplaced g ≡ unplaced h
-  pub names : shown-nodes s g ≡ shown-nodes t h
+  pub names : shown_nodes s g ≡ shown_nodes t h
 
 -- The bytes that an answer says were written: the front of those that the call left.
 abbrev pub written : Printed → List ℕ → List ℕ
@@ -33,16 +33,16 @@ written (Bytes n) left = take n left
 written (Refused number place) left = []
 
 abbrev pub wrote : List ℕ → List ℕ → List ℕ
-wrote text lent = written (print-of text lent) (left_by text lent (print-of text lent))
+wrote text lent = written (print_of text lent) (left_by text lent (print_of text lent))
 
 -- "printing and reading again yields that diagram": what was written, read, is done, with the same diagram; both show the one tree.
 pub record Again (text lent : List ℕ) (d : Flow) : Type 0 where
-  pub reported : report (print-of text lent) ≡ result (length (wrote text lent) ∷ [])
+  pub reported : report (print_of text lent) ≡ result (length (wrote text lent) ∷ [])
   pub accepted : Accepted (wrote text lent) d
   pub done : (read_of (wrote text lent)).answer ≡ Done
   pub same : Same (wrote text lent) (read_of (wrote text lent)).diagram text (read_of text).diagram
   pub shows : Shows text d (read_of text).diagram
-  pub shows-again : Shows (wrote text lent) d (read_of (wrote text lent)).diagram
+  pub shows_again : Shows (wrote text lent) d (read_of (wrote text lent)).diagram
 
 -- "two accepted texts print alike exactly if their diagrams are equal", over any two buffers; and then the diagrams that were read are the same.
 pub record Alike (s lent : List ℕ) (d : Flow) (t owed : List ℕ) (e : Flow) : Type 0 where

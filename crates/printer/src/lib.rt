@@ -3,7 +3,7 @@ ghost use Rattle.base.specs.Fill.{fill};
 ghost use Rattle.lexer.specs.Lexicon.{Lexicon};
 ghost use Rattle.grammar.specs.Printed.{printed};
 ghost use Rattle.reading.specs.declared.Answer.TheVariants.{Done};
-ghost use Rattle.printer.specs.Prints.{print-answer, print-of, left_by};
+ghost use Rattle.printer.specs.Prints.{print_answer, print_of, left_by};
 ghost use Rattle.printer.specs.code.Over.{over};
 ghost use Rattle.printer.specs.code.PassedOn.{passed_on};
 
@@ -62,8 +62,8 @@ fn passed_on(answer: Answer) -> Printed
 // The answer to a text by what reading it answered.
 fn print_read(text: &[u8], out: &mut [u8], answer: Answer, lexicon: &[u8; 400]) -> Printed
     requires { Lexicon lexicon.now × (answer ≡ Done → length text.now ≤ length out.old) }
-    ensures value { result ≡ print-answer text.now answer }
-    ensures out_after { out.new ≡ left_by text.now out.old (print-answer text.now answer) }
+    ensures value { result ≡ print_answer text.now answer }
+    ensures out_after { out.new ≡ left_by text.now out.old (print_answer text.now answer) }
 {
     let Answer::Done = answer else {
         return passed_on(answer);
@@ -74,8 +74,8 @@ fn print_read(text: &[u8], out: &mut [u8], answer: Answer, lexicon: &[u8; 400]) 
 // The text without its blanks, or the refusal: 1 for a buffer of under 16,384 bytes, and then reading's. A refused text leaves the buffer as
 // it was; bytes past those written stay.
 pub fn print(text: &[u8], out: &mut [u8]) -> Printed
-    ensures value { result ≡ print-of text.now out.old }
-    ensures out_after { out.new ≡ left_by text.now out.old (print-of text.now out.old) }
+    ensures value { result ≡ print_of text.now out.old }
+    ensures out_after { out.new ≡ left_by text.now out.old (print_of text.now out.old) }
 {
     if out.len() < 16384 {
         return Printed::Refused(1, 0);

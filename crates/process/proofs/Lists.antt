@@ -5,32 +5,32 @@ use mathlib.Core.Bool.{Bool, true, false, ◌||◌, true≢false, or_comm}
 use mathlib.Core.List.{List, [], ◌∷◌, ◌++◌, append-nil, reverse, reverse-append, reverse-reverse, concat-ne-nil, cons≢nil, head-eq_of_cons-eq, tail-eq_of_cons-eq}
 use mathlib.Mathlib.Data.List.Basic.{eq-nil-or-concat'}
 use Prim.Native.Nat.{ℕ}
-use Rattle.base.proofs.Truth.{cases, is_false, or_l, or_r, or-e}
+use Rattle.base.proofs.Truth.{cases, is_false, or_l, or_r, or_e}
 use Rattle.process.specs.Runs.{All, Mix, done, left, right}
 
-abbrev cons-eq : {x y : ℕ} {u v : List ℕ} → x ≡ y → u ≡ v → x ∷ u ≡ y ∷ v
-cons-eq p q = ap₂ (λ (a : ℕ) (l : List ℕ). a ∷ l) p q
+abbrev cons_eq : {x y : ℕ} {u v : List ℕ} → x ≡ y → u ≡ v → x ∷ u ≡ y ∷ v
+cons_eq p q = ap₂ (λ (a : ℕ) (l : List ℕ). a ∷ l) p q
 
 -- Has it an element?
 abbrev pub filled : List ℕ → Bool
 filled [] = false
 filled (x ∷ w) = true
 
-pub filled-nil : (w : List ℕ) → filled w ≡ false → w ≡ []
-filled-nil [] e = refl
-filled-nil (x ∷ w) e = absurd (true≢false e)
+pub filled_nil : (w : List ℕ) → filled w ≡ false → w ≡ []
+filled_nil [] e = refl
+filled_nil (x ∷ w) e = absurd (true≢false e)
 
 pub filled_of : (w : List ℕ) → (w ≡ [] → ⊥) → filled w ≡ true
 filled_of [] n = absurd (n refl)
 filled_of (x ∷ w) n = refl
 
-pub filled-append : (u v : List ℕ) → filled (u ++ v) ≡ (filled u || filled v)
-filled-append [] v = refl
-filled-append (x ∷ u) v = refl
+pub filled_append : (u v : List ℕ) → filled (u ++ v) ≡ (filled u || filled v)
+filled_append [] v = refl
+filled_append (x ∷ u) v = refl
 
-pub filled-snoc : (u : List ℕ) (e : ℕ) → filled (u ++ (e ∷ [])) ≡ true
-filled-snoc [] e = refl
-filled-snoc (x ∷ u) e = refl
+pub filled_snoc : (u : List ℕ) (e : ℕ) → filled (u ++ (e ∷ [])) ≡ true
+filled_snoc [] e = refl
+filled_snoc (x ∷ u) e = refl
 
 pub snoc≢nil : (u : List ℕ) (e : ℕ) → u ++ (e ∷ []) ≡ [] → ⊥
 snoc≢nil u e = concat-ne-nil e u
@@ -48,15 +48,15 @@ cut (y ∷ w) x (z ∷ a) c e = up (cut w x a c (tail-eq_of_cons-eq e))
     h = head-eq_of_cons-eq e
 
     up : Cut w x a c → Cut (y ∷ w) x (z ∷ a) c
-    up (inl d) = inl (d.0, cons-eq (sym h) d.1, d.2)
-    up (inr d) = inr (d.0, cons-eq h d.1, d.2)
+    up (inl d) = inl (d.0, cons_eq (sym h) d.1, d.2)
+    up (inr d) = inr (d.0, cons_eq h d.1, d.2)
 
 -- A list is empty or ends in an element.
 pub last : (w : List ℕ) → (w ≡ []) ⊎ ((u : List ℕ) × (e : ℕ) × (w ≡ u ++ (e ∷ [])))
 last = eq-nil-or-concat'
 
-pub snoc-eq : (u v : List ℕ) (a b : ℕ) → u ++ (a ∷ []) ≡ v ++ (b ∷ []) → (u ≡ v) × (a ≡ b)
-snoc-eq u v a b e =
+pub snoc_eq : (u v : List ℕ) (a b : ℕ) → u ++ (a ∷ []) ≡ v ++ (b ∷ []) → (u ≡ v) × (a ≡ b)
+snoc_eq u v a b e =
     let r : a ∷ reverse u ≡ b ∷ reverse v = sym (reverse-append u (a ∷ [])) ∙ (ap reverse e ∙ reverse-append v (b ∷ [])) in
     (sym (reverse-reverse u) ∙ (ap reverse (tail-eq_of_cons-eq r) ∙ reverse-reverse v), head-eq_of_cons-eq r)
 
@@ -81,8 +81,8 @@ all_map f (x ∷ w) h = (f x h.0, all_map f w h.1)
 abbrev pub Apart : (ℕ → Bool) → (ℕ → Bool) → Type 0
 Apart I J = (e : ℕ) → I e ≡ true → J e ≡ true → ⊥
 
-pub apart-sym : {I J : ℕ → Bool} → Apart I J → Apart J I
-apart-sym d e h k = d e k h
+pub apart_sym : {I J : ℕ → Bool} → Apart I J → Apart J I
+apart_sym d e h k = d e k h
 
 -- What of a list passes a test.
 abbrev pub keep : Bool → ℕ → List ℕ → List ℕ
@@ -93,79 +93,79 @@ abbrev pub only : (ℕ → Bool) → List ℕ → List ℕ
 only I [] = []
 only I (x ∷ w) = keep (I x) x (only I w)
 
-pub only-append : (I : ℕ → Bool) (u v : List ℕ) → only I (u ++ v) ≡ only I u ++ only I v
-only-append I [] v = refl
-only-append I (x ∷ u) v = go (only-append I u v) (I x)
+pub only_append : (I : ℕ → Bool) (u v : List ℕ) → only I (u ++ v) ≡ only I u ++ only I v
+only_append I [] v = refl
+only_append I (x ∷ u) v = go (only_append I u v) (I x)
   where
     go : only I (u ++ v) ≡ only I u ++ only I v → (b : Bool) → keep b x (only I (u ++ v)) ≡ keep b x (only I u) ++ only I v
     go ih true = ap (λ (l : List ℕ). x ∷ l) ih
     go ih false = ih
 
-pub only-all : (I : ℕ → Bool) (w : List ℕ) → All I w → only I w ≡ w
-only-all I [] h = refl
-only-all I (x ∷ w) h = rw (h.0, only-all I w h.1)
+pub only_all : (I : ℕ → Bool) (w : List ℕ) → All I w → only I w ≡ w
+only_all I [] h = refl
+only_all I (x ∷ w) h = rw (h.0, only_all I w h.1)
 
 pub only_none : (I J : ℕ → Bool) → Apart I J → (w : List ℕ) → All J w → only I w ≡ []
 only_none I J d [] h = refl
 only_none I J d (x ∷ w) h = rw (is_false (I x) (λ p. d x p h.0), only_none I J d w h.1)
 
-pub only-snoc-in : (I : ℕ → Bool) (w : List ℕ) (e : ℕ) → I e ≡ true → only I (w ++ (e ∷ [])) ≡ only I w ++ (e ∷ [])
-only-snoc-in I w e h = rw (only-append I w (e ∷ []), h)
+pub only_snoc_in : (I : ℕ → Bool) (w : List ℕ) (e : ℕ) → I e ≡ true → only I (w ++ (e ∷ [])) ≡ only I w ++ (e ∷ [])
+only_snoc_in I w e h = rw (only_append I w (e ∷ []), h)
 
-pub only-snoc-out : (I : ℕ → Bool) (w : List ℕ) (e : ℕ) → I e ≡ false → only I (w ++ (e ∷ [])) ≡ only I w
-only-snoc-out I w e h = rw (only-append I w (e ∷ []), h) (append-nil (only I w))
+pub only_snoc_out : (I : ℕ → Bool) (w : List ℕ) (e : ℕ) → I e ≡ false → only I (w ++ (e ∷ [])) ≡ only I w
+only_snoc_out I w e h = rw (only_append I w (e ∷ []), h) (append-nil (only I w))
 
 -- The tests of two parts.
 abbrev pub union : (ℕ → Bool) → (ℕ → Bool) → ℕ → Bool
 union I J x = I x || J x
 
-pub all-in-l : (I J : ℕ → Bool) (w : List ℕ) → All I w → All (union I J) w
-all-in-l I J w h = all_map (λ x k. or_l (J x) k) w h
+pub all_in_l : (I J : ℕ → Bool) (w : List ℕ) → All I w → All (union I J) w
+all_in_l I J w h = all_map (λ x k. or_l (J x) k) w h
 
-pub all-in-r : (I J : ℕ → Bool) (w : List ℕ) → All J w → All (union I J) w
-all-in-r I J w h = all_map (λ x k. or_r (I x) k) w h
+pub all_in_r : (I J : ℕ → Bool) (w : List ℕ) → All J w → All (union I J) w
+all_in_r I J w h = all_map (λ x k. or_r (I x) k) w h
 
-pub all-swap : (I J : ℕ → Bool) (w : List ℕ) → All (union I J) w → All (union J I) w
-all-swap I J w h = all_map (λ x k. or_comm (J x) (I x) ∙ k) w h
+pub all_swap : (I J : ℕ → Bool) (w : List ℕ) → All (union I J) w → All (union J I) w
+all_swap I J w h = all_map (λ x k. or_comm (J x) (I x) ∙ k) w h
 
 -- Interleavings.
-pub mix-append : (u v : List ℕ) → Mix u v (u ++ v)
-mix-append [] [] = done
-mix-append [] (x ∷ v) = right (mix-append [] v)
-mix-append (x ∷ u) v = left (mix-append u v)
+pub mix_append : (u v : List ℕ) → Mix u v (u ++ v)
+mix_append [] [] = done
+mix_append [] (x ∷ v) = right (mix_append [] v)
+mix_append (x ∷ u) v = left (mix_append u v)
 
 pub mix_all : (I J : ℕ → Bool) {u v w : List ℕ} → Mix u v w → All I u → All J v → All (union I J) w
 mix_all I J done h k = tt
 mix_all I J (left {x} r) h k = (or_l (J x) h.0, mix_all I J r h.1 k)
 mix_all I J (right {x} r) h k = (or_r (I x) k.0, mix_all I J r h k.1)
 
-pub mix-nil : {u v w : List ℕ} → Mix u v w → w ≡ [] → (u ≡ []) × (v ≡ [])
-mix-nil done e = (refl, refl)
-mix-nil (left r) e = absurd (cons≢nil e)
-mix-nil (right r) e = absurd (cons≢nil e)
+pub mix_nil : {u v w : List ℕ} → Mix u v w → w ≡ [] → (u ≡ []) × (v ≡ [])
+mix_nil done e = (refl, refl)
+mix_nil (left r) e = absurd (cons≢nil e)
+mix_nil (right r) e = absurd (cons≢nil e)
 
-pub mix-all-l : {u v w : List ℕ} → Mix u v w → v ≡ [] → u ≡ w
-mix-all-l done e = refl
-mix-all-l (left {x} r) e = ap (λ (l : List ℕ). x ∷ l) (mix-all-l r e)
-mix-all-l (right r) e = absurd (cons≢nil e)
+pub mix_all_l : {u v w : List ℕ} → Mix u v w → v ≡ [] → u ≡ w
+mix_all_l done e = refl
+mix_all_l (left {x} r) e = ap (λ (l : List ℕ). x ∷ l) (mix_all_l r e)
+mix_all_l (right r) e = absurd (cons≢nil e)
 
-pub mix-sym : {u v w : List ℕ} → Mix u v w → Mix v u w
-mix-sym done = done
-mix-sym (left m) = right (mix-sym m)
-mix-sym (right m) = left (mix-sym m)
+pub mix_sym : {u v w : List ℕ} → Mix u v w → Mix v u w
+mix_sym done = done
+mix_sym (left m) = right (mix_sym m)
+mix_sym (right m) = left (mix_sym m)
 
-pub mix-l : (I J : ℕ → Bool) → Apart I J → {u v w : List ℕ} → Mix u v w → All I u → All J v → only I w ≡ u
-mix-l I J d done h k = refl
-mix-l I J d (left {x} r) h k = rw (h.0, mix-l I J d r h.1 k)
-mix-l I J d (right {x} r) h k = rw (is_false (I x) (λ p. d x p k.0), mix-l I J d r h k.1)
+pub mix_l : (I J : ℕ → Bool) → Apart I J → {u v w : List ℕ} → Mix u v w → All I u → All J v → only I w ≡ u
+mix_l I J d done h k = refl
+mix_l I J d (left {x} r) h k = rw (h.0, mix_l I J d r h.1 k)
+mix_l I J d (right {x} r) h k = rw (is_false (I x) (λ p. d x p k.0), mix_l I J d r h k.1)
 
-pub mix-r : (I J : ℕ → Bool) → Apart I J → {u v w : List ℕ} → Mix u v w → All I u → All J v → only J w ≡ v
-mix-r I J d m h k = mix-l J I (apart-sym d) (mix-sym m) k h
+pub mix_r : (I J : ℕ → Bool) → Apart I J → {u v w : List ℕ} → Mix u v w → All I u → All J v → only J w ≡ v
+mix_r I J d m h k = mix_l J I (apart_sym d) (mix_sym m) k h
 
 -- A list whose elements are of the two parts is an interleaving of them.
-pub mix-make : (I J : ℕ → Bool) → Apart I J → (w : List ℕ) → All (union I J) w → Mix (only I w) (only J w) w
-mix-make I J d [] h = done
-mix-make I J d (x ∷ w) h = go (mix-make I J d w h.1) (cases (I x))
+pub mix_make : (I J : ℕ → Bool) → Apart I J → (w : List ℕ) → All (union I J) w → Mix (only I w) (only J w) w
+mix_make I J d [] h = done
+mix_make I J d (x ∷ w) h = go (mix_make I J d w h.1) (cases (I x))
   where
     go : Mix (only I w) (only J w) w → (I x ≡ true) ⊎ (I x ≡ false) → Mix (keep (I x) x (only I w)) (keep (J x) x (only J w)) (x ∷ w)
     go r (inl p) = rw (p, is_false (J x) (λ q. d x p q)) (left r)
@@ -173,9 +173,9 @@ mix-make I J d (x ∷ w) h = go (mix-make I J d w h.1) (cases (I x))
         let q : J x ≡ true = rw p at h.0 in
         rw (p, q) (right r)
 
-pub filled-only : (I J : ℕ → Bool) (w : List ℕ) → All (union I J) w → (filled (only I w) || filled (only J w)) ≡ filled w
-filled-only I J [] h = refl
-filled-only I J (x ∷ w) h = go (or-e (I x) (J x) h.0)
+pub filled_only : (I J : ℕ → Bool) (w : List ℕ) → All (union I J) w → (filled (only I w) || filled (only J w)) ≡ filled w
+filled_only I J [] h = refl
+filled_only I J (x ∷ w) h = go (or_e (I x) (J x) h.0)
   where
     go : (I x ≡ true) ⊎ (J x ≡ true) → (filled (keep (I x) x (only I w)) || filled (keep (J x) x (only J w))) ≡ true
     go (inl p) = rw p

@@ -11,17 +11,17 @@ use Rattle.base.proofs.Truth.{cases}
 use Rattle.process.specs.Once.{Occurs, times}
 
 -- Counted once, it stands somewhere; counted twice, it stands somewhere and again after that.
-once-at : (x : ℕ) (w : List ℕ) → 1 ≤ times x w → (u : List ℕ) × (v : List ℕ) × (w ≡ u ++ (x ∷ v))
-once-at x [] h = let z : ⊥ = omega arith in absurd z
-once-at x (y ∷ w) h = go (once-at x w) (cases (eqb x y))
+once_at : (x : ℕ) (w : List ℕ) → 1 ≤ times x w → (u : List ℕ) × (v : List ℕ) × (w ≡ u ++ (x ∷ v))
+once_at x [] h = let z : ⊥ = omega arith in absurd z
+once_at x (y ∷ w) h = go (once_at x w) (cases (eqb x y))
   where
     go : (1 ≤ times x w → (u : List ℕ) × (v : List ℕ) × (w ≡ u ++ (x ∷ v))) → (eqb x y ≡ true) ⊎ (eqb x y ≡ false) → (u : List ℕ) × (v : List ℕ) × (y ∷ w ≡ u ++ (x ∷ v))
     go ih (inl k) = ([], w, rw (eqb-true x y k))
     go ih (inr k) = let i = ih (rw k at h) in (y ∷ i.0, i.1, ap (λ (l : List ℕ). y ∷ l) i.2)
 
-pub twice-at : (x : ℕ) (w : List ℕ) → 2 ≤ times x w → (u : List ℕ) × (v : List ℕ) × (t : List ℕ) × (w ≡ u ++ (x ∷ (v ++ (x ∷ t))))
-twice-at x [] h = let z : ⊥ = omega arith in absurd z
-twice-at x (y ∷ w) h = go (twice-at x w) (cases (eqb x y))
+pub twice_at : (x : ℕ) (w : List ℕ) → 2 ≤ times x w → (u : List ℕ) × (v : List ℕ) × (t : List ℕ) × (w ≡ u ++ (x ∷ (v ++ (x ∷ t))))
+twice_at x [] h = let z : ⊥ = omega arith in absurd z
+twice_at x (y ∷ w) h = go (twice_at x w) (cases (eqb x y))
   where
     push : (u : List ℕ) × (v : List ℕ) × (t : List ℕ) × (w ≡ u ++ (x ∷ (v ++ (x ∷ t)))) → (u : List ℕ) × (v : List ℕ) × (t : List ℕ) × (y ∷ w ≡ u ++ (x ∷ (v ++ (x ∷ t))))
     push (u, v, t, e) = (y ∷ u, v, t, ap (λ (l : List ℕ). y ∷ l) e)
@@ -30,24 +30,24 @@ twice-at x (y ∷ w) h = go (twice-at x w) (cases (eqb x y))
         → (u : List ℕ) × (v : List ℕ) × (t : List ℕ) × (y ∷ w ≡ u ++ (x ∷ (v ++ (x ∷ t))))
     go ih (inl k) =
         let a : 2 ≤ 1 + times x w = rw k at h in
-        let i = once-at x w (omega arith) in
+        let i = once_at x w (omega arith) in
         ([], i.0, i.1, rw (← eqb-true x y k, ← i.2))
     go ih (inr k) = push (ih (rw k at h))
 
-times-append : (x : ℕ) (u v : List ℕ) → times x (u ++ v) ≡ times x u + times x v
-times-append x [] v = let z : 0 + times x v ≡ times x v = omega arith in rw z
-times-append x (y ∷ u) v = go (times-append x u v) (cases (eqb x y))
+times_append : (x : ℕ) (u v : List ℕ) → times x (u ++ v) ≡ times x u + times x v
+times_append x [] v = let z : 0 + times x v ≡ times x v = omega arith in rw z
+times_append x (y ∷ u) v = go (times_append x u v) (cases (eqb x y))
   where
     go : times x (u ++ v) ≡ times x u + times x v → (eqb x y ≡ true) ⊎ (eqb x y ≡ false) → times x (y ∷ (u ++ v)) ≡ times x (y ∷ u) + times x v
     go ih (inl k) = rw k (omega arith)
     go ih (inr k) = rw k ih
 
-times-here : (x : ℕ) (w : List ℕ) → times x (x ∷ w) ≡ 1 + times x w
-times-here x w = rw (eq-eqb x x refl)
+times_here : (x : ℕ) (w : List ℕ) → times x (x ∷ w) ≡ 1 + times x w
+times_here x w = rw (eq-eqb x x refl)
 
 -- It occurs where the list can be cut before it,
-pub occurs-at : (x : ℕ) (w : List ℕ) → Occurs x w ↔ ((u : List ℕ) × (v : List ℕ) × (w ≡ u ++ (x ∷ v)))
-occurs-at x w = (to w, λ (u, v, e). rw e (from u v))
+pub occurs_at : (x : ℕ) (w : List ℕ) → Occurs x w ↔ ((u : List ℕ) × (v : List ℕ) × (w ≡ u ++ (x ∷ v)))
+occurs_at x w = (to w, λ (u, v, e). rw e (from u v))
   where
     to : (w : List ℕ) → Occurs x w → (u : List ℕ) × (v : List ℕ) × (w ≡ u ++ (x ∷ v))
     to [] o = absurd o
@@ -59,16 +59,16 @@ occurs-at x w = (to w, λ (u, v, e). rw e (from u v))
     from (y ∷ u) v = inr (from u v)
 
 -- that is, where it is counted;
-pub occurs-counted : (x : ℕ) (w : List ℕ) → Occurs x w ↔ (1 ≤ times x w)
-occurs-counted x w = (
-  λ o. let (u, v, e) = (occurs-at x w).0 o in rw (e, times-append x u (x ∷ v), times-here x v) (omega arith),
-  λ h. (occurs-at x w).1 (once-at x w h),
+pub occurs_counted : (x : ℕ) (w : List ℕ) → Occurs x w ↔ (1 ≤ times x w)
+occurs_counted x w = (
+  λ o. let (u, v, e) = (occurs_at x w).0 o in rw (e, times_append x u (x ∷ v), times_here x v) (omega arith),
+  λ h. (occurs_at x w).1 (once_at x w h),
 )
 
 -- and it occurs twice where it is counted twice.
-pub twice-counted : (x : ℕ) (w : List ℕ) → ((u : List ℕ) × (v : List ℕ) × (t : List ℕ) × (w ≡ u ++ (x ∷ (v ++ (x ∷ t))))) ↔ (2 ≤ times x w)
-twice-counted x w = (
+pub twice_counted : (x : ℕ) (w : List ℕ) → ((u : List ℕ) × (v : List ℕ) × (t : List ℕ) × (w ≡ u ++ (x ∷ (v ++ (x ∷ t))))) ↔ (2 ≤ times x w)
+twice_counted x w = (
   λ (u, v, t, e).
-      rw (e, times-append x u (x ∷ (v ++ (x ∷ t))), times-here x (v ++ (x ∷ t)), times-append x v (x ∷ t), times-here x t) (omega arith),
-  twice-at x w,
+      rw (e, times_append x u (x ∷ (v ++ (x ∷ t))), times_here x (v ++ (x ∷ t)), times_append x v (x ∷ t), times_here x t) (omega arith),
+  twice_at x w,
 )

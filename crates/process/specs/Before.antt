@@ -5,12 +5,12 @@ use Rattle.process.specs.Process.{Process, event, join, again, rounds}
 use Rattle.process.specs.Runs.{Runs, All, Rounds, Joined}
 
 -- It differs from `Runs.Whole` in a loop over a flow.
-unfoldable pub Whole-before : Process → Runs
-Whole-before (event n l) = λ w. w ≡ n ∷ []
-Whole-before (join j p q) = Joined j (Whole-before p) (Whole-before q)
-Whole-before (again n l) = All (eqb n)
+unfoldable pub WholeBefore : Process → Runs
+WholeBefore (event n l) = λ w. w ≡ n ∷ []
+WholeBefore (join j p q) = Joined j (WholeBefore p) (WholeBefore q)
+WholeBefore (again n l) = All (eqb n)
 -- "A loop over a flow: zero or more rounds, each a run of the flow and then the reset"
-Whole-before (rounds p r l) = Rounds (Whole-before p) r
+WholeBefore (rounds p r l) = Rounds (WholeBefore p) r
 
 -- The first list is the second with some elements left out, each of which passes the test.
 pub data LeavesOut (I : ℕ → Bool) : List ℕ → List ℕ → Type 0 where

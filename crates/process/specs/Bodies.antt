@@ -1,7 +1,7 @@
 -- The body of a loop over a flow, and what its reset clears. Document 01, "The run record and the table": "A reset also clears the bits
 -- of all events in its loop's body."
 use Rattle.std.specs.Prelude.{◌≡◌, ◌⊎◌, ◌↔◌, true, false, ℕ, ◌≤◌, ◌<◌}
-use Rattle.process.specs.Process.{Process, event, join, again, rounds, owns, event-of}
+use Rattle.process.specs.Process.{Process, event, join, again, rounds, owns, event_of}
 use Rattle.process.specs.Bits.{clears}
 
 -- The first event of a process: the leftmost, as numbers rise from the left to the right.
@@ -22,6 +22,6 @@ Body (rounds p r l) x b = ((r ≡ x) × (p ≡ b)) ⊎ Body p x b
 -- these are the ones from the body's first event up to the reset.
 abbrev pub Effect : Process → ℕ → Type 0
 Effect p x =
-    (((event-of p x).reset ≡ false) × ((i : ℕ) → clears p x i ≡ false))
-    ⊎ (((event-of p x).reset ≡ true) × (b : Process) × Body p x b × (first b < x) × ((i : ℕ) → clears p x i ≡ owns b i)
+    (((event_of p x).reset ≡ false) × ((i : ℕ) → clears p x i ≡ false))
+    ⊎ (((event_of p x).reset ≡ true) × (b : Process) × Body p x b × (first b < x) × ((i : ℕ) → clears p x i ≡ owns b i)
     × ((i : ℕ) → (clears p x i ≡ true) ↔ ((first b ≤ i) × (i < x))))

@@ -5,7 +5,7 @@ use Rattle.base.specs.Text.{bytes}
 use Rattle.diagram.specs.Tree.{Flow}
 use Rattle.diagram.specs.Drawings.{T, U, nested}
 use Rattle.process.specs.Process.{Event, events}
-use Rattle.process.specs.Expand.{expand, leaf-copy}
+use Rattle.process.specs.Expand.{expand, leaf_copy}
 
 pub record Listing : Type 0 where
   pub drawing : Flow
@@ -17,18 +17,18 @@ listings =
     record {
       drawing = nested;
       lines =
-          leaf-copy (bytes "a") (0 ∷ 0 ∷ []) ∷ leaf-copy (bytes "a") (0 ∷ 1 ∷ []) ∷ leaf-copy (bytes "b") (0 ∷ [])
-          ∷ leaf-copy (bytes "a") (1 ∷ 0 ∷ []) ∷ leaf-copy (bytes "a") (1 ∷ 1 ∷ []) ∷ leaf-copy (bytes "b") (1 ∷ []) ∷ leaf-copy (bytes "c") [] ∷ [];
+          leaf_copy (bytes "a") (0 ∷ 0 ∷ []) ∷ leaf_copy (bytes "a") (0 ∷ 1 ∷ []) ∷ leaf_copy (bytes "b") (0 ∷ [])
+          ∷ leaf_copy (bytes "a") (1 ∷ 0 ∷ []) ∷ leaf_copy (bytes "a") (1 ∷ 1 ∷ []) ∷ leaf_copy (bytes "b") (1 ∷ []) ∷ leaf_copy (bytes "c") [] ∷ [];
     }
     ∷ record {
       drawing = T;
       lines =
-          leaf-copy (bytes "take") [] ∷ leaf-copy (bytes "fill") [] ∷ leaf-copy (bytes "send") []
-          ∷ leaf-copy (bytes "drop") [] ∷ leaf-copy (bytes "free") [] ∷ [];
+          leaf_copy (bytes "take") [] ∷ leaf_copy (bytes "fill") [] ∷ leaf_copy (bytes "send") []
+          ∷ leaf_copy (bytes "drop") [] ∷ leaf_copy (bytes "free") [] ∷ [];
     }
     ∷ record {
       drawing = U;
-      lines = leaf-copy (bytes "a") [] ∷ leaf-copy (bytes "b") [] ∷ record { reset = true; name = bytes "r"; values = [] } ∷ leaf-copy (bytes "c") [] ∷ [];
+      lines = leaf_copy (bytes "a") [] ∷ leaf_copy (bytes "b") [] ∷ record { reset = true; name = bytes "r"; values = [] } ∷ leaf_copy (bytes "c") [] ∷ [];
     }
     ∷ []
 

@@ -2,9 +2,9 @@
 -- shows that the process of a diagram, which joins the parts two at a time, has these runs.
 use Rattle.std.specs.Prelude.{◌≡◌, List, [], ◌∷◌, ◌++◌, ℕ, zero, suc, ◌+◌, ◌*◌}
 use Rattle.diagram.specs.Tree.{Way, all, some, one, Children, none, next, Member, Members, end, also}
-use Rattle.diagram.specs.Count.{child-events, member-events}
+use Rattle.diagram.specs.Count.{child_events, member_events}
 use Rattle.process.specs.Process.{Process}
-use Rattle.process.specs.Expand.{child-process, member-process}
+use Rattle.process.specs.Expand.{child_process, member_process}
 use Rattle.process.specs.Runs.{Runs, Then, Both, Either, Whole}
 
 -- "a whole run of each child, in order"
@@ -38,16 +38,16 @@ Several some ps = SomeOf ps
 Several one ps = OneOf ps
 
 -- The children after the first, in a copy of the flow for the values `vs`, the first of their events being number `e`.
-unfoldable pub children-parts : Children → List ℕ → ℕ → List Process
-children-parts none vs e = []
-children-parts (next c r cs) vs e = child-process c vs e ∷ children-parts cs vs (e + child-events c)
+unfoldable pub children_parts : Children → List ℕ → ℕ → List Process
+children_parts none vs e = []
+children_parts (next c r cs) vs e = child_process c vs e ∷ children_parts cs vs (e + child_events c)
 
 -- The members after the second.
-unfoldable pub members-parts : Members → List ℕ → ℕ → List Process
-members-parts end vs e = []
-members-parts (also m ms) vs e = member-process m vs e ∷ members-parts ms vs (e + member-events m)
+unfoldable pub members_parts : Members → List ℕ → ℕ → List Process
+members_parts end vs e = []
+members_parts (also m ms) vs e = member_process m vs e ∷ members_parts ms vs (e + member_events m)
 
 -- "the copies for each value": `n` of them from the value `v` on.
-unfoldable pub copies-parts : Member → List ℕ → ℕ → ℕ → ℕ → List Process
-copies-parts m vs e v zero = []
-copies-parts m vs e v (suc n) = member-process m (vs ++ (v ∷ [])) (e + v * member-events m) ∷ copies-parts m vs e (suc v) n
+unfoldable pub copies_parts : Member → List ℕ → ℕ → ℕ → ℕ → List Process
+copies_parts m vs e v zero = []
+copies_parts m vs e v (suc n) = member_process m (vs ++ (v ∷ [])) (e + v * member_events m) ∷ copies_parts m vs e (suc v) n

@@ -12,35 +12,35 @@ use Rattle.base.proofs.Truth.{or_l, or_r}
 use Rattle.diagram.specs.TreeNodes.{copying}
 use Rattle.diagram.specs.declared.Node.{Node}
 use Rattle.columns.proofs.Filled.{counted}
-use Rattle.profile.specs.code.Profiles.{some-copies}
+use Rattle.profile.specs.code.Profiles.{some_copies}
 
-copies-append : (ms ns : List Node) → some-copies (ms ++ ns) ≡ (some-copies ms || some-copies ns)
-unfolding some-copies
-copies-append [] ns = refl
-copies-append (m ∷ ms) ns = ap (λ (b : Bool). copying m.kind || b) (copies-append ms ns) ∙ sym (or_assoc (copying m.kind) (some-copies ms) (some-copies ns))
+copies_append : (ms ns : List Node) → some_copies (ms ++ ns) ≡ (some_copies ms || some_copies ns)
+unfolding some_copies
+copies_append [] ns = refl
+copies_append (m ∷ ms) ns = ap (λ (b : Bool). copying m.kind || b) (copies_append ms ns) ∙ sym (or_assoc (copying m.kind) (some_copies ms) (some_copies ns))
 
 module _ (ns : List Node) (n : ℕ) (z : Node) (here : n < length ns) where
   -- Those before it, and it.
-  with-next : some-copies (take (n + 1) ns) ≡ (some-copies (take n ns) || copying (get_or ns n z).kind)
-  unfolding some-copies
-  with-next =
+  with_next : some_copies (take (n + 1) ns) ≡ (some_copies (take n ns) || copying (get_or ns n z).kind)
+  unfolding some_copies
+  with_next =
       rw (add-one n, take-suc ns n z here)
-      (copies-append (take n ns) (get_or ns n z ∷ []) ∙ ap (λ (b : Bool). some-copies (take n ns) || b) (or-false (copying (get_or ns n z).kind)))
+      (copies_append (take n ns) (get_or ns n z ∷ []) ∙ ap (λ (b : Bool). some_copies (take n ns) || b) (or-false (copying (get_or ns n z).kind)))
 
-  pub one_more : some-copies (take n ns) ≡ false → copying (get_or ns n z).kind ≡ false → some-copies (take (n + 1) ns) ≡ false
-  one_more h k = with-next ∙ ap₂ ◌||◌ h k
+  pub one_more : some_copies (take n ns) ≡ false → copying (get_or ns n z).kind ≡ false → some_copies (take (n + 1) ns) ≡ false
+  one_more h k = with_next ∙ ap₂ ◌||◌ h k
 
   -- A replicator among those that count.
-  pub found-copies : (count : ℕ) → n < count → copying (get_or ns n z).kind ≡ true → true ≡ some-copies (take count ns)
-  found-copies count l h =
+  pub found_copies : (count : ℕ) → n < count → copying (get_or ns n z).kind ≡ true → true ≡ some_copies (take count ns)
+  found_copies count l h =
       let e = take-take (n + 1) count ns (omega arith) in
-      let first : some-copies (take (n + 1) (take count ns)) ≡ true = rw e (with-next ∙ or_r (some-copies (take n ns)) h) in
-      sym (ap some-copies (sym (take-append-drop (n + 1) (take count ns))) ∙ (copies-append (take (n + 1) (take count ns)) _ ∙ or_l _ first))
+      let first : some_copies (take (n + 1) (take count ns)) ≡ true = rw e (with_next ∙ or_r (some_copies (take n ns)) h) in
+      sym (ap some_copies (sym (take-append-drop (n + 1) (take count ns))) ∙ (copies_append (take (n + 1) (take count ns)) _ ∙ or_l _ first))
 
 -- All that count were looked at.
-pub none-copies : (ns : List Node) → length ns ≡ 256 → (n count : ℕ) → some-copies (take n ns) ≡ false → n ≤ count → (count ≤ n) ⊎ (256 ≤ n) → false ≡ some-copies (take count ns)
-none-copies ns m n count h l g = rw (← (counted ns m n count l g)) (sym h)
+pub none_copies : (ns : List Node) → length ns ≡ 256 → (n count : ℕ) → some_copies (take n ns) ≡ false → n ≤ count → (count ≤ n) ⊎ (256 ≤ n) → false ≡ some_copies (take count ns)
+none_copies ns m n count h l g = rw (← (counted ns m n count l g)) (sym h)
 
-pub no_node : (ns : List Node) → some-copies (take 0 ns) ≡ false
-unfolding some-copies
+pub no_node : (ns : List Node) → some_copies (take 0 ns) ≡ false
+unfolding some_copies
 no_node ns = refl

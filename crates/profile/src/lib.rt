@@ -1,6 +1,6 @@
 ghost use Rattle.std.specs.Prelude.{◌≡◌, cond, take};
 ghost use Rattle.diagram.specs.TreeNodes.{copying};
-ghost use Rattle.profile.specs.code.Profiles.{some-copies, outside_of, Names};
+ghost use Rattle.profile.specs.code.Profiles.{some_copies, outside_of, Names};
 
 use diagram::{Diagram, Kind};
 use labels::Spot;
@@ -24,7 +24,7 @@ fn replicates(kind: Kind) -> bool
 
 // Whether a node is a replicator. A diagram holds 256 nodes whatever its count says.
 fn copies(d: Diagram) -> bool
-    ensures { result ≡ some-copies (take d.count d.nodes) }
+    ensures { result ≡ some_copies (take d.count d.nodes) }
 {
     let mut n = 0;
     while n < 256 && n < d.count {

@@ -12,61 +12,61 @@ use Rattle.reading.specs.Shows.{Shows}
 use Rattle.reading.specs.declared.ReadResult.{ReadResult}
 use Rattle.reading.specs.Blanked.{blanked}
 use Rattle.reading.proofs.Exact as exact
-use Rattle.reading.proofs.Alike.{remarks-as-blanks}
-use Rattle.reading.proofs.Shown.{accepted-shows-only}
-use Rattle.reading.proofs.Placed.{accepted-placed}
+use Rattle.reading.proofs.Alike.{remarks_as_blanks}
+use Rattle.reading.proofs.Shown.{accepted_shows_only}
+use Rattle.reading.proofs.Placed.{accepted_placed}
 use Rattle.printer.specs.Same.{Same, unplaced, wrote, written}
 use Rattle.printer.specs.declared.Printed.{Printed}
-use Rattle.printer.proofs.Same.{same-diagram, print-then-read, left-alike}
+use Rattle.printer.proofs.Same.{same_diagram, print_then_read, left_alike}
 use Rattle.properties.specs.Calls.{Reads}
-use Rattle.properties.specs.Two.{Printing, Again, Property-2}
-use Rattle.properties.proofs.Kept.{reads-met, prints-met}
+use Rattle.properties.specs.Two.{Printing, Again, Property2}
+use Rattle.properties.proofs.Kept.{reads_met, prints_met}
 
 -- The bytes that the call wrote are those of the definitions.
-wrote-is : (text : List ℕ) (d : Flow) (p : Printed) (left : List ℕ) (k : Printing text d p left) → written p left ≡ wrote text k.lent
-wrote-is text d p left k = let (x, y) = prints-met text k.lent p left k.printing in rw (x, y)
+wrote_is : (text : List ℕ) (d : Flow) (p : Printed) (left : List ℕ) (k : Printing text d p left) → written p left ≡ wrote text k.lent
+wrote_is text d p left k = let (x, y) = prints_met text k.lent p left k.printing in rw (x, y)
 
 again : (text : List ℕ) (d : Flow) (p : Printed) (left : List ℕ) → Printing text d p left
     → (o q : ReadResult) → Reads text o → Reads (written p left) q → Again text d p left o q
 again text d p left k o q m n =
-    let a = print-then-read text k.lent d k.enough k.accepted in
-    let w = wrote-is text d p left k in
-    let (x, y) = prints-met text k.lent p left k.printing in
-    let r = reads-met text o m in
-    let s = reads-met (written p left) q n in
+    let a = print_then_read text k.lent d k.enough k.accepted in
+    let w = wrote_is text d p left k in
+    let (x, y) = prints_met text k.lent p left k.printing in
+    let r = reads_met text o m in
+    let s = reads_met (written p left) q n in
     record {
       reported = rw (w, x) a.reported;
       done = rw (s, w) a.done;
       same = rw (s, r, w) a.same;
       shows = rw r a.shows;
-      shows-again = rw (s, w) a.shows-again;
+      shows_again = rw (s, w) a.shows_again;
     }
 
 -- Diagrams that are the same, places aside, show the same tree.
-same-shown : (s t : List ℕ) (e : Flow) (g h : Diagram) → Same s g t h → Shows t e h → Shows s e g
+same_shown : (s t : List ℕ) (e : Flow) (g h : Diagram) → Same s g t h → Shows t e h → Shows s e g
 unfolding unplaced
-same-shown s t e g h m k = record {
+same_shown s t e g h m k = record {
   nodes = m.names ∙ k.nodes;
   count = ap (λ (x : Diagram). x.count) m.nodes ∙ k.count;
   copies = ap (λ (x : Diagram). x.copies) m.nodes ∙ k.copies;
   events = ap (λ (x : Diagram). x.events) m.nodes ∙ k.events;
 }
 
-same-tree : (s t : List ℕ) (d e : Flow) → Accepted s d → Accepted t e → Same s (read_of s).diagram t (read_of t).diagram ↔ (d ≡ e)
-same-tree s t d e a b = (
-  λ m. sym ((accepted-shows-only s d a).no_other e b.keeps.parameters
-      (same-shown s t e (read_of s).diagram (read_of t).diagram m (accepted-shows-only t e b).this)),
-  λ q. same-diagram s t d a (rw q b),
+same_tree : (s t : List ℕ) (d e : Flow) → Accepted s d → Accepted t e → Same s (read_of s).diagram t (read_of t).diagram ↔ (d ≡ e)
+same_tree s t d e a b = (
+  λ m. sym ((accepted_shows_only s d a).no_other e b.keeps.parameters
+      (same_shown s t e (read_of s).diagram (read_of t).diagram m (accepted_shows_only t e b).this)),
+  λ q. same_diagram s t d a (rw q b),
 )
 
-pub property-2 : Property-2
-property-2 = record {
-  accepted-exactly = λ text o m. rw (reads-met text o m) (exact.accepted-exactly text);
-  refused-exactly = λ text o m number place. rw (reads-met text o m) (exact.refused-exactly text number place);
-  the-one-derived = λ text o m d a. rw (reads-met text o m) (accepted-shows-only text d a, accepted-placed text d a);
+pub property_2 : Property2
+property_2 = record {
+  accepted_exactly = λ text o m. rw (reads_met text o m) (exact.accepted_exactly text);
+  refused_exactly = λ text o m number place. rw (reads_met text o m) (exact.refused_exactly text number place);
+  the_one_derived = λ text o m d a. rw (reads_met text o m) (accepted_shows_only text d a, accepted_placed text d a);
   read_again = again;
-  print-alike = λ s t d e p q left other k l.
-      rw (wrote-is s d p left k, wrote-is t e q other l) (left-alike s k.lent d t l.lent e k.enough l.enough k.accepted l.accepted).exactly;
-  same-exactly = λ s t d e o q a b m n. rw (reads-met s o m, reads-met t q n) (same-tree s t d e a b);
-  remarks-are-blanks = λ text o q u m n. reads-met (blanked false text) q n ∙ remarks-as-blanks text u ∙ sym (reads-met text o m);
+  print_alike = λ s t d e p q left other k l.
+      rw (wrote_is s d p left k, wrote_is t e q other l) (left_alike s k.lent d t l.lent e k.enough l.enough k.accepted l.accepted).exactly;
+  same_exactly = λ s t d e o q a b m n. rw (reads_met s o m, reads_met t q n) (same_tree s t d e a b);
+  remarks_are_blanks = λ text o q u m n. reads_met (blanked false text) q n ∙ remarks_as_blanks text u ∙ sym (reads_met text o m);
 }

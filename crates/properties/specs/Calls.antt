@@ -11,23 +11,23 @@ use Rattle.printer.specs.declared.Printed.{Printed}
 use Rattle.translator.specs.declared.Translated.{Translated}
 use Rattle.events.specs.declared.Label.{Label}
 use Rattle.modelling.specs.declared.Written.{Written}
-use Rattle.reader.proofs.read.Reads as read-reads
-use Rattle.printer.proofs.print.Reads as print-reads
-use Rattle.translator.proofs.translate.Reads as translate-reads
-use Rattle.events.proofs.name.Reads as name-reads
-use Rattle.events.proofs.values.Reads as values-reads
-use Rattle.events.proofs.list.Reads as list-reads
-use Rattle.machines.proofs.eventb.event.Reads as event-reads
-use Rattle.machines.proofs.eventb.opening.Reads as opening-reads
-use Rattle.table.proofs.check.Reads as check-reads
-use Rattle.table.proofs.step.Reads as step-reads
-use Rattle.table.proofs.finished.Reads as finished-reads
-use Rattle.table.proofs.offer.Reads as offer-reads
+use Rattle.reader.proofs.read.Reads as read_reads
+use Rattle.printer.proofs.print.Reads as print_reads
+use Rattle.translator.proofs.translate.Reads as translate_reads
+use Rattle.events.proofs.name.Reads as name_reads
+use Rattle.events.proofs.values.Reads as values_reads
+use Rattle.events.proofs.list.Reads as list_reads
+use Rattle.machines.proofs.eventb.event.Reads as event_reads
+use Rattle.machines.proofs.eventb.opening.Reads as opening_reads
+use Rattle.table.proofs.check.Reads as check_reads
+use Rattle.table.proofs.step.Reads as step_reads
+use Rattle.table.proofs.finished.Reads as finished_reads
+use Rattle.table.proofs.offer.Reads as offer_reads
 use Rattle.inplace.proofs.Contract as thin
-use Rattle.firmware.proofs.adl_check.Reads as adl-check-reads
-use Rattle.firmware.proofs.adl_step.Reads as adl-step-reads
-use Rattle.firmware.proofs.adl_finished.Reads as adl-finished-reads
-use Rattle.firmware.proofs.adl_offer.Reads as adl-offer-reads
+use Rattle.firmware.proofs.adl_check.Reads as adl_check_reads
+use Rattle.firmware.proofs.adl_step.Reads as adl_step_reads
+use Rattle.firmware.proofs.adl_finished.Reads as adl_finished_reads
+use Rattle.firmware.proofs.adl_offer.Reads as adl_offer_reads
 
 -- A call that was made: for some lifetimes the contract holds of its arguments, of what it answered and of what it left, and these are the ones that
 -- `these` says.
@@ -42,51 +42,51 @@ pub record Made {Lifetimes : Type 0} {Args Result Exit : Lifetimes → Type 0}
 
 -- `reader::read`, of a text: what it answers.
 abbrev pub Reads : List ℕ → ReadResult → Type 0
-Reads text o = Made read-reads.Post (λ κs a r s. (a.0.now ≡ text) × (r ≡ o))
+Reads text o = Made read_reads.Post (λ κs a r s. (a.0.now ≡ text) × (r ≡ o))
 
 -- `printer::print`, of a text and a lent buffer: what it answers, and the buffer after it. So with `translator::translate`.
 abbrev pub Prints : List ℕ → List ℕ → Printed → List ℕ → Type 0
 Prints text lent p left =
-    Made print-reads.Post (λ κs a r s. (a.0.now ≡ text) × (a.1.0.now ≡ lent) × (r ≡ p) × (s.1.0.now ≡ left))
+    Made print_reads.Post (λ κs a r s. (a.0.now ≡ text) × (a.1.0.now ≡ lent) × (r ≡ p) × (s.1.0.now ≡ left))
 
 abbrev pub Translates : List ℕ → List ℕ → Translated → List ℕ → Type 0
 Translates text lent t left =
-    Made translate-reads.Post (λ κs a r s. (a.0.now ≡ text) × (a.1.0.now ≡ lent) × (r ≡ t) × (s.1.0.now ≡ left))
+    Made translate_reads.Post (λ κs a r s. (a.0.now ≡ text) × (a.1.0.now ≡ lent) × (r ≡ t) × (s.1.0.now ≡ left))
 
 -- `events::name`, of a text as it is lent, by its address, and an event number: the part of the text that it hands back.
 abbrev pub Names : Bor (List ℕ) → ℕ → Bor (List ℕ) → Type 0
-Names text e part = Made name-reads.Post (λ κs a r s. (a.0 ≡ text) × (a.1.0 ≡ e) × (r ≡ part))
+Names text e part = Made name_reads.Post (λ κs a r s. (a.0 ≡ text) × (a.1.0 ≡ e) × (r ≡ part))
 
 -- `events::values`, of a text and an event number.
 abbrev pub Values : List ℕ → ℕ → Label → Type 0
-Values text e l = Made values-reads.Post (λ κs a r s. (a.0.now ≡ text) × (a.1.0 ≡ e) × (r ≡ l))
+Values text e l = Made values_reads.Post (λ κs a r s. (a.0.now ≡ text) × (a.1.0 ≡ e) × (r ≡ l))
 
 -- `events::list`, of a text and a lent buffer: how many bytes it wrote, and the buffer after it.
 abbrev pub Lists : List ℕ → List ℕ → ℕ → List ℕ → Type 0
-Lists text lent n left = Made list-reads.Post (λ κs a r s. (a.0.now ≡ text) × (a.1.0.now ≡ lent) × (r ≡ n) × (s.1.0.now ≡ left))
+Lists text lent n left = Made list_reads.Post (λ κs a r s. (a.0.now ≡ text) × (a.1.0.now ≡ lent) × (r ≡ n) × (s.1.0.now ≡ left))
 
 -- `eventb::event` of `machines`, of a text, an event number and a lent buffer: what it answers, and the buffer after it. `eventb::opening` is asked for no event.
-abbrev pub Writes-event : List ℕ → ℕ → List ℕ → Written → List ℕ → Type 0
-Writes-event text e lent w left =
-    Made event-reads.Post (λ κs a r s. (a.0.now ≡ text) × (a.1.0 ≡ e) × (a.1.1.0.now ≡ lent) × (r ≡ w) × (s.1.1.0.now ≡ left))
+abbrev pub WritesEvent : List ℕ → ℕ → List ℕ → Written → List ℕ → Type 0
+WritesEvent text e lent w left =
+    Made event_reads.Post (λ κs a r s. (a.0.now ≡ text) × (a.1.0 ≡ e) × (a.1.1.0.now ≡ lent) × (r ≡ w) × (s.1.1.0.now ≡ left))
 
-abbrev pub Writes-opening : List ℕ → List ℕ → Written → List ℕ → Type 0
-Writes-opening text lent w left =
-    Made opening-reads.Post (λ κs a r s. (a.0.now ≡ text) × (a.1.0.now ≡ lent) × (r ≡ w) × (s.1.0.now ≡ left))
+abbrev pub WritesOpening : List ℕ → List ℕ → Written → List ℕ → Type 0
+WritesOpening text lent w left =
+    Made opening_reads.Post (λ κs a r s. (a.0.now ≡ text) × (a.1.0.now ≡ lent) × (r ≡ w) × (s.1.0.now ≡ left))
 
 -- `table::check`, `table::step`, `table::finished` and `table::offer`: a table, a record by value, an event number, a lent buffer.
 abbrev pub Checks : List ℕ → Answer → Type 0
-Checks t answer = Made check-reads.Post (λ κs a r s. (a.0.now ≡ t) × (r ≡ answer))
+Checks t answer = Made check_reads.Post (λ κs a r s. (a.0.now ≡ t) × (r ≡ answer))
 
 abbrev pub Steps : List ℕ → Record → ℕ → Stepped → Type 0
-Steps t before e stepped = Made step-reads.Post (λ κs a r s. (a.0.now ≡ t) × (a.1.0 ≡ before) × (a.1.1.0 ≡ e) × (r ≡ stepped))
+Steps t before e stepped = Made step_reads.Post (λ κs a r s. (a.0.now ≡ t) × (a.1.0 ≡ before) × (a.1.1.0 ≡ e) × (r ≡ stepped))
 
 abbrev pub Finishes : List ℕ → Record → Finish → Type 0
-Finishes t before f = Made finished-reads.Post (λ κs a r s. (a.0.now ≡ t) × (a.1.0 ≡ before) × (r ≡ f))
+Finishes t before f = Made finished_reads.Post (λ κs a r s. (a.0.now ≡ t) × (a.1.0 ≡ before) × (r ≡ f))
 
 abbrev pub Offers : List ℕ → Record → List ℕ → Answer → List ℕ → Type 0
 Offers t before lent answer left =
-    Made offer-reads.Post
+    Made offer_reads.Post
     (λ κs a r s. (a.0.now ≡ t) × (a.1.0 ≡ before) × (a.1.1.0.now ≡ lent) × (r ≡ answer) × (s.1.1.0.now ≡ left))
 
 -- `inplace::step`, the thin call: a table, a lent record and an event number; what it answers, and the record after it. It is proved by hand, so what its `ensures`
@@ -96,17 +96,17 @@ Updates t lent e answer left =
     Made thin.Post (λ κs a r s. (a.0.now ≡ t) × (a.1.0.now ≡ lent) × (a.1.1.0 ≡ e) × (r ≡ answer) × (s.1.0.now ≡ left))
 
 -- The C calls: a number, and what is left of the lent bytes.
-abbrev pub C-checks : List ℕ → ℕ → Type 0
-C-checks t n = Made adl-check-reads.Post (λ κs a r s. (a.0.now ≡ t) × (r ≡ n))
+abbrev pub CChecks : List ℕ → ℕ → Type 0
+CChecks t n = Made adl_check_reads.Post (λ κs a r s. (a.0.now ≡ t) × (r ≡ n))
 
-abbrev pub C-steps : List ℕ → List ℕ → ℕ → ℕ → List ℕ → Type 0
-C-steps t bytes e n left =
-    Made adl-step-reads.Post (λ κs a r s. (a.0.now ≡ t) × (a.1.0.now ≡ bytes) × (a.1.1.0 ≡ e) × (r ≡ n) × (s.1.0.now ≡ left))
+abbrev pub CSteps : List ℕ → List ℕ → ℕ → ℕ → List ℕ → Type 0
+CSteps t bytes e n left =
+    Made adl_step_reads.Post (λ κs a r s. (a.0.now ≡ t) × (a.1.0.now ≡ bytes) × (a.1.1.0 ≡ e) × (r ≡ n) × (s.1.0.now ≡ left))
 
-abbrev pub C-finishes : List ℕ → List ℕ → ℕ → Type 0
-C-finishes t bytes n = Made adl-finished-reads.Post (λ κs a r s. (a.0.now ≡ t) × (a.1.0.now ≡ bytes) × (r ≡ n))
+abbrev pub CFinishes : List ℕ → List ℕ → ℕ → Type 0
+CFinishes t bytes n = Made adl_finished_reads.Post (λ κs a r s. (a.0.now ≡ t) × (a.1.0.now ≡ bytes) × (r ≡ n))
 
-abbrev pub C-offers : List ℕ → List ℕ → List ℕ → ℕ → List ℕ → Type 0
-C-offers t bytes lent n left =
-    Made adl-offer-reads.Post
+abbrev pub COffers : List ℕ → List ℕ → List ℕ → ℕ → List ℕ → Type 0
+COffers t bytes lent n left =
+    Made adl_offer_reads.Post
     (λ κs a r s. (a.0.now ≡ t) × (a.1.0.now ≡ bytes) × (a.1.1.0.now ≡ lent) × (r ≡ n) × (s.1.1.0.now ≡ left))

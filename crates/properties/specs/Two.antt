@@ -7,7 +7,7 @@ use Rattle.diagram.specs.Tree.{Flow}
 use Rattle.reading.specs.Accepted.{Accepted}
 use Rattle.reading.specs.Blanked.{blanked}
 use Rattle.reading.specs.Refused.{Usual, RefusedAt}
-use Rattle.reading.specs.Shows.{Shows, Shows-only}
+use Rattle.reading.specs.Shows.{Shows, ShowsOnly}
 use Rattle.reading.specs.Places.{Placed}
 use Rattle.reading.specs.declared.Answer.TheVariants.{Done, Refused}
 use Rattle.reading.specs.declared.ReadResult.{ReadResult}
@@ -30,21 +30,21 @@ pub record Again (text : List ℕ) (d : Flow) (p : Printed) (left : List ℕ) (o
   pub done : again.answer ≡ Done
   pub same : Same (written p left) again.diagram text o.diagram
   pub shows : Shows text d o.diagram
-  pub shows-again : Shows (written p left) d again.diagram
+  pub shows_again : Shows (written p left) d again.diagram
 
-pub record Property-2 : Type 0 where
-  pub accepted-exactly : (text : List ℕ) (o : ReadResult) → Reads text o → (o.answer ≡ Done) ↔ ((d : Flow) × Accepted text d)
+pub record Property2 : Type 0 where
+  pub accepted_exactly : (text : List ℕ) (o : ReadResult) → Reads text o → (o.answer ≡ Done) ↔ ((d : Flow) × Accepted text d)
   -- and else it is turned away, by the sentence of one number
-  pub refused-exactly : (text : List ℕ) (o : ReadResult) → Reads text o → (number place : ℕ) → (o.answer ≡ Refused number place) ↔ RefusedAt text number place
+  pub refused_exactly : (text : List ℕ) (o : ReadResult) → Reads text o → (number place : ℕ) → (o.answer ≡ Refused number place) ↔ RefusedAt text number place
   -- with the places of its nodes in the text
-  pub the-one-derived : (text : List ℕ) (o : ReadResult) → Reads text o → (d : Flow) → Accepted text d
-      → Shows-only text d o.diagram × Placed text d o.diagram
+  pub the_one_derived : (text : List ℕ) (o : ReadResult) → Reads text o → (d : Flow) → Accepted text d
+      → ShowsOnly text d o.diagram × Placed text d o.diagram
   pub read_again : (text : List ℕ) (d : Flow) (p : Printed) (left : List ℕ) → Printing text d p left
       → (o again : ReadResult) → Reads text o → Reads (written p left) again → Again text d p left o again
-  pub print-alike : (s t : List ℕ) (d e : Flow) (p q : Printed) (left other : List ℕ) → Printing s d p left → Printing t e q other
+  pub print_alike : (s t : List ℕ) (d e : Flow) (p q : Printed) (left other : List ℕ) → Printing s d p left → Printing t e q other
       → (written p left ≡ written q other) ↔ (d ≡ e)
   -- "their diagrams are equal", of what reading answered: the same, places aside, exactly if the trees are
-  pub same-exactly : (s t : List ℕ) (d e : Flow) (o q : ReadResult) → Accepted s d → Accepted t e → Reads s o → Reads t q
+  pub same_exactly : (s t : List ℕ) (d e : Flow) (o q : ReadResult) → Accepted s d → Accepted t e → Reads s o → Reads t q
       → Same s o.diagram t q.diagram ↔ (d ≡ e)
   -- with blanks in place of its remarks, byte for byte, a text that has no foreign byte gets the same answer, the diagram and all places included
-  pub remarks-are-blanks : (text : List ℕ) (o q : ReadResult) → Usual text → Reads text o → Reads (blanked false text) q → q ≡ o
+  pub remarks_are_blanks : (text : List ℕ) (o q : ReadResult) → Usual text → Reads text o → Reads (blanked false text) q → q ≡ o

@@ -7,18 +7,18 @@ use native.Mathlib.Omega.{arith}
 use lib.Dec.{ltb}
 use lib.ListN.{length, get_or, replicate}
 use borrow.Author.Tests.{lt-ltb, le-ltb}
-use Rattle.diagram.specs.TreeNodes.{own, nodes-by}
+use Rattle.diagram.specs.TreeNodes.{own, nodes_by}
 use Rattle.diagram.specs.declared.Diagram.{Diagram}
-use Rattle.diagram.proofs.Mapped.{nodes-counted}
+use Rattle.diagram.proofs.Mapped.{nodes_counted}
 use Rattle.tokens.specs.Words.{keywords}
-use Rattle.tokens.specs.Spans.{spans-of, places}
-use Rattle.tokens.specs.Token.{text-tokens}
-use Rattle.tokens.specs.Scanned.{first-foreign, first-long, scan-of}
+use Rattle.tokens.specs.Spans.{spans_of, places}
+use Rattle.tokens.specs.Token.{text_tokens}
+use Rattle.tokens.specs.Scanned.{first_foreign, first_long, scan_of}
 use Rattle.tokens.specs.declared.Scan.TheVariants.{Tokens, Refused as Unscanned}
 use Rattle.grammar.specs.Machine as Machine
 use Rattle.grammar.specs.Machine.{Outcome, outcome}
 use Rattle.walked.specs.Walk.{State, state, whole, stop, ending, unwritten, placed_by}
-use Rattle.walked.specs.code.Readers.{told as told-as}
+use Rattle.walked.specs.code.Readers.{told as told_as}
 use Rattle.walked.specs.declared.Walk.{Walk}
 use Rattle.walked.specs.declared.Walk.TheVariants.{Whole, Refused as Turned}
 use Rattle.walked.proofs.Located.{ends_as}
@@ -29,66 +29,66 @@ use Rattle.rules.specs.Judged.{verdict}
 use Rattle.rules.specs.declared.Verdict.{Verdict}
 use Rattle.rules.specs.declared.Verdict.TheVariants.{Kept, Refused as Unkept}
 use Rattle.reading.specs.Nodes.{stored}
-use Rattle.reading.specs.Answers.{no-diagram, refused, judged, parsed, scanned, read_of}
+use Rattle.reading.specs.Answers.{no_diagram, refused, judged, parsed, scanned, read_of}
 use Rattle.reading.specs.declared.Answer.TheVariants.{Done, Refused}
-use Rattle.reading.proofs.Verdicts.{tree-judged}
-use Rattle.reading.proofs.Derived.{whole-derived, derived-answer}
-use Rattle.reader.specs.code.Stages.{turned-away, Walked}
+use Rattle.reading.proofs.Verdicts.{tree_judged}
+use Rattle.reading.proofs.Derived.{whole_derived, derived_answer}
+use Rattle.reader.specs.code.Stages.{turned_away, Walked}
 
 -- A text over the limit.
-pub long-text : (text : List ℕ) → 16384 < length text → no-diagram (Refused 2 16384) ≡ read_of text
-unfolding read_of scan-of
-long-text text h = rw (lt-ltb 16384 (length text) h)
+pub long_text : (text : List ℕ) → 16384 < length text → no_diagram (Refused 2 16384) ≡ read_of text
+unfolding read_of scan_of
+long_text text h = rw (lt-ltb 16384 (length text) h)
 
 abbrev zeros : List ℕ
 zeros = replicate 2056 0
 
 -- Where the walk stops, numbers 3 and 4 come first.
-by-scan : (text : List ℕ) (c k : ℕ) → ending text zeros ≡ stop c k → (a b : Bool) (f l n : ℕ)
-    → no-diagram (cond a (Refused 3 f) (cond b (Refused 4 l) (Refused c k))) ≡ scanned text (cond a (Unscanned 3 f) (cond b (Unscanned 4 l) (Tokens n)))
-by-scan text c k e true b f l n = refl
-by-scan text c k e false true f l n = refl
-by-scan text c k e false false f l n = sym (ap (parsed text) e)
+by_scan : (text : List ℕ) (c k : ℕ) → ending text zeros ≡ stop c k → (a b : Bool) (f l n : ℕ)
+    → no_diagram (cond a (Refused 3 f) (cond b (Refused 4 l) (Refused c k))) ≡ scanned text (cond a (Unscanned 3 f) (cond b (Unscanned 4 l) (Tokens n)))
+by_scan text c k e true b f l n = refl
+by_scan text c k e false true f l n = refl
+by_scan text c k e false false f l n = sym (ap (parsed text) e)
 
-pub stopped : (text : List ℕ) (c k : ℕ) → length text ≤ 16384 → ending text zeros ≡ stop c k → no-diagram (turned-away text c k) ≡ read_of text
-unfolding read_of scan-of turned-away
+pub stopped : (text : List ℕ) (c k : ℕ) → length text ≤ 16384 → ending text zeros ≡ stop c k → no_diagram (turned_away text c k) ≡ read_of text
+unfolding read_of scan_of turned_away
 stopped text c k h e =
-    let l = first-long (spans-of text) (length text) in
-    by-scan text c k e (ltb (first-foreign text) (length text)) (ltb l (length text)) (first-foreign text) l (length (spans-of text))
+    let l = first_long (spans_of text) (length text) in
+    by_scan text c k e (ltb (first_foreign text) (length text)) (ltb l (length text)) (first_foreign text) l (length (spans_of text))
     ∙ sym (rw (le-ltb 16384 (length text) h))
 
-whole-outcome : (text : List ℕ) (n : ℕ) (o : Outcome) → Machine.whole n ≡ placed_by (λ j. get_or (places text) j (length text)) o → o ≡ Machine.whole n
-whole-outcome text n (Machine.whole m) e = sym e
-whole-outcome text n (Machine.stop c j) e = let z : ◌≡◌ {A = ℕ} 0 1 = cc in let w : ⊥ = omega arith in absurd w
+whole_outcome : (text : List ℕ) (n : ℕ) (o : Outcome) → Machine.whole n ≡ placed_by (λ j. get_or (places text) j (length text)) o → o ≡ Machine.whole n
+whole_outcome text n (Machine.whole m) e = sym e
+whole_outcome text n (Machine.stop c j) e = let z : ◌≡◌ {A = ℕ} 0 1 = cc in let w : ⊥ = omega arith in absurd w
 
 pub walked : (text : List ℕ) (n : ℕ) (st : State) → length text ≤ 16384 → ending text zeros ≡ whole n st → Walked text n st.rows
 walked text n st h e =
-    let o = whole-outcome text n (outcome (text-tokens keywords text)) (sym (ap unwritten e) ∙ ends_as text zeros) in
-    let r = whole-derived text n h o in
+    let o = whole_outcome text n (outcome (text_tokens keywords text)) (sym (ap unwritten e) ∙ ends_as text zeros) in
+    let r = whole_derived text n h o in
     let d = r.0 in
     let t = told text d r.1.derives r.1.nodes r.1.depth n st e in
     record {
-      nodes = nodes-by own d;
+      nodes = nodes_by own d;
       count = sym t.count;
-      few = let c = t.count in let m = nodes-counted own d in omega (arith, r.1.nodes);
+      few = let c = t.count in let m = nodes_counted own d in omega (arith, r.1.nodes);
       told = t.nodes;
       deep = nested d r.1.depth;
       small = sized d r.1.derives.proper.sizes;
-      answer = derived-answer text d r.1 ∙ ap (judged text (nodes-by own d)) (sym (tree-judged text d));
+      answer = derived_answer text d r.1 ∙ ap (judged text (nodes_by own d)) (sym (tree_judged text d));
     }
 
 -- By the answer of the walk.
-module _ (text rows : List ℕ) (r : Walk) (h : length text ≤ 16384) (e : ending text zeros ≡ told-as r rows) where
-  pub walk_refused : {c k : ℕ} → r ≡ Turned c k → no-diagram (turned-away text c k) ≡ read_of text
-  walk_refused {c} {k} q = stopped text c k h (e ∙ ap (λ (x : Walk). told-as x rows) q)
+module _ (text rows : List ℕ) (r : Walk) (h : length text ≤ 16384) (e : ending text zeros ≡ told_as r rows) where
+  pub walk_refused : {c k : ℕ} → r ≡ Turned c k → no_diagram (turned_away text c k) ≡ read_of text
+  walk_refused {c} {k} q = stopped text c k h (e ∙ ap (λ (x : Walk). told_as x rows) q)
 
-  pub walk-whole : {n : ℕ} → r ≡ Whole n → Walked text n rows
-  walk-whole {n} q = walked text n (state rows []) h (e ∙ ap (λ (x : Walk). told-as x rows) q)
+  pub walk_whole : {n : ℕ} → r ≡ Whole n → Walked text n rows
+  walk_whole {n} q = walked text n (state rows []) h (e ∙ ap (λ (x : Walk). told_as x rows) q)
 
 -- By the answer of the sweeps.
 module _ {text rows : List ℕ} {n : ℕ} (w : Walked text n rows) {v : Verdict} (q : v ≡ verdict text w.nodes) where
-  pub judged-refused : {c k : ℕ} → v ≡ Unkept c k → refused c k ≡ read_of text
-  judged-refused e = sym (w.answer ∙ ap (judged text w.nodes) (sym q ∙ e))
+  pub judged_refused : {c k : ℕ} → v ≡ Unkept c k → refused c k ≡ read_of text
+  judged_refused e = sym (w.answer ∙ ap (judged text w.nodes) (sym q ∙ e))
 
-  pub judged-kept : {x y : ℕ} → v ≡ Kept x y → {d : Diagram} → d ≡ stored text w.nodes x y → record { answer = Done; diagram = d } ≡ read_of text
-  judged-kept e {d} p = ap (λ (d : Diagram). record { answer = Done; diagram = d }) p ∙ sym (w.answer ∙ ap (judged text w.nodes) (sym q ∙ e))
+  pub judged_kept : {x y : ℕ} → v ≡ Kept x y → {d : Diagram} → d ≡ stored text w.nodes x y → record { answer = Done; diagram = d } ≡ read_of text
+  judged_kept e {d} p = ap (λ (d : Diagram). record { answer = Done; diagram = d }) p ∙ sym (w.answer ∙ ap (judged text w.nodes) (sym q ∙ e))

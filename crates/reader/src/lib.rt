@@ -1,10 +1,10 @@
 ghost use Rattle.std.specs.Prelude.{◌≡◌, List, ℕ, ◌≤◌, ◌<◌, length, get_or};
 ghost use Rattle.lexer.specs.Lexicon.{Lexicon};
 ghost use Rattle.diagram.specs.TreeNodes.{TextNode};
-ghost use Rattle.walked.specs.Rows.{kind-of, Rowed, Sized};
+ghost use Rattle.walked.specs.Rows.{kind_of, Rowed, Sized};
 ghost use Rattle.reading.specs.Nodes.{stored};
-ghost use Rattle.reading.specs.Answers.{no-diagram, read_of};
-ghost use Rattle.reader.specs.code.Stages.{turned-away, node_at, Walked};
+ghost use Rattle.reading.specs.Answers.{no_diagram, read_of};
+ghost use Rattle.reader.specs.code.Stages.{turned_away, node_at, Walked};
 
 use diagram::{Diagram, Kind, Node};
 use reading::{Answer, ReadResult};
@@ -13,7 +13,7 @@ use walked::Walk;
 
 // An answer that carries no diagram.
 fn no_diagram(answer: Answer) -> ReadResult
-    ensures { result ≡ no-diagram answer }
+    ensures { result ≡ no_diagram answer }
 {
     let diagram = diagram::empty();
     ReadResult { answer, diagram }
@@ -22,7 +22,7 @@ fn no_diagram(answer: Answer) -> ReadResult
 // The answer to a text that the walk refuses: numbers 3 and 4 come first, over the whole text.
 fn turned_away(text: &[u8], number: u8, place: usize, lexicon: &[u8; 400]) -> Answer
     requires { Lexicon lexicon.now }
-    ensures { result ≡ turned-away text.now number place }
+    ensures { result ≡ turned_away text.now number place }
 {
     let f = lexer::foreign(text, lexicon);
     if f < text.len() {
@@ -37,7 +37,7 @@ fn turned_away(text: &[u8], number: u8, place: usize, lexicon: &[u8; 400]) -> An
 
 // The kind for a keyword's number and a size.
 fn kind(c: u16, size: u8) -> Kind
-    ensures { result ≡ kind-of c size }
+    ensures { result ≡ kind_of c size }
 {
     match c {
         7 => Kind::Flow,

@@ -9,15 +9,15 @@ use lib.Dec.{ltb}
 use lib.ListN.{length, get_or, get_or-eq_default}
 use lib.Seq.{drop-cons}
 use borrow.Author.Tests.{ltb-true, ltb-false}
-use Rattle.base.specs.Reports.{result as result-report}
+use Rattle.base.specs.Reports.{result as result_report}
 use Rattle.diagram.specs.Tree.{Flow}
-use Rattle.diagram.specs.Count.{flow-nodes, flow-copies, flow-events}
+use Rattle.diagram.specs.Count.{flow_nodes, flow_copies, flow_events}
 use Rattle.diagram.specs.TreeNodes.{TreeNode}
 use Rattle.diagram.specs.declared.Diagram.{Diagram}
 use Rattle.base.proofs.Truth.{cases}
 use Rattle.tokens.specs.Spans.{places}
-use Rattle.tokens.proofs.Spans.{tokens-length, places-length, places-below}
-use Rattle.grammar.specs.Keys.{key-token, keyword-at, name-at}
+use Rattle.tokens.proofs.Spans.{tokens_length, places_length, places_below}
+use Rattle.grammar.specs.Keys.{key_token, keyword_at, name_at}
 use Rattle.reading.specs.Accepted.{Accepted}
 use Rattle.reading.specs.Answers.{read_of}
 use Rattle.reading.specs.Reports.{report}
@@ -25,25 +25,25 @@ use Rattle.reading.specs.Shows.{Shows}
 use Rattle.reading.specs.declared.Answer.{Answer}
 use Rattle.reading.specs.declared.Answer.TheVariants.{Done}
 use Rattle.reading.specs.declared.ReadResult.{ReadResult}
-use Rattle.reading.specs.Refused.{Derived, Breaks, RefusedAt, by_size, by_byte, by_word, by_token, by-limit, by_name, by-parameter, by-solid, by_strong, by_count}
+use Rattle.reading.specs.Refused.{Derived, Breaks, RefusedAt, by_size, by_byte, by_word, by_token, by_limit, by_name, by_parameter, by_solid, by_strong, by_count}
 use Rattle.reading.specs.Bounds.{Bounded, result, refusal}
-use Rattle.reading.proofs.Exact.{accepted-read, refused-at-read, Fate, taken, refused-at, fate}
-use Rattle.reading.proofs.Shown.{accepted-shown}
-use Rattle.reading.proofs.Placed.{accepted-placed, one-diagram}
+use Rattle.reading.proofs.Exact.{accepted_read, refused_at_read, Fate, taken, refused_at, fate}
+use Rattle.reading.proofs.Shown.{accepted_shown}
+use Rattle.reading.proofs.Placed.{accepted_placed, one_diagram}
 
 -- Inside a list it does not matter what stands for what is past its end.
-same-inside : (ps : List ℕ) (k none : ℕ) → k < length ps → get_or ps k 0 ≡ get_or ps k none
-same-inside ps k none h = head-eq_of_cons-eq (sym (drop-cons ps k 0 h) ∙ drop-cons ps k none h)
+same_inside : (ps : List ℕ) (k none : ℕ) → k < length ps → get_or ps k 0 ≡ get_or ps k none
+same_inside ps k none h = head-eq_of_cons-eq (sym (drop-cons ps k 0 h) ∙ drop-cons ps k none h)
 
 -- A token's place is in the text, and what stands for no place is at most the text's length.
-place-near : (text : List ℕ) (k none : ℕ) → none ≤ length text → get_or (places text) k none ≤ length text
-place-near text k none h = ⊎_elim inside outside (cases (ltb k (length (places text))))
+place_near : (text : List ℕ) (k none : ℕ) → none ≤ length text → get_or (places text) k none ≤ length text
+place_near text k none h = ⊎_elim inside outside (cases (ltb k (length (places text))))
   where
     inside : ltb k (length (places text)) ≡ true → get_or (places text) k none ≤ length text
     inside q =
         let l : k < length (places text) = ltb-true k (length (places text)) q in
-        let b = places-below text k (omega (arith, tokens-length text, places-length text)) in
-        subst (λ (n : ℕ). n ≤ length text) (same-inside (places text) k none l) (omega arith)
+        let b = places_below text k (omega (arith, tokens_length text, places_length text)) in
+        subst (λ (n : ℕ). n ≤ length text) (same_inside (places text) k none l) (omega arith)
 
     outside : ltb k (length (places text)) ≡ false → get_or (places text) k none ≤ length text
     outside q = rw (get_or-eq_default (places text) none (ltb-false k (length (places text)) q)) h
@@ -58,41 +58,41 @@ near : (text : List ℕ) (c at : ℕ) (n : ℕ) → c ≡ n → 2 ≤ n → n �
 near text c at n e l h k = record { low = omega arith; high = omega arith; close = k }
 
 -- Where the nodes of a derived text stand.
-named-near : (text : List ℕ) (d : Flow) (at i : ℕ) → Derived text d → at ≡ name-at text i → at ≤ 16384
-unfolding name-at
-named-near text d at i g e = omega (arith, g.size, place-near text (key-token text i + 2) 0 (omega arith))
+named_near : (text : List ℕ) (d : Flow) (at i : ℕ) → Derived text d → at ≡ name_at text i → at ≤ 16384
+unfolding name_at
+named_near text d at i g e = omega (arith, g.size, place_near text (key_token text i + 2) 0 (omega arith))
 
-broken-near : (text : List ℕ) (d : Flow) (at : ℕ) {fit : TreeNode → Bool} → Breaks text at d fit → at ≤ 16384
-unfolding keyword-at
-broken-near text d at b = omega (arith, b.derived.size, b.place, place-near text (key-token text b.node) 0 (omega arith))
+broken_near : (text : List ℕ) (d : Flow) (at : ℕ) {fit : TreeNode → Bool} → Breaks text at d fit → at ≤ 16384
+unfolding keyword_at
+broken_near text d at b = omega (arith, b.derived.size, b.place, place_near text (key_token text b.node) 0 (omega arith))
 
-pub refused-at-near : (text : List ℕ) (c at : ℕ) → RefusedAt text c at → Near text c at
-refused-at-near text c at (by_size e h) = near text c at 2 e (omega arith) (omega arith) (omega (arith, h.place))
-refused-at-near text c at (by_byte e h) = near text c at 3 e (omega arith) (omega arith) (omega (arith, h.inside, h.size))
-refused-at-near text c at (by_word e h) =
-    near text c at 4 e (omega arith) (omega arith) (omega (arith, h.place, h.size, place-near text h.token 0 (omega arith)))
-refused-at-near text c at (by_token e h) =
-    near text c at 5 e (omega arith) (omega arith) (omega (arith, h.place, h.clean.size, place-near text h.token (length text) (omega arith)))
-refused-at-near text c at (by-limit e h) =
-    near text c at 6 e (omega arith) (omega arith) (omega (arith, h.place, h.clean.size, place-near text h.token (length text) (omega arith)))
-refused-at-near text c at (by_name e d h) = near text c at 7 e (omega arith) (omega arith) (named-near text d at h.node h.derived h.place)
-refused-at-near text c at (by-parameter e d h) = near text c at 8 e (omega arith) (omega arith) (broken-near text d at h.broken)
-refused-at-near text c at (by-solid e d h) = near text c at 9 e (omega arith) (omega arith) (broken-near text d at h.broken)
-refused-at-near text c at (by_strong e d h) = near text c at 10 e (omega arith) (omega arith) (broken-near text d at h.broken)
-refused-at-near text c at (by_count e d h) = near text c at 11 e (omega arith) (omega arith) (omega (arith, h.place))
+pub refused_at_near : (text : List ℕ) (c at : ℕ) → RefusedAt text c at → Near text c at
+refused_at_near text c at (by_size e h) = near text c at 2 e (omega arith) (omega arith) (omega (arith, h.place))
+refused_at_near text c at (by_byte e h) = near text c at 3 e (omega arith) (omega arith) (omega (arith, h.inside, h.size))
+refused_at_near text c at (by_word e h) =
+    near text c at 4 e (omega arith) (omega arith) (omega (arith, h.place, h.size, place_near text h.token 0 (omega arith)))
+refused_at_near text c at (by_token e h) =
+    near text c at 5 e (omega arith) (omega arith) (omega (arith, h.place, h.clean.size, place_near text h.token (length text) (omega arith)))
+refused_at_near text c at (by_limit e h) =
+    near text c at 6 e (omega arith) (omega arith) (omega (arith, h.place, h.clean.size, place_near text h.token (length text) (omega arith)))
+refused_at_near text c at (by_name e d h) = near text c at 7 e (omega arith) (omega arith) (named_near text d at h.node h.derived h.place)
+refused_at_near text c at (by_parameter e d h) = near text c at 8 e (omega arith) (omega arith) (broken_near text d at h.broken)
+refused_at_near text c at (by_solid e d h) = near text c at 9 e (omega arith) (omega arith) (broken_near text d at h.broken)
+refused_at_near text c at (by_strong e d h) = near text c at 10 e (omega arith) (omega arith) (broken_near text d at h.broken)
+refused_at_near text c at (by_count e d h) = near text c at 11 e (omega arith) (omega arith) (omega (arith, h.place))
 
 -- "Every answer is a result within the limits or one numbered refusal with its place."
-pub read-bounded : (text : List ℕ) → Bounded text (read_of text)
-read-bounded text = go (fate text)
+pub read_bounded : (text : List ℕ) → Bounded text (read_of text)
+read_bounded text = go (fate text)
   where
     counts : (d : Flow) → Accepted text d → Shows text d (read_of text).diagram → (read_of text).answer ≡ Done
-        → report (read_of text) ≡ result-report (flow-nodes d ∷ flow-copies d ∷ flow-events d ∷ [])
+        → report (read_of text) ≡ result_report (flow_nodes d ∷ flow_copies d ∷ flow_events d ∷ [])
     counts d a s e = rw (e, s.count, s.copies, s.events)
 
     go : Fate text → Bounded text (read_of text)
     go (taken d a) =
-        let e = accepted-read text d a in
-        let s = accepted-shown text d a in
+        let e = accepted_read text d a in
+        let s = accepted_shown text d a in
         let done = ap (λ (o : ReadResult). o.answer) e in
         result
         record {
@@ -101,11 +101,11 @@ read-bounded text = go (fate text)
           reported = counts d a s done;
           done = done;
           shown = s;
-          placed = accepted-placed text d a;
+          placed = accepted_placed text d a;
         }
-    go (refused-at c at t) =
-        let n = refused-at-near text c at t in
-        let e = refused-at-read text c at t in
+    go (refused_at c at t) =
+        let n = refused_at_near text c at t in
+        let e = refused_at_read text c at t in
         refusal record { number = c; place = at; why = t; reported = ap report e; is = e; low = n.low; high = n.high; near = n.close }
 
 -- And there is no other: the text alone says whether it is read, with which diagram, and else the number and the place.
@@ -114,6 +114,6 @@ one_answer text o (result r) =
     let d = r.tree in
     let a = r.limits in
     ap₂ (λ (a : Answer) (g : Diagram). record { answer = a; diagram = g })
-    (r.done ∙ sym (ap (λ (o : ReadResult). o.answer) (accepted-read text d a)))
-    (one-diagram text d o.diagram (read_of text).diagram r.shown r.placed (accepted-shown text d a) (accepted-placed text d a))
-one_answer text o (refusal r) = r.is ∙ sym (refused-at-read text r.number r.place r.why)
+    (r.done ∙ sym (ap (λ (o : ReadResult). o.answer) (accepted_read text d a)))
+    (one_diagram text d o.diagram (read_of text).diagram r.shown r.placed (accepted_shown text d a) (accepted_placed text d a))
+one_answer text o (refusal r) = r.is ∙ sym (refused_at_read text r.number r.place r.why)

@@ -6,9 +6,9 @@ use Prim.Native.Nat.{ℕ, ◌-◌}
 use lib.ListN.{length, take, drop, replicate, length-map, take-append-drop}
 use lib.Seq.{drop_at}
 use Rattle.diagram.specs.Tree.{Flow}
-use Rattle.diagram.specs.Count.{flow-copies, flow-events}
-use Rattle.diagram.specs.Stored.{blank-node}
-use Rattle.diagram.specs.TreeNodes.{TreeNode, ShownNode, own, nodes-by}
+use Rattle.diagram.specs.Count.{flow_copies, flow_events}
+use Rattle.diagram.specs.Stored.{blank_node}
+use Rattle.diagram.specs.TreeNodes.{TreeNode, ShownNode, own, nodes_by}
 use Rattle.diagram.specs.declared.Kind.{Kind}
 use Rattle.diagram.specs.declared.Node.{Node}
 use Rattle.diagram.specs.declared.Diagram.{Diagram}
@@ -16,11 +16,11 @@ use Rattle.diagram.proofs.Mapped.{mapped}
 use Rattle.reading.specs.Nodes.{node_of, stored}
 use Rattle.reading.specs.Answers.{read_of}
 use Rattle.reading.specs.Accepted.{Accepted}
-use Rattle.reading.specs.Shows.{Shows, shown-node, shown-nodes}
+use Rattle.reading.specs.Shows.{Shows, shown_node, shown_nodes}
 use Rattle.reading.specs.Places.{Placed}
 use Rattle.reading.specs.declared.ReadResult.{ReadResult}
-use Rattle.reading.proofs.Exact.{accepted-read}
-use Rattle.reading.proofs.Shown.{nodes-kept}
+use Rattle.reading.proofs.Exact.{accepted_read}
+use Rattle.reading.proofs.Shown.{nodes_kept}
 
 abbrev ats : List Node → List ℕ
 ats ns = map (λ (n : Node). n.at) ns
@@ -28,23 +28,23 @@ ats ns = map (λ (n : Node). n.at) ns
 abbrev names : List Node → List ℕ
 names ns = map (λ (n : Node). n.name) ns
 
-pub accepted-placed : (text : List ℕ) (d : Flow) → Accepted text d → Placed text d (read_of text).diagram
+pub accepted_placed : (text : List ℕ) (d : Flow) → Accepted text d → Placed text d (read_of text).diagram
 unfolding stored node_of
-accepted-placed text d a =
-    let hs = nodes-by own d in
+accepted_placed text d a =
+    let hs = nodes_by own d in
     let its : TreeNode → Node = λ h. node_of text h.own in
-    let kept = nodes-kept text hs (flow-copies d) (flow-events d) ∙ mapped (node_of text) own d in
-    subst (λ (o : ReadResult). Placed text d o.diagram) (sym (accepted-read text d a))
+    let kept = nodes_kept text hs (flow_copies d) (flow_events d) ∙ mapped (node_of text) own d in
+    subst (λ (o : ReadResult). Placed text d o.diagram) (sym (accepted_read text d a))
     record {
       keywords = ap ats kept ∙ mapped (λ (n : Node). n.at) its d;
       names = ap names kept ∙ mapped (λ (n : Node). n.name) its d;
-      blank = drop_at (map (node_of text) hs) (replicate (256 - length hs) blank-node) (length hs) (length-map hs (node_of text));
+      blank = drop_at (map (node_of text) hs) (replicate (256 - length hs) blank_node) (length hs) (length-map hs (node_of text));
     }
 
 -- Nodes that are shown alike and have the same places are the same.
-same-node : (text : List ℕ) (m n : Node) → shown-node text m ≡ shown-node text n → m.at ≡ n.at → m.name ≡ n.name → m ≡ n
-unfolding shown-node
-same-node text m n e p q =
+same_node : (text : List ℕ) (m n : Node) → shown_node text m ≡ shown_node text n → m.at ≡ n.at → m.name ≡ n.name → m ≡ n
+unfolding shown_node
+same_node text m n e p q =
     let k : m.kind ≡ n.kind = ap (λ (v : ShownNode). v.kind) e in
     let b : m.solid ≡ n.solid = ap (λ (v : ShownNode). v.solid) e in
     let s : m.strong ≡ n.strong = ap (λ (v : ShownNode). v.strong) e in
@@ -53,23 +53,23 @@ same-node text m n e p q =
     ∙ (ap₂ (λ (s : Bool) (d : ℕ). record { kind = n.kind; solid = n.solid; strong = s; depth = d; at = m.at; name = m.name }) s d
     ∙ ap₂ (λ (a x : ℕ). record { kind = n.kind; solid = n.solid; strong = n.strong; depth = n.depth; at = a; name = x }) p q)
 
-same_nodes : (text : List ℕ) (ms ns : List Node) → map (shown-node text) ms ≡ map (shown-node text) ns → ats ms ≡ ats ns → names ms ≡ names ns → ms ≡ ns
+same_nodes : (text : List ℕ) (ms ns : List Node) → map (shown_node text) ms ≡ map (shown_node text) ns → ats ms ≡ ats ns → names ms ≡ names ns → ms ≡ ns
 same_nodes text [] [] e p q = refl
 same_nodes text [] (n ∷ ns) e p q = absurd (nil≢cons p)
 same_nodes text (m ∷ ms) [] e p q = absurd (cons≢nil p)
 same_nodes text (m ∷ ms) (n ∷ ns) e p q =
-    ap₂ (λ (x : Node) (l : List Node). x ∷ l) (same-node text m n (head-eq_of_cons-eq e) (head-eq_of_cons-eq p) (head-eq_of_cons-eq q))
+    ap₂ (λ (x : Node) (l : List Node). x ∷ l) (same_node text m n (head-eq_of_cons-eq e) (head-eq_of_cons-eq p) (head-eq_of_cons-eq q))
     (same_nodes text ms ns (tail-eq_of_cons-eq e) (tail-eq_of_cons-eq p) (tail-eq_of_cons-eq q))
 
-same-diagram : (g h : Diagram) → g.nodes ≡ h.nodes → g.count ≡ h.count → g.copies ≡ h.copies → g.events ≡ h.events → g ≡ h
-same-diagram g h l n x y =
+same_diagram : (g h : Diagram) → g.nodes ≡ h.nodes → g.count ≡ h.count → g.copies ≡ h.copies → g.events ≡ h.events → g ≡ h
+same_diagram g h l n x y =
     ap₂ (λ (ns : List Node) (n : ℕ). record { nodes = ns; count = n; copies = g.copies; events = g.events }) l n
     ∙ ap₂ (λ (x y : ℕ). record { nodes = h.nodes; count = h.count; copies = x; events = y }) x y
 
 -- One diagram at most shows a tree at its places in a text.
-pub one-diagram : (text : List ℕ) (d : Flow) (g h : Diagram) → Shows text d g → Placed text d g → Shows text d h → Placed text d h → g ≡ h
-unfolding shown-nodes
-one-diagram text d g h s p t q = same-diagram g h all c (s.copies ∙ sym t.copies) (s.events ∙ sym t.events)
+pub one_diagram : (text : List ℕ) (d : Flow) (g h : Diagram) → Shows text d g → Placed text d g → Shows text d h → Placed text d h → g ≡ h
+unfolding shown_nodes
+one_diagram text d g h s p t q = same_diagram g h all c (s.copies ∙ sym t.copies) (s.events ∙ sym t.events)
   where
     c : g.count ≡ h.count
     c = s.count ∙ sym t.count
@@ -80,7 +80,7 @@ one-diagram text d g h s p t q = same-diagram g h all c (s.copies ∙ sym t.copi
         (p.names ∙ sym q.names)
 
     back : drop g.count g.nodes ≡ drop h.count h.nodes
-    back = p.blank ∙ (ap (λ (n : ℕ). replicate (256 - n) blank-node) c ∙ sym q.blank)
+    back = p.blank ∙ (ap (λ (n : ℕ). replicate (256 - n) blank_node) c ∙ sym q.blank)
 
     all : g.nodes ≡ h.nodes
     all = sym (take-append-drop g.count g.nodes) ∙ (ap₂ (λ (x y : List Node). x ++ y) front back ∙ take-append-drop h.count h.nodes)

@@ -3,14 +3,14 @@ use mathlib.Core.Path.{refl}
 use Rattle.tokens.specs.Classes.{class_of}
 use Rattle.tokens.specs.Remarks.{stretch}
 use Rattle.tokens.specs.Words.{front, keywords}
-use Rattle.tokens.specs.Spans.{width, spans, spans-of, places}
+use Rattle.tokens.specs.Spans.{width, spans, spans_of, places}
 use Rattle.tokens.specs.Rest.{rest}
-use Rattle.tokens.specs.Token.{named, word-token, token-of, text-tokens}
-use Rattle.tokens.specs.Scanned.{foreign-in, first-long, scan-of}
+use Rattle.tokens.specs.Token.{named, word_token, token_of, text_tokens}
+use Rattle.tokens.specs.Scanned.{foreign_in, first_long, scan_of}
 use Rattle.grammar.specs.Machine.{expand}
-use Rattle.grammar.specs.Keys.{keys_from, keyword-at, name-at}
+use Rattle.grammar.specs.Keys.{keys_from, keyword_at, name_at}
 use Rattle.walked.specs.Walk.{begun, effect, walk, ending}
-use Rattle.walked.specs.Rows.{kind-of, pars-in, row-kind, row-node, row-nodes}
+use Rattle.walked.specs.Rows.{kind_of, pars_in, row_kind, row_node, row_nodes}
 use Rattle.rules.specs.Kept.{fault}
 use Rattle.rules.specs.Counted.{times, total}
 use Rattle.rules.specs.Judged.{verdict}
@@ -18,5 +18,5 @@ use Rattle.reading.specs.Answers.{read_of}
 use Rattle.reading.specs.Worked.{texts, Worked}
 
 pub worked : Worked texts
-unfolding class_of stretch front keywords width spans spans-of places rest named word-token token-of text-tokens foreign-in first-long scan-of expand keys_from keyword-at name-at begun effect walk ending kind-of pars-in row-kind row-node row-nodes fault times total verdict read_of
+unfolding class_of stretch front keywords width spans spans_of places rest named word_token token_of text_tokens foreign_in first_long scan_of expand keys_from keyword_at name_at begun effect walk ending kind_of pars_in row_kind row_node row_nodes fault times total verdict read_of
 worked = refl

@@ -1,9 +1,9 @@
 -- Property 1, for reading: "Every answer is a result within the limits or one numbered refusal with its place". There is one such answer for each text:
 -- `reading.proofs.Bounds.one_answer`.
 use Rattle.std.specs.Prelude.{◌≡◌, List, [], ◌∷◌, ℕ, ◌≤◌}
-use Rattle.base.specs.Reports.{result as result-report, refusal as refusal-report}
+use Rattle.base.specs.Reports.{result as result_report, refusal as refusal_report}
 use Rattle.diagram.specs.Tree.{Flow}
-use Rattle.diagram.specs.Count.{flow-nodes, flow-copies, flow-events}
+use Rattle.diagram.specs.Count.{flow_nodes, flow_copies, flow_events}
 use Rattle.reading.specs.Answers.{refused}
 use Rattle.reading.specs.Accepted.{Accepted}
 use Rattle.reading.specs.Refused.{RefusedAt}
@@ -17,7 +17,7 @@ use Rattle.reading.specs.declared.ReadResult.{ReadResult}
 pub record Result (text : List ℕ) (o : ReadResult) : Type 0 where
   pub tree : Flow
   pub limits : Accepted text tree
-  pub reported : report o ≡ result-report (flow-nodes tree ∷ flow-copies tree ∷ flow-events tree ∷ [])
+  pub reported : report o ≡ result_report (flow_nodes tree ∷ flow_copies tree ∷ flow_events tree ∷ [])
   pub done : o.answer ≡ Done
   pub shown : Shows text tree o.diagram
   pub placed : Placed text tree o.diagram
@@ -27,7 +27,7 @@ pub record Refusal (text : List ℕ) (o : ReadResult) : Type 0 where
   pub number : ℕ
   pub place : ℕ
   pub why : RefusedAt text number place
-  pub reported : report o ≡ refusal-report number place
+  pub reported : report o ≡ refusal_report number place
   pub is : o ≡ refused number place
   pub low : 2 ≤ number
   pub high : number ≤ 11

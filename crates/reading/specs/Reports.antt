@@ -7,9 +7,9 @@ use Rattle.reading.specs.declared.Answer.TheVariants.{Done, Refused}
 use Rattle.reading.specs.declared.ReadResult.{ReadResult}
 
 -- Done, with the nodes, node copies and events of the diagram; or number and place.
-abbrev pub answer-report : Diagram → Answer → Report
-answer-report d Done = result (d.count ∷ d.copies ∷ d.events ∷ [])
-answer-report d (Refused number place) = refusal number place
+abbrev pub answer_report : Diagram → Answer → Report
+answer_report d Done = result (d.count ∷ d.copies ∷ d.events ∷ [])
+answer_report d (Refused number place) = refusal number place
 
 abbrev pub report : ReadResult → Report
-report o = answer-report o.diagram o.answer
+report o = answer_report o.diagram o.answer

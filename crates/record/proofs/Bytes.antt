@@ -12,7 +12,7 @@ use Rattle.base.specs.Fill.{fill}
 use Rattle.base.specs.Packed.{field}
 use Rattle.base.proofs.Truth.{by_cases}
 use Rattle.base.proofs.Filled.{fill_more}
-use Rattle.record.specs.Bytes.{words_of, byte_of, bytes-to, bytes_of}
+use Rattle.record.specs.Bytes.{words_of, byte_of, bytes_to, bytes_of}
 
 -- Eight words that were read.
 pub loaded : (s : List ℕ) (a b c d e f g h : ℕ) → a ≡ field 8 s 0 → b ≡ field 8 s 8 → c ≡ field 8 s 16 → d ≡ field 8 s 24 → e ≡ field 8 s 32 → f ≡ field 8 s 40
@@ -20,25 +20,25 @@ pub loaded : (s : List ℕ) (a b c d e f g h : ℕ) → a ≡ field 8 s 0 → b 
 unfolding words_of
 loaded s a b c d e f g h A B C D E F G H = rw (A, B, C, D, E, F, G, H)
 
-pub bytes-length : (ws : List ℕ) (n : ℕ) → length (bytes-to ws n) ≡ n
-unfolding bytes-to
-bytes-length ws zero = refl
-bytes-length ws (suc n) = length-append (bytes-to ws n) (byte_of ws n ∷ []) ∙ rw (bytes-length ws n) (add-one n)
+pub bytes_length : (ws : List ℕ) (n : ℕ) → length (bytes_to ws n) ≡ n
+unfolding bytes_to
+bytes_length ws zero = refl
+bytes_length ws (suc n) = length-append (bytes_to ws n) (byte_of ws n ∷ []) ∙ rw (bytes_length ws n) (add-one n)
 
-pub byte_at : (ws : List ℕ) (n i : ℕ) → i < n → get_or (bytes-to ws n) i 0 ≡ byte_of ws i
-unfolding bytes-to
+pub byte_at : (ws : List ℕ) (n i : ℕ) → i < n → get_or (bytes_to ws n) i 0 ≡ byte_of ws i
+unfolding bytes_to
 byte_at ws zero i h = let z : ⊥ = omega arith in absurd z
 byte_at ws (suc n) i h =
     by_cases (eqb i n)
-    (λ e. rw (eqb-true i n e) (get_or_at (bytes-to ws n) (byte_of ws n) [] 0 n (bytes-length ws n)))
+    (λ e. rw (eqb-true i n e) (get_or_at (bytes_to ws n) (byte_of ws n) [] 0 n (bytes_length ws n)))
     (λ e. let l : i < n = omega (arith, eqb-false i n e) in
-    get_or-append (bytes-to ws n) (byte_of ws n ∷ []) 0 i (rw (bytes-length ws n) l) ∙ byte_at ws n i l)
+    get_or-append (bytes_to ws n) (byte_of ws n ∷ []) 0 i (rw (bytes_length ws n) l) ∙ byte_at ws n i l)
 
 -- The loop that writes a record's bytes: one more byte, and all.
-pub store-more : (ws lent out next : List ℕ) (i : ℕ) → i < 64 → out ≡ fill lent (take i (bytes_of ws)) → next ≡ set out i (byte_of ws i)
+pub store_more : (ws lent out next : List ℕ) (i : ℕ) → i < 64 → out ≡ fill lent (take i (bytes_of ws)) → next ≡ set out i (byte_of ws i)
     → next ≡ fill lent (take (i + 1) (bytes_of ws))
-store-more ws lent out next i h o n =
-    n ∙ rw (o, add-one i, ← (byte_at ws 64 i h)) (fill_more lent (bytes_of ws) i (rw (bytes-length ws 64) h))
+store_more ws lent out next i h o n =
+    n ∙ rw (o, add-one i, ← (byte_at ws 64 i h)) (fill_more lent (bytes_of ws) i (rw (bytes_length ws 64) h))
 
-pub store-end : (ws lent out : List ℕ) (i : ℕ) → 64 ≤ i → out ≡ fill lent (take i (bytes_of ws)) → out ≡ fill lent (bytes_of ws)
-store-end ws lent out i h o = o ∙ ap (fill lent) (take_all i (bytes_of ws) (rw (bytes-length ws 64) h))
+pub store_end : (ws lent out : List ℕ) (i : ℕ) → 64 ≤ i → out ≡ fill lent (take i (bytes_of ws)) → out ≡ fill lent (bytes_of ws)
+store_end ws lent out i h o = o ∙ ap (fill lent) (take_all i (bytes_of ws) (rw (bytes_length ws 64) h))

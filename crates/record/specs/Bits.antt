@@ -14,26 +14,26 @@ bit_at ws e = ltb e 512 && eqb (get_or ws (e / 64) 0 / 2 ^ (63 - e % 64) % 2) 1
 unfoldable pub change : (ℕ → ℕ → ℕ) → List ℕ → ℕ → List ℕ
 change f ws e = cond (ltb e 512) (set ws (e / 64) (f (get_or ws (e / 64) 0) (2 ^ (63 - e % 64)))) ws
 
-abbrev pub set-bit : List ℕ → ℕ → List ℕ
-set-bit ws e = change bit_or ws e
+abbrev pub set_bit : List ℕ → ℕ → List ℕ
+set_bit ws e = change bit_or ws e
 
 -- A word without the bit m.
 abbrev pub without : ℕ → ℕ → ℕ
 without w m = bit_xor (bit_or w m) m
 
-abbrev pub clear-bit : List ℕ → ℕ → List ℕ
-clear-bit ws e = change without ws e
+abbrev pub clear_bit : List ℕ → ℕ → List ℕ
+clear_bit ws e = change without ws e
 
 -- The words with `count` bits cleared, from the bit `first` on.
-unfoldable pub clear-bits : List ℕ → ℕ → ℕ → List ℕ
-clear-bits ws first zero = ws
-clear-bits ws first (suc count) = clear-bit (clear-bits ws first count) (first + count)
+unfoldable pub clear_bits : List ℕ → ℕ → ℕ → List ℕ
+clear_bits ws first zero = ws
+clear_bits ws first (suc count) = clear_bit (clear_bits ws first count) (first + count)
 
 -- Whether no bit below `end` and at or past `first` is set.
-unfoldable pub clear-between : List ℕ → ℕ → ℕ → Bool
-clear-between ws first zero = true
-clear-between ws first (suc end) = clear-between ws first end && (ltb end first || not (bit_at ws end))
+unfoldable pub clear_between : List ℕ → ℕ → ℕ → Bool
+clear_between ws first zero = true
+clear_between ws first (suc end) = clear_between ws first end && (ltb end first || not (bit_at ws end))
 
 -- Number 13, "the record has a set bit at or past E".
 abbrev pub set_past : List ℕ → ℕ → Bool
-set_past ws events = not (clear-between ws events 512)
+set_past ws events = not (clear_between ws events 512)

@@ -2,5 +2,5 @@
 use Rattle.std.specs.Prelude.{replicate}
 use Rattle.record.specs.declared.Record.{Record}
 
-unfoldable pub blank-record : Record
-blank-record = record { bits = replicate 8 0 }
+unfoldable pub blank_record : Record
+blank_record = record { bits = replicate 8 0 }

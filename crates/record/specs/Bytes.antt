@@ -16,10 +16,10 @@ words_of bytes =
 abbrev pub byte_of : List ℕ → ℕ → ℕ
 byte_of ws i = get_or ws (i / 8) 0 / 2 ^ (56 - i % 8 * 8) % 256
 
-unfoldable pub bytes-to : List ℕ → ℕ → List ℕ
-bytes-to ws zero = []
-bytes-to ws (suc n) = bytes-to ws n ++ (byte_of ws n ∷ [])
+unfoldable pub bytes_to : List ℕ → ℕ → List ℕ
+bytes_to ws zero = []
+bytes_to ws (suc n) = bytes_to ws n ++ (byte_of ws n ∷ [])
 
 -- The 64 bytes of a record.
 abbrev pub bytes_of : List ℕ → List ℕ
-bytes_of ws = bytes-to ws 64
+bytes_of ws = bytes_to ws 64

@@ -1,8 +1,8 @@
 ghost use Rattle.std.specs.Prelude.{◌≡◌, ◌+◌, ◌-◌, ◌<◌, ◌%◌, ◌^◌};
 ghost use Rattle.base.specs.Fill.{fill};
-ghost use Rattle.record.specs.Bits.{bit_at, set-bit, clear-bit, clear-bits, set_past};
+ghost use Rattle.record.specs.Bits.{bit_at, set_bit, clear_bit, clear_bits, set_past};
 ghost use Rattle.record.specs.Bytes.{words_of, bytes_of};
-ghost use Rattle.record.specs.Blank.{blank-record};
+ghost use Rattle.record.specs.Blank.{blank_record};
 
 // The run record: a control bit for each event, bit 0 the top bit of the first word. Laid out as in C, so that a caller outside can lend one.
 #[repr(C)]
@@ -12,7 +12,7 @@ pub struct Record {
 }
 
 pub fn blank() -> Record
-    ensures { result ≡ blank-record }
+    ensures { result ≡ blank_record }
 {
     Record { bits: [0; 8] }
 }
@@ -38,7 +38,7 @@ fn mask(e: usize) -> u64
 
 // The words with one bit set; no bit from 512 on changes anything.
 pub fn set(bits: [u64; 8], e: usize) -> [u64; 8]
-    ensures { result ≡ set-bit bits e }
+    ensures { result ≡ set_bit bits e }
 {
     let mut b = bits;
     if 512 <= e {
@@ -51,7 +51,7 @@ pub fn set(bits: [u64; 8], e: usize) -> [u64; 8]
 }
 
 fn clear_bit(bits: [u64; 8], e: usize) -> [u64; 8]
-    ensures { result ≡ clear-bit bits e }
+    ensures { result ≡ clear_bit bits e }
 {
     let mut b = bits;
     if 512 <= e {
@@ -65,7 +65,7 @@ fn clear_bit(bits: [u64; 8], e: usize) -> [u64; 8]
 
 // The words with `count` bits cleared, from `first` on.
 pub fn clear(bits: [u64; 8], first: usize, count: usize) -> [u64; 8]
-    ensures { result ≡ clear-bits bits first count }
+    ensures { result ≡ clear_bits bits first count }
 {
     let mut b = bits;
     if 512 <= first {

@@ -8,9 +8,9 @@ use Rattle.rows.specs.code.Words.{Lists}
 use Rattle.rows.specs.declared.Words.{Words}
 
 -- The first k of two, whatever comes after them.
-pub listed-first : (k n u v a b : ℕ) (ws : List ℕ) (r : Words) → k ≡ n → k ≤ 2 → u ≡ a → v ≡ b → r.count ≡ k → r.words ≡ (u ∷ v ∷ ws)
+pub listed_first : (k n u v a b : ℕ) (ws : List ℕ) (r : Words) → k ≡ n → k ≤ 2 → u ≡ a → v ≡ b → r.count ≡ k → r.words ≡ (u ∷ v ∷ ws)
     → Lists r (take n (a ∷ b ∷ []))
-listed-first k n u v a b ws r e h p q c s = record {
-  its-count = rw (c, ← e) (sym (length-take-le k (a ∷ b ∷ []) h));
-  its-words = rw (c, s, ← e, p, q) (take-append-le k (a ∷ b ∷ []) ws h);
+listed_first k n u v a b ws r e h p q c s = record {
+  its_count = rw (c, ← e) (sym (length-take-le k (a ∷ b ∷ []) h));
+  its_words = rw (c, s, ← e, p, q) (take-append-le k (a ∷ b ∷ []) ws h);
 }

@@ -1,8 +1,8 @@
 ghost use Rattle.std.specs.Prelude.{◌≡◌, [], ◌∷◌, ◌++◌, ◌-◌, ◌≤◌, length};
-ghost use Rattle.layout.specs.Fields.{bit-row, not-row, both-row, either-row, event-record};
-ghost use Rattle.plan.specs.Pieces.{constants as constants-of, settling, settled-row};
-ghost use Rattle.rows.specs.code.Words.{Lists, coupled as coupled-of, event-count as event-count-of, second-count as second-count-of};
-ghost use Rattle.rows.specs.code.Words.{second-words as second-words-of, gate-row, record_of, no_rows};
+ghost use Rattle.layout.specs.Fields.{bit_row, not_row, both_row, either_row, event_record};
+ghost use Rattle.plan.specs.Pieces.{constants as constants_of, settling, settled_row};
+ghost use Rattle.rows.specs.code.Words.{Lists, coupled as coupled_of, event_count as event_count_of, second_count as second_count_of};
+ghost use Rattle.rows.specs.code.Words.{second_words as second_words_of, gate_row, record_of, no_rows};
 
 use plan::{Needs, PartRows};
 
@@ -15,31 +15,31 @@ pub struct Words {
 
 // Rows and event records packed into words, each field where `layout` reads it.
 pub fn bit_row(e: u16) -> usize
-    ensures { result ≡ bit-row e }
+    ensures { result ≡ bit_row e }
 {
     base::wide_short(e) * layout::SIDE
 }
 
 pub fn not_row(a: u16) -> usize
-    ensures { result ≡ not-row a }
+    ensures { result ≡ not_row a }
 {
     layout::KIND + base::wide_short(a) * layout::SIDE
 }
 
 pub fn both_row(a: u16, b: u16) -> usize
-    ensures { result ≡ both-row a b }
+    ensures { result ≡ both_row a b }
 {
     2 * layout::KIND + base::wide_short(a) * layout::SIDE + base::wide_short(b)
 }
 
 pub fn either_row(a: u16, b: u16) -> usize
-    ensures { result ≡ either-row a b }
+    ensures { result ≡ either_row a b }
 {
     3 * layout::KIND + base::wide_short(a) * layout::SIDE + base::wide_short(b)
 }
 
 fn event_record(guard: u16, first: u16, count: u16) -> usize
-    ensures { result ≡ event-record guard first count }
+    ensures { result ≡ event_record guard first count }
 {
     base::wide_short(guard) * layout::GUARD
         + base::wide_short(first) * layout::RUN
@@ -55,7 +55,7 @@ pub fn unsettled(m: PartRows) -> u16
 
 // The row that says so, where the next free one is k.
 pub fn settled(k: u16, m: PartRows) -> u16
-    ensures { result ≡ settled-row k m }
+    ensures { result ≡ settled_row k m }
 {
     if m.settled == 0 { k } else { m.settled }
 }
@@ -109,7 +109,7 @@ pub fn after_settling(p: PartRows, q: PartRows, a: usize, b: usize, c: usize, d:
 
 // How many events a number is: a leaf and a reset is one.
 pub fn event_count(op: u8) -> u16
-    ensures { (result ≡ event-count-of op) × (result ≤ 1) }
+    ensures { (result ≡ event_count_of op) × (result ≤ 1) }
 {
     if op < postfix::SEQ { 1 } else { 0 }
 }
@@ -129,14 +129,14 @@ pub fn no_rows() -> PartRows
 
 // Whether each part of a joint needs something of the other: in a flow, and where one part of two runs.
 fn coupled(op: u8) -> bool
-    ensures { result ≡ coupled-of op }
+    ensures { result ≡ coupled_of op }
 {
     (op == postfix::SEQ) | (op == postfix::XOR)
 }
 
 // How many rows a number has in the second pass.
 fn second_count(op: u8) -> u16
-    ensures { (result ≡ second-count-of op) × (result ≤ 2) }
+    ensures { (result ≡ second_count_of op) × (result ≤ 2) }
 {
     if coupled(op) {
         return 2;
@@ -150,7 +150,7 @@ fn second_count(op: u8) -> u16
 
 // Those rows, where the number may go on by row m: the guard of a leaf or a reset, or the gates of the later and the earlier part.
 pub fn second_words(op: u8, m: u16, n: Needs) -> Words
-    ensures { Lists result (second-words-of op m n) × (result.count ≤ 2) }
+    ensures { Lists result (second_words_of op m n) × (result.count ≤ 2) }
 {
     Words {
         words: [both_row(m, n.later), both_row(m, n.earlier), 0, 0, 0, 0],
@@ -160,7 +160,7 @@ pub fn second_words(op: u8, m: u16, n: Needs) -> Words
 
 // The gate of a part, the row by which it may go on: a new one, k, or that of the joint, m.
 pub fn gate(op: u8, k: u16, m: u16) -> u16
-    ensures { result ≡ gate-row op k m }
+    ensures { result ≡ gate_row op k m }
 {
     if coupled(op) { k } else { m }
 }
@@ -187,7 +187,7 @@ pub fn record_of(op: u8, k: u16, m: u16, first: u16, e: u16) -> usize
 
 // Three rows before all others, of which the third, row 2, says yes always.
 pub fn constants() -> Words
-    ensures { Lists result constants-of × (result.count ≤ 6) }
+    ensures { Lists result constants_of × (result.count ≤ 6) }
 {
     Words {
         words: [bit_row(0), not_row(0), either_row(0, 1), 0, 0, 0],

@@ -42,11 +42,11 @@ module _ {X : Type 0} (g : ℕ → List TextNode → X) (add : TextNode → X �
     walked_as {p = p} f x = record { go = λ before e vs on. f before (p vs) (x.go before e vs on) }
 
   -- A node, and the nodes under it.
-  pub walked-node : Nests → (h : TreeNode) {a b : X} {p : List TreeNode → List TreeNode} {P Q R : List TextNode → List TreeNode → Type 0}
+  pub walked_node : Nests → (h : TreeNode) {a b : X} {p : List TreeNode → List TreeNode} {P Q R : List TextNode → List TreeNode → Type 0}
       → inside (own h) a ≡ b
       → ((before : List TextNode) (vs : List TreeNode) → g h.own.depth before ≡ a → Q (own h ∷ before) (p vs) → R before (h ∷ p vs))
       → Walked (suc h.own.depth) b p P Q → Walked h.own.depth a (λ vs. h ∷ p vs) P R
-  walked-node nests h {a} {b} i step x = record {
+  walked_node nests h {a} {b} i step x = record {
     go = λ before e vs on. step before vs e (x.go (own h ∷ before) (under before e) vs (λ now s. on now (past before now s)));
   }
     where

@@ -5,41 +5,41 @@ use mathlib.Core.Bool.{Bool, true, false, false≢true, ◌&&◌, and-true, and_
 use mathlib.Core.List.{List, [], ◌∷◌}
 use Prim.Native.Nat.{ℕ}
 use Rattle.diagram.specs.TreeNodes.{TreeNode}
-use Rattle.rules.specs.Broken.{first-broken}
+use Rattle.rules.specs.Broken.{first_broken}
 use Rattle.rules.specs.Found.{Found, At, Nothing}
 
 abbrev pub clean : Found → Bool
 clean (At i) = false
 clean Nothing = true
 
-pub clean-cond : (t : Bool) (x : Found) (i : ℕ) → clean (cond t x (At i)) ≡ (t && clean x)
-clean-cond true x i = refl
-clean-cond false x i = refl
+pub clean_cond : (t : Bool) (x : Found) (i : ℕ) → clean (cond t x (At i)) ≡ (t && clean x)
+clean_cond true x i = refl
+clean_cond false x i = refl
 
-clean-nothing : (x : Found) → clean x ≡ true → x ≡ Nothing
-clean-nothing (At i) e = absurd (false≢true e)
-clean-nothing Nothing e = refl
+clean_nothing : (x : Found) → clean x ≡ true → x ≡ Nothing
+clean_nothing (At i) e = absurd (false≢true e)
+clean_nothing Nothing e = refl
 
-pub clean-iff : (x : Found) (b : Bool) → clean x ≡ b → (x ≡ Nothing) ↔ (b ≡ true)
-clean-iff x b e = (λ h. sym e ∙ ap clean h, λ h. clean-nothing x (e ∙ h))
+pub clean_iff : (x : Found) (b : Bool) → clean x ≡ b → (x ≡ Nothing) ↔ (b ≡ true)
+clean_iff x b e = (λ h. sym e ∙ ap clean h, λ h. clean_nothing x (e ∙ h))
 
 module _ (fit : TreeNode → Bool) where
   -- The nodes that p puts first all pass just where `ok` is true, whatever comes after them.
   pub record Passes (p : List TreeNode → List TreeNode) (ok : Bool) : Type 0 where
-    pub law : (vs : List TreeNode) → clean (first-broken fit (p vs)) ≡ (ok && clean (first-broken fit vs))
+    pub law : (vs : List TreeNode) → clean (first_broken fit (p vs)) ≡ (ok && clean (first_broken fit vs))
 
   pub passes_none : Passes (λ vs. vs) true
   passes_none = record { law = λ vs. refl }
 
   pub passes_then : {p q : List TreeNode → List TreeNode} {a b : Bool} → Passes p a → Passes q b → Passes (λ vs. p (q vs)) (a && b)
   passes_then {q = q} {a = a} {b = b} x y = record {
-    law = λ vs. x.law (q vs) ∙ (rw (y.law vs) (sym (and_assoc a b (clean (first-broken fit vs)))));
+    law = λ vs. x.law (q vs) ∙ (rw (y.law vs) (sym (and_assoc a b (clean (first_broken fit vs)))));
   }
 
-  pub passes-node : (h : TreeNode) {ok : Bool} → fit h ≡ ok → Passes (λ vs. h ∷ vs) ok
-  unfolding first-broken
-  passes-node h e = record { law = λ vs. clean-cond (fit h) (first-broken fit vs) h.own.number ∙ rw e }
+  pub passes_node : (h : TreeNode) {ok : Bool} → fit h ≡ ok → Passes (λ vs. h ∷ vs) ok
+  unfolding first_broken
+  passes_node h e = record { law = λ vs. clean_cond (fit h) (first_broken fit vs) h.own.number ∙ rw e }
 
-  pub passes-iff : {p : List TreeNode → List TreeNode} {ok : Bool} → Passes p ok → (first-broken fit (p []) ≡ Nothing) ↔ (ok ≡ true)
-  unfolding first-broken
-  passes-iff {p} {ok} x = clean-iff (first-broken fit (p [])) ok (x.law [] ∙ and-true ok)
+  pub passes_iff : {p : List TreeNode → List TreeNode} {ok : Bool} → Passes p ok → (first_broken fit (p []) ≡ Nothing) ↔ (ok ≡ true)
+  unfolding first_broken
+  passes_iff {p} {ok} x = clean_iff (first_broken fit (p [])) ok (x.law [] ∙ and-true ok)

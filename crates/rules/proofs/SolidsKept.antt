@@ -4,44 +4,44 @@ use mathlib.Core.Logic.{◌↔◌}
 use mathlib.Core.Bool.{Bool, true, false, ◌&&◌, and-true, and-false}
 use mathlib.Core.List.{List, [], ◌∷◌}
 use Rattle.diagram.specs.Tree.{all, some, one, Flow, Children, none, next, Child, plain, loop, group, replicator, leaf, inner}
-use Rattle.diagram.specs.Flows.{each-flow}
+use Rattle.diagram.specs.Flows.{each_flow}
 use Rattle.diagram.specs.Flows as flows
-use Rattle.diagram.specs.TreeNodes.{may-be-solid, child-kind, solid-kinds, nodes-by}
+use Rattle.diagram.specs.TreeNodes.{may_be_solid, child_kind, solid_kinds, nodes_by}
 use Rattle.diagram.specs.declared.Kind.{Kind}
 use Rattle.rules.specs.Kept.{one_of}
-use Rattle.rules.specs.Broken.{solids-fit, first-broken}
+use Rattle.rules.specs.Broken.{solids_fit, first_broken}
 use Rattle.rules.specs.Found.{Nothing}
-use Rattle.rules.proofs.FlowsKept.{kept-iff}
+use Rattle.rules.proofs.FlowsKept.{kept_iff}
 
 -- The rule by the kinds is the rule by the children.
-kind-may-be : (c : Child) → may-be-solid (child-kind c) ≡ flows.may-be-solid c
-kind-may-be (plain (leaf n)) = refl
-kind-may-be (plain (inner f)) = refl
-kind-may-be (loop m) = refl
-kind-may-be (group all a b ms) = refl
-kind-may-be (group some a b ms) = refl
-kind-may-be (group one a b ms) = refl
-kind-may-be (replicator all par size m) = refl
-kind-may-be (replicator some par size m) = refl
-kind-may-be (replicator one par size m) = refl
+kind_may_be : (c : Child) → may_be_solid (child_kind c) ≡ flows.may_be_solid c
+kind_may_be (plain (leaf n)) = refl
+kind_may_be (plain (inner f)) = refl
+kind_may_be (loop m) = refl
+kind_may_be (group all a b ms) = refl
+kind_may_be (group some a b ms) = refl
+kind_may_be (group one a b ms) = refl
+kind_may_be (replicator all par size m) = refl
+kind_may_be (replicator some par size m) = refl
+kind_may_be (replicator one par size m) = refl
 
 abbrev empty : List Kind → Bool
 empty [] = true
 empty (k ∷ ks) = false
 
-one-first : (k : Kind) (ks : List Kind) → one_of (k ∷ ks) ≡ (may-be-solid k && empty ks)
-one-first k [] = sym (and-true (may-be-solid k))
-one-first k (l ∷ ks) = sym (and-false (may-be-solid k))
+one_first : (k : Kind) (ks : List Kind) → one_of (k ∷ ks) ≡ (may_be_solid k && empty ks)
+one_first k [] = sym (and-true (may_be_solid k))
+one_first k (l ∷ ks) = sym (and-false (may_be_solid k))
 
-none-kinds : (cs : Children) → empty (solid-kinds cs) ≡ flows.none-solid cs
-none-kinds none = refl
-none-kinds (next c true cs) = refl
-none-kinds (next c false cs) = none-kinds cs
+none_kinds : (cs : Children) → empty (solid_kinds cs) ≡ flows.none_solid cs
+none_kinds none = refl
+none_kinds (next c true cs) = refl
+none_kinds (next c false cs) = none_kinds cs
 
-one-kinds : (cs : Children) → one_of (solid-kinds cs) ≡ flows.one-solid cs
-one-kinds none = refl
-one-kinds (next c true cs) = rw (one-first (child-kind c) (solid-kinds cs), kind-may-be c, none-kinds cs)
-one-kinds (next c false cs) = one-kinds cs
+one_kinds : (cs : Children) → one_of (solid_kinds cs) ≡ flows.one_solid cs
+one_kinds none = refl
+one_kinds (next c true cs) = rw (one_first (child_kind c) (solid_kinds cs), kind_may_be c, none_kinds cs)
+one_kinds (next c false cs) = one_kinds cs
 
-pub solids-kept-iff : (d : Flow) → (first-broken solids-fit (nodes-by (λ h. h) d) ≡ Nothing) ↔ (each-flow d flows.solid ≡ true)
-solids-kept-iff = kept-iff (λ h. one_of h.solids) flows.solid (λ n ps sw c r cs A b d i. one-kinds (next c r cs))
+pub solids_kept_iff : (d : Flow) → (first_broken solids_fit (nodes_by (λ h. h) d) ≡ Nothing) ↔ (each_flow d flows.solid ≡ true)
+solids_kept_iff = kept_iff (λ h. one_of h.solids) flows.solid (λ n ps sw c r cs A b d i. one_kinds (next c r cs))

@@ -10,15 +10,15 @@ times d (h ∷ before) =
 
 -- "Events are the leaf copies and, for each copy of a loop over a flow, its reset": the node is a leaf, or a loop whose member, the next
 -- node, is a flow.
-abbrev pub over-flow : List TextNode → Bool
-over-flow [] = false
-over-flow (h ∷ after) = flowing h.kind
+abbrev pub over_flow : List TextNode → Bool
+over_flow [] = false
+over_flow (h ∷ after) = flowing h.kind
 
 abbrev pub eventful : TextNode → List TextNode → Bool
-eventful h after = leafy h.kind || (looping h.kind && over-flow after)
+eventful h after = leafy h.kind || (looping h.kind && over_flow after)
 
-abbrev pub any-node : TextNode → List TextNode → Bool
-any-node h after = true
+abbrev pub any_node : TextNode → List TextNode → Bool
+any_node h after = true
 
 -- The copies of the nodes that are counted.
 unfoldable pub total : (TextNode → List TextNode → Bool) → List TextNode → List TextNode → ℕ

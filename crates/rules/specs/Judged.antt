@@ -1,9 +1,9 @@
 -- Document 01, "Numbers for what is turned away", numbers 7 to 11, in this order over the whole text.
 use Rattle.std.specs.Prelude.{◌||◌, cond, List, [], ℕ, ltb}
 use Rattle.diagram.specs.TreeNodes.{TextNode}
-use Rattle.grammar.specs.Keys.{keyword-at, name-at}
-use Rattle.rules.specs.Kept.{names-kept, parameters-kept, solids-kept, strongs-kept, fault}
-use Rattle.rules.specs.Counted.{any-node, eventful, total, capped}
+use Rattle.grammar.specs.Keys.{keyword_at, name_at}
+use Rattle.rules.specs.Kept.{names_kept, parameters_kept, solids_kept, strongs_kept, fault}
+use Rattle.rules.specs.Counted.{any_node, eventful, total, capped}
 use Rattle.rules.specs.Found.{Found, At, Nothing}
 use Rattle.rules.specs.declared.Verdict.{Verdict}
 use Rattle.rules.specs.declared.Verdict.TheVariants.{Kept, Refused}
@@ -20,8 +20,8 @@ counted copies events = cond (ltb 768 copies || ltb 512 events) (Refused 11 0) (
 -- The node copies and events of the nodes of a text, or the refusal: at the name that is twice, or at the node's keyword.
 unfoldable pub verdict : List ℕ → List TextNode → Verdict
 verdict text hs =
-    refuse 7 (name-at text) (fault names-kept [] hs)
-    (refuse 8 (keyword-at text) (fault parameters-kept [] hs)
-    (refuse 9 (keyword-at text) (fault solids-kept [] hs)
-    (refuse 10 (keyword-at text) (fault strongs-kept [] hs)
-    (counted (capped (total any-node [] hs)) (capped (total eventful [] hs))))))
+    refuse 7 (name_at text) (fault names_kept [] hs)
+    (refuse 8 (keyword_at text) (fault parameters_kept [] hs)
+    (refuse 9 (keyword_at text) (fault solids_kept [] hs)
+    (refuse 10 (keyword_at text) (fault strongs_kept [] hs)
+    (counted (capped (total any_node [] hs)) (capped (total eventful [] hs))))))

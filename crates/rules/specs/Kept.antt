@@ -3,7 +3,7 @@
 use Rattle.std.specs.Prelude.{Bool, true, false, not, ◌&&◌, cond, List, [], ◌∷◌, reverse, ℕ, suc, eqb, ltb, leb, length}
 use Rattle.diagram.specs.Tree.{Name}
 use Rattle.diagram.specs.Names.{equal, same, new}
-use Rattle.diagram.specs.TreeNodes.{TextNode, flowing, copying, titled, may-be-solid}
+use Rattle.diagram.specs.TreeNodes.{TextNode, flowing, copying, titled, may_be_solid}
 use Rattle.diagram.specs.declared.Kind.{Kind}
 use Rattle.rules.specs.Found.{Found, At, Nothing}
 
@@ -12,8 +12,8 @@ abbrev pub unused : Name → List TextNode → Bool
 unused m [] = true
 unused m (h ∷ before) = not (titled h.kind && same m h.name) && unused m before
 
-abbrev pub names-kept : List TextNode → TextNode → List TextNode → Bool
-names-kept before h after = cond (titled h.kind) (unused h.name before) true
+abbrev pub names_kept : List TextNode → TextNode → List TextNode → Bool
+names_kept before h after = cond (titled h.kind) (unused h.name before) true
 
 -- The pars of the replicators around a node of depth d, the nearest first: a node before it that is less deep is around it, and so on
 -- from that one.
@@ -24,8 +24,8 @@ around d (h ∷ before) =
 
 -- Number 8: "A replicator's par differs from those of replicators around it; at most 3 replicators surround a node. A flow lists exactly
 -- the pars of the replicators around it, outermost first."
-abbrev pub parameters-kept : List TextNode → TextNode → List TextNode → Bool
-parameters-kept before h after =
+abbrev pub parameters_kept : List TextNode → TextNode → List TextNode → Bool
+parameters_kept before h after =
     leb (length (around h.depth before)) 3
     && (cond (copying h.kind) (new h.name (around h.depth before)) true
     && cond (flowing h.kind) (equal same (reverse h.pars) (around h.depth before)) true)
@@ -38,16 +38,16 @@ solids d (h ∷ after) =
 
 abbrev pub one_of : List Kind → Bool
 one_of [] = false
-one_of (k ∷ []) = may-be-solid k
+one_of (k ∷ []) = may_be_solid k
 one_of (k ∷ l ∷ ks) = false
 
 -- Number 9: "A flow has exactly one solid child: a leaf, flow, xor or one."
-abbrev pub solids-kept : List TextNode → TextNode → List TextNode → Bool
-solids-kept before h after = cond (flowing h.kind) (one_of (solids h.depth after)) true
+abbrev pub solids_kept : List TextNode → TextNode → List TextNode → Bool
+solids_kept before h after = cond (flowing h.kind) (one_of (solids h.depth after)) true
 
 -- Number 10: "sw is 1."
-abbrev pub strongs-kept : List TextNode → TextNode → List TextNode → Bool
-strongs-kept before h after = cond (flowing h.kind) h.strong true
+abbrev pub strongs_kept : List TextNode → TextNode → List TextNode → Bool
+strongs_kept before h after = cond (flowing h.kind) h.strong true
 
 -- The number of the first node that breaks a rule.
 unfoldable pub fault : (List TextNode → TextNode → List TextNode → Bool) → List TextNode → List TextNode → Found

@@ -20,9 +20,9 @@ all_from at s = ap (drop at) (take-length s)
 pub to_end : (at : ℕ) (s : List ℕ) → take (length s - at) (drop at s) ≡ drop at s
 to_end at s = take_all (length s - at) (drop at s) (rw (length-drop at s) (omega arith))
 
-pub line-here : (b : ℕ) (bs : List ℕ) → eqb b 10 ≡ true → lines (b ∷ bs) ≡ [] ∷ lines bs
+pub line_here : (b : ℕ) (bs : List ℕ) → eqb b 10 ≡ true → lines (b ∷ bs) ≡ [] ∷ lines bs
 unfolding lines
-line-here b bs e = rw e
+line_here b bs e = rw e
 
 pub line_on : (b : ℕ) (bs : List ℕ) → eqb b 10 ≡ false → lines (b ∷ bs) ≡ onto b (lines bs)
 unfolding lines
@@ -33,22 +33,22 @@ unfolding lines
 no_lines = refl
 
 -- The first line, with a byte put before it.
-first-onto : (b : ℕ) (ls : List (List ℕ)) → first (onto b ls) ≡ b ∷ first ls
-first-onto b [] = refl
-first-onto b (l ∷ ls) = refl
+first_onto : (b : ℕ) (ls : List (List ℕ)) → first (onto b ls) ≡ b ∷ first ls
+first_onto b [] = refl
+first_onto b (l ∷ ls) = refl
 
-rest-onto : (b : ℕ) (ls : List (List ℕ)) → rest (onto b ls) ≡ rest ls
-rest-onto b [] = refl
-rest-onto b (l ∷ ls) = refl
+rest_onto : (b : ℕ) (ls : List (List ℕ)) → rest (onto b ls) ≡ rest ls
+rest_onto b [] = refl
+rest_onto b (l ∷ ls) = refl
 
-onto-one : (b : ℕ) (ls : List (List ℕ)) → onto b ls ≡ first (onto b ls) ∷ rest (onto b ls)
-onto-one b [] = refl
-onto-one b (l ∷ ls) = refl
+onto_one : (b : ℕ) (ls : List (List ℕ)) → onto b ls ≡ first (onto b ls) ∷ rest (onto b ls)
+onto_one b [] = refl
+onto_one b (l ∷ ls) = refl
 
 -- Bytes are a line and the lines after it.
-lines-first : (xs : List ℕ) → 0 < length xs → lines xs ≡ first (lines xs) ∷ rest (lines xs)
-lines-first [] h = absurd (omega arith)
-lines-first (b ∷ bs) h = by_cases (eqb b 10) (λ e. rw (line-here b bs e)) (λ e. rw (line_on b bs e) (onto-one b (lines bs)))
+lines_first : (xs : List ℕ) → 0 < length xs → lines xs ≡ first (lines xs) ∷ rest (lines xs)
+lines_first [] h = absurd (omega arith)
+lines_first (b ∷ bs) h = by_cases (eqb b 10) (λ e. rw (line_here b bs e)) (λ e. rw (line_on b bs e) (onto_one b (lines bs)))
 
 -- The first line ends at the first byte 10.
 first_ends : (xs : List ℕ) → (take (index_of 10 xs) xs ≡ first (lines xs)) × (lines (drop (suc (index_of 10 xs)) xs) ≡ rest (lines xs))
@@ -56,8 +56,8 @@ unfolding index_of index_after
 first_ends [] = (rw no_lines, rw no_lines)
 first_ends (b ∷ bs) =
     by_cases (eqb b 10)
-    (λ e. (rw (line-here b bs e, e), rw (line-here b bs e, e)))
-    (λ e. let p = first_ends bs in (rw (line_on b bs e, e, first-onto, p.0), rw (line_on b bs e, e, rest-onto, p.1)))
+    (λ e. (rw (line_here b bs e, e), rw (line_here b bs e, e)))
+    (λ e. let p = first_ends bs in (rw (line_on b bs e, e, first_onto, p.0), rw (line_on b bs e, e, rest_onto, p.1)))
 
 -- What the search for a byte 10 finds; and past the last byte.
 pub ends : (s : List ℕ) (at end : ℕ) → end ≡ at + index_of 10 (slice at (length s) s) → end ≤ length s → LineEnds s at end
@@ -66,20 +66,20 @@ ends s at end q w =
     let k : end - at ≡ index_of 10 (drop at s) = omega arith in
     let n : at + suc (index_of 10 (drop at s)) ≡ end + 1 = omega arith in
     let f = first_ends (drop at s) in
-    record { starts = omega arith; within = omega arith; its-bytes = rw k f.0; after-it = rw (← n, ← drop-drop (suc (index_of 10 (drop at s))) at s) f.1 }
+    record { starts = omega arith; within = omega arith; its_bytes = rw k f.0; after_it = rw (← n, ← drop-drop (suc (index_of 10 (drop at s))) at s) f.1 }
 
 -- The line that starts at a place, and those after it.
 pub line_at : (s : List ℕ) (at end : ℕ) → at < length s → LineEnds s at end → lines (drop at s) ≡ take (end - at) (drop at s) ∷ lines (drop (end + 1) s)
-line_at s at end h l = rw (l.its-bytes, l.after-it) (lines-first (drop at s) (rw (length-drop at s) (omega arith)))
+line_at s at end h l = rw (l.its_bytes, l.after_it) (lines_first (drop at s) (rw (length-drop at s) (omega arith)))
 
-pub none-at : (s : List ℕ) (at : ℕ) → length s ≤ at → lines (drop at s) ≡ []
-none-at s at h = ap lines (drop_of_length-le s h) ∙ no_lines
+pub none_at : (s : List ℕ) (at : ℕ) → length s ≤ at → lines (drop at s) ≡ []
+none_at s at h = ap lines (drop_of_length-le s h) ∙ no_lines
 
-pub ends-past : (s : List ℕ) (at : ℕ) → length s ≤ at → LineEnds s at at
-ends-past s at h =
+pub ends_past : (s : List ℕ) (at : ℕ) → length s ≤ at → LineEnds s at at
+ends_past s at h =
     let z : at - at ≡ 0 = omega arith in
-    record { starts = omega arith; within = omega arith; its-bytes = rw (z, none-at s at h); after-it = rw (none-at s (at + 1) (omega arith), none-at s at h) }
+    record { starts = omega arith; within = omega arith; its_bytes = rw (z, none_at s at h); after_it = rw (none_at s (at + 1) (omega arith), none_at s at h) }
 
 -- The first line of all, as a part of the bytes.
-pub first-line : (s : List ℕ) (end : ℕ) → LineEnds s 0 end → (end ≡ length (take end s)) × (take end s ≡ first (lines s))
-first-line s end l = let z : end - 0 ≡ end = omega arith in (sym (length-take-le end s (omega (arith, l.within))), rw z at l.its-bytes)
+pub first_line : (s : List ℕ) (end : ℕ) → LineEnds s 0 end → (end ≡ length (take end s)) × (take end s ≡ first (lines s))
+first_line s end l = let z : end - 0 ≡ end = omega arith in (sym (length-take-le end s (omega (arith, l.within))), rw z at l.its_bytes)

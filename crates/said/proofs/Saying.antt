@@ -12,53 +12,53 @@ use Rattle.bytes.specs.Bytes.{index_of, slice}
 use Rattle.base.specs.Equal.{same}
 use borrow.Author.Tests.{ne_eqb}
 use Rattle.said.specs.Lines.{lines, LineEnds}
-use Rattle.said.specs.Said.{number-part, label-part, says, before-saying}
-use Rattle.said.proofs.Lines.{all_from, line_at, none-at}
+use Rattle.said.specs.Said.{number_part, label_part, says, before_saying}
+use Rattle.said.proofs.Lines.{all_from, line_at, none_at}
 
 -- By what stands before the first space, and after it.
 module _ (line said : List ℕ) (space : ℕ) (q : space ≡ 0 + index_of 32 (slice 0 (length line) line)) where
-  at-space : space ≡ index_of 32 line
-  at-space = q ∙ (zero-add _ ∙ ap (index_of 32) (all_from 0 line))
+  at_space : space ≡ index_of 32 line
+  at_space = q ∙ (zero-add _ ∙ ap (index_of 32) (all_from 0 line))
 
-  both-parts : says line said ≡ (same (take space line) said || same (drop (space + 1) line) said)
-  unfolding says number-part label-part
-  both-parts = rw (at-space, add-one)
+  both_parts : says line said ≡ (same (take space line) said || same (drop (space + 1) line) said)
+  unfolding says number_part label_part
+  both_parts = rw (at_space, add-one)
 
   module _ (r : Bool) (p : r ≡ same (take space line) said) where
-    pub says-number : r ≡ true → true ≡ says line said
-    says-number t = sym (both-parts ∙ rw (← p, t))
+    pub says_number : r ≡ true → true ≡ says line said
+    says_number t = sym (both_parts ∙ rw (← p, t))
 
-    pub says-label : r ≡ false → {b : Bool} → b ≡ same (drop (space + 1) line) said → b ≡ says line said
-    says-label t g = g ∙ sym (both-parts ∙ rw (← p, t))
+    pub says_label : r ≡ false → {b : Bool} → b ≡ same (drop (space + 1) line) said → b ≡ says line said
+    says_label t g = g ∙ sym (both_parts ∙ rw (← p, t))
 
     pub says_nothing : r ≡ false → length line ≤ space → eqb (length said) 0 ≡ says line said
-    says_nothing t h = let past : length line ≤ space + 1 = omega arith in no_bytes said ∙ sym (both-parts ∙ rw (← p, t, drop_of_length-le line past))
+    says_nothing t h = let past : length line ≤ space + 1 = omega arith in no_bytes said ∙ sym (both_parts ∙ rw (← p, t, drop_of_length-le line past))
       where
         no_bytes : (bs : List ℕ) → eqb (length bs) 0 ≡ same [] bs
         no_bytes [] = refl
         no_bytes (b ∷ bs) = ne_eqb (length (b ∷ bs)) 0 (λ e. omega arith)
 
 module _ (ls : List (List ℕ)) (l : List ℕ) (on : List (List ℕ)) (q : ls ≡ l ∷ on) where
-  pub found : (said : List ℕ) → says l said ≡ true → before-saying ls said ≡ 0
-  unfolding before-saying
+  pub found : (said : List ℕ) → says l said ≡ true → before_saying ls said ≡ 0
+  unfolding before_saying
   found said t = rw (q, t)
 
-  pub further : (said : List ℕ) → says l said ≡ false → before-saying ls said ≡ suc (before-saying on said)
-  unfolding before-saying
+  pub further : (said : List ℕ) → says l said ≡ false → before_saying ls said ≡ suc (before_saying on said)
+  unfolding before_saying
   further said t = rw (q, t)
 
-pub none-says : (ls : List (List ℕ)) (said : List ℕ) → ls ≡ [] → before-saying ls said ≡ 0
-unfolding before-saying
-none-says ls said q = rw q
+pub none_says : (ls : List (List ℕ)) (said : List ℕ) → ls ≡ [] → before_saying ls said ≡ 0
+unfolding before_saying
+none_says ls said q = rw q
 
 -- The lines that say it, one after the other.
 pub seek_found : (s said : List ℕ) (at end : ℕ) (r : Bool) → at < length s → LineEnds s at end
-    → r ≡ says (take (end - at) (drop at s)) said → r ≡ true → before-saying (lines (drop at s)) said ≡ 0
+    → r ≡ says (take (end - at) (drop at s)) said → r ≡ true → before_saying (lines (drop at s)) said ≡ 0
 seek_found s said at end r h q p t = found (lines (drop at s)) (take (end - at) (drop at s)) (lines (drop (end + 1) s)) (line_at s at end h q) said (sym p ∙ t)
 
-pub seek-on : (s said : List ℕ) (at end : ℕ) (r : Bool) → at < length s → LineEnds s at end
-    → r ≡ says (take (end - at) (drop at s)) said → r ≡ false → before-saying (lines (drop at s)) said ≡ suc (before-saying (lines (drop (end + 1) s)) said)
-seek-on s said at end r h q p t = further (lines (drop at s)) (take (end - at) (drop at s)) (lines (drop (end + 1) s)) (line_at s at end h q) said (sym p ∙ t)
+pub seek_on : (s said : List ℕ) (at end : ℕ) (r : Bool) → at < length s → LineEnds s at end
+    → r ≡ says (take (end - at) (drop at s)) said → r ≡ false → before_saying (lines (drop at s)) said ≡ suc (before_saying (lines (drop (end + 1) s)) said)
+seek_on s said at end r h q p t = further (lines (drop at s)) (take (end - at) (drop at s)) (lines (drop (end + 1) s)) (line_at s at end h q) said (sym p ∙ t)
 
-pub seek-done : (s said : List ℕ) (at : ℕ) → length s ≤ at → before-saying (lines (drop at s)) said ≡ 0
-seek-done s said at h = none-says (lines (drop at s)) said (none-at s at h)
+pub seek_done : (s said : List ℕ) (at : ℕ) → length s ≤ at → before_saying (lines (drop at s)) said ≡ 0
+seek_done s said at h = none_says (lines (drop at s)) said (none_at s at h)

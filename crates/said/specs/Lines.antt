@@ -22,12 +22,12 @@ rest [] = []
 rest (l ∷ ls) = ls
 
 -- The lines of a listing's events: "First line: events and node copies. Then number, name, and values".
-unfoldable pub event-lines : List ℕ → List (List ℕ)
-event-lines listing = rest (lines listing)
+unfoldable pub event_lines : List ℕ → List (List ℕ)
+event_lines listing = rest (lines listing)
 
 -- Of the lines from a place on, the first ends here, and the others start after the byte at its end.
 pub record LineEnds (s : List ℕ) (at end : ℕ) : Type 0 where
   pub starts : at ≤ end
   pub within : end - at ≤ length s - at
-  pub its-bytes : take (end - at) (drop at s) ≡ first (lines (drop at s))
-  pub after-it : lines (drop (end + 1) s) ≡ rest (lines (drop at s))
+  pub its_bytes : take (end - at) (drop at s) ≡ first (lines (drop at s))
+  pub after_it : lines (drop (end + 1) s) ≡ rest (lines (drop at s))

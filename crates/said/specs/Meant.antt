@@ -11,6 +11,6 @@ unfoldable pub label : Event → List ℕ
 label l = mark l.reset ++ (l.name ++ spaced l.values)
 
 -- How many events stand before the first that has this number or is called so, of events the first of which has the number e; all of them where none does.
-unfoldable pub before-meant : List Event → ℕ → List ℕ → ℕ
-before-meant [] e said = 0
-before-meant (l ∷ ls) e said = cond (same (decimal e) said || same (label l) said) 0 (suc (before-meant ls (suc e) said))
+unfoldable pub before_meant : List Event → ℕ → List ℕ → ℕ
+before_meant [] e said = 0
+before_meant (l ∷ ls) e said = cond (same (decimal e) said || same (label l) said) 0 (suc (before_meant ls (suc e) said))

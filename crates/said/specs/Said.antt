@@ -2,23 +2,23 @@
 use Rattle.std.specs.Prelude.{Bool, cond, ◌||◌, List, [], ◌∷◌, ℕ, suc, take, drop}
 use Rattle.bytes.specs.Bytes.{index_of}
 use Rattle.base.specs.Equal.{same}
-use Rattle.said.specs.Lines.{event-lines}
+use Rattle.said.specs.Lines.{event_lines}
 
 -- The number of an event's line stands before its first space, what the event is called after it.
-unfoldable pub number-part : List ℕ → List ℕ
-number-part line = take (index_of 32 line) line
+unfoldable pub number_part : List ℕ → List ℕ
+number_part line = take (index_of 32 line) line
 
-unfoldable pub label-part : List ℕ → List ℕ
-label-part line = drop (suc (index_of 32 line)) line
+unfoldable pub label_part : List ℕ → List ℕ
+label_part line = drop (suc (index_of 32 line)) line
 
 unfoldable pub says : List ℕ → List ℕ → Bool
-says line said = same (number-part line) said || same (label-part line) said
+says line said = same (number_part line) said || same (label_part line) said
 
 -- How many lines stand before the first that says it; all of them where none does.
-unfoldable pub before-saying : List (List ℕ) → List ℕ → ℕ
-before-saying [] said = 0
-before-saying (l ∷ ls) said = cond (says l said) 0 (suc (before-saying ls said))
+unfoldable pub before_saying : List (List ℕ) → List ℕ → ℕ
+before_saying [] said = 0
+before_saying (l ∷ ls) said = cond (says l said) 0 (suc (before_saying ls said))
 
 -- The number of the event that is said, by the listing of a drawing; past its last event where there is none.
-abbrev pub event-said : List ℕ → List ℕ → ℕ
-event-said listing said = before-saying (event-lines listing) said
+abbrev pub event_said : List ℕ → List ℕ → ℕ
+event_said listing said = before_saying (event_lines listing) said

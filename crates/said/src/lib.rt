@@ -1,7 +1,7 @@
 // Which event of a drawing is said, by its listing.
 ghost use Rattle.std.specs.Prelude.{◌≡◌};
 ghost use Rattle.said.specs.Lines.{LineEnds};
-ghost use Rattle.said.specs.Said.{says as says_of, event-said};
+ghost use Rattle.said.specs.Said.{says as says_of, event_said};
 
 // Where the line that starts at `at` ends: at its byte 10, or with the last byte; past that it is empty.
 pub fn line_end(listing: &[u8], at: usize) -> usize
@@ -30,7 +30,7 @@ fn says(line: &[u8], said: &[u8]) -> bool
 
 // The number of the event that is said; past the last event where there is none.
 pub fn event(listing: &[u8], said: &[u8]) -> usize
-    ensures { result ≡ event-said listing.now said.now }
+    ensures { result ≡ event_said listing.now said.now }
 {
     let mut at = line_end(listing, 0) + 1;
     let mut e = 0;

@@ -1,9 +1,9 @@
 ghost use Rattle.std.specs.Prelude.{◌≡◌, List, ℕ, ◌+◌, ◌-◌, ◌<◌, get_or, replicate};
 ghost use Rattle.columns.specs.declared.Nodes.{Nodes};
 ghost use Rattle.labels.specs.Values.{values as values_of, push as pushed};
-ghost use Rattle.labels.specs.Weights.{parts as parts-of, resets as resets-of, weight-by};
-ghost use Rattle.labels.specs.Seeks.{next, entered as Entered-of, inside as inside_of, turn as turn-of, seek as seek-of, begin, spot_of};
-ghost use Rattle.search.specs.code.Columns.{lent, nodes-from, weighed};
+ghost use Rattle.labels.specs.Weights.{parts as parts_of, resets as resets_of, weight_by};
+ghost use Rattle.labels.specs.Seeks.{next, entered as EnteredOf, inside as inside_of, turn as turn_of, seek as seek_of, begin, spot_of};
+ghost use Rattle.search.specs.code.Columns.{lent, nodes_from, weighed};
 
 use columns::Nodes;
 use diagram::Diagram;
@@ -43,7 +43,7 @@ pub fn push(v: Values, x: usize) -> Values
 // The events of the parts of node i, those of the nodes before `end` that are one deeper than it.
 fn parts(depths: &[u16], weights: &[usize], i: usize, end: usize) -> usize
     requires { i < end }
-    ensures value { (c : Nodes) → c.depths ≡ depths.now → result ≡ parts-of (get_or c.depths i 0) 0 (nodes-from c weights.now (i + 1) (end - (i + 1))) }
+    ensures value { (c : Nodes) → c.depths ≡ depths.now → result ≡ parts_of (get_or c.depths i 0) 0 (nodes_from c weights.now (i + 1) (end - (i + 1))) }
     ensures upper_bound { result < 1024 }
 {
     let d = columns::number(depths, i);
@@ -65,7 +65,7 @@ fn parts(depths: &[u16], weights: &[usize], i: usize, end: usize) -> usize
 // A loop over the node after node i has a reset if that is there and no leaf.
 fn resets(kinds: &[u8], i: usize, end: usize) -> usize
     requires { i < end }
-    ensures { (c : Nodes) (ws : List ℕ) → c.kinds ≡ kinds.now → result ≡ resets-of (nodes-from c ws (i + 1) (end - (i + 1))) }
+    ensures { (c : Nodes) (ws : List ℕ) → c.kinds ≡ kinds.now → result ≡ resets_of (nodes_from c ws (i + 1) (end - (i + 1))) }
 {
     let j = i + 1;
     if end <= j {
@@ -80,7 +80,7 @@ fn resets(kinds: &[u8], i: usize, end: usize) -> usize
 // How many events one copy of a node has, where its parts have n, and it has so many resets.
 fn weight(kind: u8, size: u8, n: usize, reset: usize) -> usize
     requires { n < 1024 }
-    ensures { result ≡ weight-by kind size n reset }
+    ensures { result ≡ weight_by kind size n reset }
 {
     if kind == postfix::LEAF {
         return 1;
@@ -112,7 +112,7 @@ pub fn weigh(c: Nodes) -> [usize; 256]
 
 // Into a node of this depth and size, whose member has these events.
 fn entered(depth: usize, size: u8, inner: usize, s: Search) -> Search
-    ensures { result ≡ Entered-of depth size inner s }
+    ensures { result ≡ EnteredOf depth size inner s }
 {
     let values = s.values;
     if (size == 0) | (inner == 0) {
@@ -158,7 +158,7 @@ fn inside(r: SearchNode, q: SearchNode, s: Search) -> Step
 
 // One node further: node r, and q is the node after it.
 fn turn(r: SearchNode, q: SearchNode, s: Search) -> Step
-    ensures { result ≡ turn-of r q s }
+    ensures { result ≡ turn_of r q s }
 {
     if r.depth <= s.above {
         return Step::Go(s);
@@ -188,7 +188,7 @@ fn node<'a>(
     count: usize,
     i: usize,
 ) -> SearchNode
-    ensures { result ≡ next (nodes-from (lent kinds.now sizes.now depths.now names.now count) weights.now i (count - i)) }
+    ensures { result ≡ next (nodes_from (lent kinds.now sizes.now depths.now names.now count) weights.now i (count - i)) }
 {
     if count <= i {
         return SearchNode {
@@ -230,7 +230,7 @@ pub fn seek<'a>(
     count: usize,
     event: usize,
 ) -> Spot
-    ensures { result ≡ seek-of (nodes-from (lent kinds.now sizes.now depths.now names.now count) weights.now 0 count) (begin event) }
+    ensures { result ≡ seek_of (nodes_from (lent kinds.now sizes.now depths.now names.now count) weights.now 0 count) (begin event) }
 {
     let none = no_values();
     let mut s = Search {

@@ -9,7 +9,7 @@ use Rattle.reading.specs.Accepted.{Accepted}
 use Rattle.process.specs.Expand.{expand}
 use Rattle.process.specs.Runs.{Whole, Begins}
 use Rattle.record.specs.Bytes.{bytes_of}
-use Rattle.book.specs.Marked.{record-after}
+use Rattle.book.specs.Marked.{record_after}
 
 -- A line: these events are a whole run; these begin one and are none; these begin one, and the next is turned away; these begin one, and the first byte of the record after
 -- them is this.
@@ -51,12 +51,12 @@ abbrev both_run : List Line
 both_run = whole (0 ∷ 1 ∷ 2 ∷ []) ∷ whole (1 ∷ 0 ∷ 2 ∷ []) ∷ refused (0 ∷ []) 2 ∷ refused (1 ∷ []) 2 ∷ refused (0 ∷ []) 0 ∷ []
 
 -- The last line is a slip of document 01: "Letting an `or` member start after the successor has."
-abbrev some-run : List Line
-some-run =
+abbrev some_run : List Line
+some_run =
     whole (0 ∷ 1 ∷ 2 ∷ []) ∷ whole (1 ∷ 0 ∷ 2 ∷ []) ∷ whole (0 ∷ 2 ∷ []) ∷ whole (1 ∷ 2 ∷ []) ∷ refused [] 2 ∷ refused (0 ∷ []) 0 ∷ refused (0 ∷ 2 ∷ []) 1 ∷ []
 
-abbrev one-runs : List Line
-one-runs = whole (0 ∷ 2 ∷ []) ∷ whole (1 ∷ 2 ∷ []) ∷ refused [] 2 ∷ refused (0 ∷ []) 1 ∷ refused (1 ∷ []) 0 ∷ []
+abbrev one_runs : List Line
+one_runs = whole (0 ∷ 2 ∷ []) ∷ whole (1 ∷ 2 ∷ []) ∷ refused [] 2 ∷ refused (0 ∷ []) 1 ∷ refused (1 ∷ []) 0 ∷ []
 
 -- Lines of our own.
 abbrev pub ours : List Drawing
@@ -64,10 +64,10 @@ ours =
     -- two members, a 0 and b 1, or two copies, a 0 and a 1, and then c 2
     record { text = "flow(t,1)(and(leaf(a)leaf(b))(0)leaf(c)(1))"; lines = both_run }
     ∷ record { text = "flow(t,1)(all(p:2)(leaf(a))(0)leaf(c)(1))"; lines = both_run }
-    ∷ record { text = "flow(t,1)(or(leaf(a)leaf(b))(0)leaf(c)(1))"; lines = some-run }
-    ∷ record { text = "flow(t,1)(some(p:2)(leaf(a))(0)leaf(c)(1))"; lines = some-run }
-    ∷ record { text = "flow(t,1)(xor(leaf(a)leaf(b))(0)leaf(c)(1))"; lines = one-runs }
-    ∷ record { text = "flow(t,1)(one(p:2)(leaf(a))(0)leaf(c)(1))"; lines = one-runs }
+    ∷ record { text = "flow(t,1)(or(leaf(a)leaf(b))(0)leaf(c)(1))"; lines = some_run }
+    ∷ record { text = "flow(t,1)(some(p:2)(leaf(a))(0)leaf(c)(1))"; lines = some_run }
+    ∷ record { text = "flow(t,1)(xor(leaf(a)leaf(b))(0)leaf(c)(1))"; lines = one_runs }
+    ∷ record { text = "flow(t,1)(one(p:2)(leaf(a))(0)leaf(c)(1))"; lines = one_runs }
     -- A slip of document 01: "Taking a loop whose body's bits are clear for one that never began: after a reset its own bit must still shut the other branch of an xor."
     -- a 0, reset 1, b 2, c 3
     ∷ record {
@@ -118,7 +118,7 @@ ours =
 
 -- The first byte of the record after events.
 abbrev pub first_byte : Flow → List ℕ → ℕ
-first_byte d w = get_or (bytes_of (record-after d w).bits) 0 0
+first_byte d w = get_or (bytes_of (record_after d w).bits) 0 0
 
 -- What a line says of a diagram.
 abbrev pub Says : Flow → Line → Type 0

@@ -11,14 +11,14 @@ use lib.Seq.{get_or-set_same, get_or-set_other}
 use borrow.Author.Tests.{eqb-true, eqb-false}
 use Rattle.base.proofs.Truth.{by_cases}
 use Rattle.diagram.specs.TreeNodes.{TextNode, copying, size_of}
-use Rattle.rules.specs.Counted.{times, total, capped, any-node, eventful}
-use Rattle.names.specs.code.Kinds.{copying-code}
+use Rattle.rules.specs.Counted.{times, total, capped, any_node, eventful}
+use Rattle.names.specs.code.Kinds.{copying_code}
 use Rattle.names.specs.code.Told.{node, earlier, Told}
-use Rattle.names.proofs.Coded.{copying-coded}
+use Rattle.names.proofs.Coded.{copying_coded}
 use Rattle.names.proofs.Tables.{ones_small}
-use Rattle.names.proofs.Stack.{Stacked, stack-start, stack-next}
-use Rattle.sweeps.proofs.Capped.{capped-product}
-use Rattle.sweeps.proofs.Summed.{Summed, sum-start, sum-next, sum-end}
+use Rattle.names.proofs.Stack.{Stacked, stack_start, stack_next}
+use Rattle.sweeps.proofs.Capped.{capped_product}
+use Rattle.sweeps.proofs.Summed.{Summed, sum_start, sum_next, sum_end}
 
 -- No count of the table is over the cap.
 pub record Small (table : List ℕ) : Type 0 where
@@ -27,7 +27,7 @@ pub record Small (table : List ℕ) : Type 0 where
 
 pub record Counting (hs : List TextNode) (table : List ℕ) (copies events i : ℕ) : Type 0 where
   pub stack : Stacked times (λ e n. get_or table e 0 ≡ capped n) hs i
-  pub copied : Summed any-node hs copies i
+  pub copied : Summed any_node hs copies i
   pub happened : Summed eventful hs events i
 
 -- What a node leaves for those one deeper: its copies times its size.
@@ -43,23 +43,23 @@ times_none : times 1 [] ≡ 1
 unfolding times
 times_none = refl
 
-grow-by : (b : Bool) (z n : ℕ) → n * cond b z 1 ≡ cond b (z * n) n
-grow-by true z n = mul_comm n z
-grow-by false z n = mul-one n
+grow_by : (b : Bool) (z n : ℕ) → n * cond b z 1 ≡ cond b (z * n) n
+grow_by true z n = mul_comm n z
+grow_by false z n = mul-one n
 
-pub count-start : (hs : List TextNode) → Counting hs (replicate 14 1) 0 0 0
-count-start hs =
+pub count_start : (hs : List TextNode) → Counting hs (replicate 14 1) 0 0 0
+count_start hs =
     record {
-      stack = stack-start times (λ e n. get_or (replicate 14 1) e 0 ≡ capped n) hs (rw times_none);
-      copied = sum-start any-node hs;
-      happened = sum-start eventful hs;
+      stack = stack_start times (λ e n. get_or (replicate 14 1) e 0 ≡ capped n) hs (rw times_none);
+      copied = sum_start any_node hs;
+      happened = sum_start eventful hs;
     }
 
-pub small-start : Small (replicate 14 1)
-small-start = record { long = refl; each = ones_small 14 }
+pub small_start : Small (replicate 14 1)
+small_start = record { long = refl; each = ones_small 14 }
 
-pub small-next : {table : List ℕ} → Small table → (k v : ℕ) → k < 14 → v ≤ 769 → Small (set table k v)
-small-next {table} s k v h l =
+pub small_next : {table : List ℕ} → Small table → (k v : ℕ) → k < 14 → v ≤ 769 → Small (set table k v)
+small_next {table} s k v h l =
     record {
       long = simp length-set s.long;
       each = λ j.
@@ -68,11 +68,11 @@ small-next {table} s k v h l =
     }
 
 module _ {text rows : List ℕ} {count : ℕ} (t : Told text rows count) {table : List ℕ} {copies events i : ℕ} (s : Counting t.hs table copies events i) where
-  pub copies-all : copies ≤ 769 → count ≤ i → copies ≡ capped (total any-node [] t.hs)
-  copies-all l h = sum-end s.copied l (rw t.many h)
+  pub copies_all : copies ≤ 769 → count ≤ i → copies ≡ capped (total any_node [] t.hs)
+  copies_all l h = sum_end s.copied l (rw t.many h)
 
-  pub events-all : events ≤ 769 → count ≤ i → events ≡ capped (total eventful [] t.hs)
-  events-all l h = sum-end s.happened l (rw t.many h)
+  pub events_all : events ≤ 769 → count ≤ i → events ≡ capped (total eventful [] t.hs)
+  events_all l h = sum_end s.happened l (rw t.many h)
 
   -- The node i has the depth d, n copies, y of which are events, and the size z.
   module _ (h : i < count) {d n : ℕ} (D : get_or rows (i * 8 + 13) 0 ≤ 12 → d ≡ get_or rows (i * 8 + 13) 0) (p : n ≡ get_or table d 0) where
@@ -83,13 +83,13 @@ module _ {text rows : List ℕ} {count : ℕ} (t : Told text rows count) {table 
     many = let l = t.deep i h in p ∙ rw depth (s.stack.each (node t.hs i).depth l.0 l.1)
 
     module _ {y z : ℕ} (q : y ≡ cond (eventful (node t.hs i) (drop (i + 1) t.hs)) n 0)
-        (e : z ≡ cond (copying-code (get_or rows (i * 8 + 11) 0)) (get_or rows (i * 8 + 12) 0) 1) where
+        (e : z ≡ cond (copying_code (get_or rows (i * 8 + 11) 0)) (get_or rows (i * 8 + 12) 0) 1) where
       left : (v : ℕ) → v ≡ capped (n * z) → v ≡ capped (grown (node t.hs i) (times (node t.hs i).depth (earlier t.hs i)))
       left v g =
           let r = t.row i h in
           let k = (node t.hs i).kind in
           let x = times (node t.hs i).depth (earlier t.hs i) in
-          g ∙ rw (many, capped-product x z, e, r.code, r.size, copying-coded k, grow-by (copying k) (size_of k) x)
+          g ∙ rw (many, capped_product x z, e, r.code, r.size, copying_coded k, grow_by (copying k) (size_of k) x)
 
       pub count_next : {m k v : ℕ} → length table ≡ 14 → m ≡ capped (copies + n) → k ≡ capped (events + y) → v ≡ capped (n * z)
           → Counting t.hs (set table (d + 1) v) m k (i + 1)
@@ -97,9 +97,9 @@ module _ {text rows : List ℕ} {count : ℕ} (t : Told text rows count) {table 
           let l = t.deep i h in
           record {
             stack =
-                stack-next grown times_more s.stack l.1 (λ e x. get_or (set table (d + 1) v) e 0 ≡ capped x)
+                stack_next grown times_more s.stack l.1 (λ e x. get_or (set table (d + 1) v) e 0 ≡ capped x)
                 (λ e x some low was. get_or-set_other table (d + 1) e v 0 (λ g. let z = depth in omega arith) ∙ was)
                 (ap (λ (k : ℕ). get_or (set table (d + 1) v) (k + 1) 0) (sym depth) ∙ get_or-set_same table (d + 1) v 0 (let z = depth in let y = l.2 in omega arith) ∙ left v g);
-            copied = sum-next s.copied (rw t.many h) many refl p';
-            happened = sum-next s.happened (rw t.many h) many q q';
+            copied = sum_next s.copied (rw t.many h) many refl p';
+            happened = sum_next s.happened (rw t.many h) many q q';
           }

@@ -8,17 +8,17 @@ use native.Mathlib.Numerals.{add-one}
 use native.Mathlib.Omega.{arith}
 use lib.ListN.{length, get_or}
 use Rattle.diagram.specs.TreeNodes.{TextNode}
-use Rattle.grammar.specs.Keys.{keyword-at, name-at}
-use Rattle.rules.specs.Kept.{names-kept, parameters-kept, solids-kept, strongs-kept, fault}
-use Rattle.rules.specs.Counted.{any-node, eventful, total, capped}
+use Rattle.grammar.specs.Keys.{keyword_at, name_at}
+use Rattle.rules.specs.Kept.{names_kept, parameters_kept, solids_kept, strongs_kept, fault}
+use Rattle.rules.specs.Counted.{any_node, eventful, total, capped}
 use Rattle.rules.specs.Judged.{refuse, counted, verdict}
 use Rattle.rules.specs.Found.{Found, At, Nothing}
 use Rattle.rules.specs.declared.Verdict.{Verdict}
 use Rattle.rules.specs.declared.Verdict.TheVariants.{Refused}
 use Rattle.walked.specs.Rows.{Row, Rowed, Nested}
-use Rattle.names.specs.code.Told.{node, last-depth, Told, found}
-use Rattle.names.specs.code.Marks.{titled-at}
-use Rattle.names.proofs.Coded.{titled-coded, titled-named}
+use Rattle.names.specs.code.Told.{node, last_depth, Told, found}
+use Rattle.names.specs.code.Marks.{titled_at}
+use Rattle.names.proofs.Coded.{titled_coded, titled_named}
 
 row_at : (text rows : List ℕ) (k : ℕ) (hs : List TextNode) → Rowed text rows k hs → (i : ℕ) → i < length hs → Row text rows (k + i) (node hs i)
 row_at text rows k [] r i h = let z : ⊥ = omega arith in absurd z
@@ -28,41 +28,41 @@ row_at text rows k (g ∷ hs) r (suc i) h =
     rw e (row_at text rows (suc k) hs r.1 i (omega arith))
 
 -- The depth of the node before the number i, where d is that before all of them.
-last-from : ℕ → List TextNode → ℕ → ℕ
-last-from d hs zero = d
-last-from d hs (suc i) = (node hs i).depth
+last_from : ℕ → List TextNode → ℕ → ℕ
+last_from d hs zero = d
+last_from d hs (suc i) = (node hs i).depth
 
-last-same : (hs : List TextNode) (i : ℕ) → last-from 0 hs i ≡ last-depth hs i
-unfolding last-from last-depth
-last-same hs zero = refl
-last-same hs (suc i) = refl
+last_same : (hs : List TextNode) (i : ℕ) → last_from 0 hs i ≡ last_depth hs i
+unfolding last_from last_depth
+last_same hs zero = refl
+last_same hs (suc i) = refl
 
-last-later : (d : ℕ) (g : TextNode) (hs : List TextNode) (i : ℕ) → last-from g.depth hs i ≡ last-from d (g ∷ hs) (suc i)
-unfolding last-from
-last-later d g hs zero = refl
-last-later d g hs (suc i) = refl
+last_later : (d : ℕ) (g : TextNode) (hs : List TextNode) (i : ℕ) → last_from g.depth hs i ≡ last_from d (g ∷ hs) (suc i)
+unfolding last_from
+last_later d g hs zero = refl
+last_later d g hs (suc i) = refl
 
-deep-at : (d : ℕ) (hs : List TextNode) → Nested d hs → (i : ℕ) → i < length hs
-    → (0 < (node hs i).depth) × ((node hs i).depth ≤ suc (last-from d hs i)) × ((node hs i).depth ≤ 12)
-unfolding last-from
-deep-at d [] n i h = let z : ⊥ = omega arith in absurd z
-deep-at d (g ∷ hs) n zero h = (n.0, n.1, n.2)
-deep-at d (g ∷ hs) n (suc i) h =
-    let r = deep-at g.depth hs n.3 i (omega arith) in
-    (r.0, rw (← last-later d g hs i) r.1, r.2)
+deep_at : (d : ℕ) (hs : List TextNode) → Nested d hs → (i : ℕ) → i < length hs
+    → (0 < (node hs i).depth) × ((node hs i).depth ≤ suc (last_from d hs i)) × ((node hs i).depth ≤ 12)
+unfolding last_from
+deep_at d [] n i h = let z : ⊥ = omega arith in absurd z
+deep_at d (g ∷ hs) n zero h = (n.0, n.1, n.2)
+deep_at d (g ∷ hs) n (suc i) h =
+    let r = deep_at g.depth hs n.3 i (omega arith) in
+    (r.0, rw (← last_later d g hs i) r.1, r.2)
 
 tell : {text rows : List ℕ} (hs : List TextNode) {count : ℕ} → length hs ≡ count → Rowed text rows 0 hs → Nested 0 hs → Told text rows count
 tell {text} {rows} hs {count} e r n = record {
   hs = hs;
   many = e;
   row = λ i h. rw (zero-add i) at (row_at text rows 0 hs r i (omega arith));
-  deep = λ i h. rw (last-same hs i) at (deep-at 0 hs n i (omega arith));
+  deep = λ i h. rw (last_same hs i) at (deep_at 0 hs n i (omega arith));
 }
 
-pub as-told : {text rows : List ℕ} {count : ℕ} {v : Verdict} → ((t : Told text rows count) → v ≡ verdict text t.hs)
+pub as_told : {text rows : List ℕ} {count : ℕ} {v : Verdict} → ((t : Told text rows count) → v ≡ verdict text t.hs)
     → (hs : List TextNode) → length hs ≡ count → Rowed text rows 0 hs → Nested 0 hs → v ≡ verdict text hs
 unfolding tell
-as-told f hs e r n = f (tell hs e r n)
+as_told f hs e r n = f (tell hs e r n)
 
 -- A search that found nothing, or the node r - 1.
 module _ (hs : List TextNode) {f : Found} (r : ℕ) (e : f ≡ found hs r) where
@@ -74,41 +74,41 @@ module _ (hs : List TextNode) {f : Found} (r : ℕ) (e : f ≡ found hs r) where
 
 -- The place x of a refusal is that of the keyword of the node k, or of its name.
 module _ {text rows : List ℕ} {count : ℕ} (t : Told text rows count) {f : Found} (k : ℕ) (e : f ≡ found t.hs (k + 1)) (h : k < count) (next : Verdict) where
-  at-node : f ≡ At k
-  at-node = e ∙ rw (add-one k, (t.row k h).number)
+  at_node : f ≡ At k
+  at_node = e ∙ rw (add-one k, (t.row k h).number)
 
-  pub refused-key : {x : ℕ} (n : ℕ) → x ≡ get_or rows (k * 8 + 8) 0 → Refused n x ≡ refuse n (keyword-at text) f next
-  refused-key n p = rw (at-node, p, (t.row k h).at)
+  pub refused_key : {x : ℕ} (n : ℕ) → x ≡ get_or rows (k * 8 + 8) 0 → Refused n x ≡ refuse n (keyword_at text) f next
+  refused_key n p = rw (at_node, p, (t.row k h).at)
 
-  pub refused-name : {x : ℕ} → x ≡ get_or rows (k * 8 + 10) 0 → titled-at rows k ≡ true → Refused 7 x ≡ refuse 7 (name-at text) f next
-  refused-name p q =
+  pub refused_name : {x : ℕ} → x ≡ get_or rows (k * 8 + 10) 0 → titled_at rows k ≡ true → Refused 7 x ≡ refuse 7 (name_at text) f next
+  refused_name p q =
       let row = t.row k h in
       let kind = (node t.hs k).kind in
-      let named = titled-named kind (sym (titled-coded kind) ∙ (rw row.code at q)) in
-      rw (at-node, p, row.name, named)
+      let named = titled_named kind (sym (titled_coded kind) ∙ (rw row.code at q)) in
+      rw (at_node, p, row.name, named)
 
 -- The rules that are kept are passed.
 module _ (text : List ℕ) (hs : List TextNode) where
-  abbrev from-10 : Verdict
-  from-10 = refuse 10 (keyword-at text) (fault strongs-kept [] hs) (counted (capped (total any-node [] hs)) (capped (total eventful [] hs)))
+  abbrev from_10 : Verdict
+  from_10 = refuse 10 (keyword_at text) (fault strongs_kept [] hs) (counted (capped (total any_node [] hs)) (capped (total eventful [] hs)))
 
-  abbrev from-9 : Verdict
-  from-9 = refuse 9 (keyword-at text) (fault solids-kept [] hs) from-10
+  abbrev from_9 : Verdict
+  from_9 = refuse 9 (keyword_at text) (fault solids_kept [] hs) from_10
 
-  abbrev from-8 : Verdict
-  from-8 = refuse 8 (keyword-at text) (fault parameters-kept [] hs) from-9
+  abbrev from_8 : Verdict
+  from_8 = refuse 8 (keyword_at text) (fault parameters_kept [] hs) from_9
 
-  pub by-7 : {v : Verdict} → v ≡ refuse 7 (name-at text) (fault names-kept [] hs) from-8 → v ≡ verdict text hs
+  pub by_7 : {v : Verdict} → v ≡ refuse 7 (name_at text) (fault names_kept [] hs) from_8 → v ≡ verdict text hs
   unfolding verdict
-  by-7 e = e
+  by_7 e = e
 
-  module _ (kept-7 : fault names-kept [] hs ≡ Nothing) where
-    pub by_8 : {v : Verdict} → v ≡ from-8 → v ≡ verdict text hs
-    by_8 e = by-7 (e ∙ rw kept-7)
+  module _ (kept_7 : fault names_kept [] hs ≡ Nothing) where
+    pub by_8 : {v : Verdict} → v ≡ from_8 → v ≡ verdict text hs
+    by_8 e = by_7 (e ∙ rw kept_7)
 
-    module _ (kept-8 : fault parameters-kept [] hs ≡ Nothing) where
-      pub by-9 : {v : Verdict} → v ≡ from-9 → v ≡ verdict text hs
-      by-9 e = by_8 (e ∙ rw kept-8)
+    module _ (kept_8 : fault parameters_kept [] hs ≡ Nothing) where
+      pub by_9 : {v : Verdict} → v ≡ from_9 → v ≡ verdict text hs
+      by_9 e = by_8 (e ∙ rw kept_8)
 
-      pub by-10 : {v : Verdict} → fault solids-kept [] hs ≡ Nothing → v ≡ from-10 → v ≡ verdict text hs
-      by-10 kept-9 e = by-9 (e ∙ rw kept-9)
+      pub by_10 : {v : Verdict} → fault solids_kept [] hs ≡ Nothing → v ≡ from_10 → v ≡ verdict text hs
+      by_10 kept_9 e = by_9 (e ∙ rw kept_9)

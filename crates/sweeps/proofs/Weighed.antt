@@ -10,16 +10,16 @@ use lib.ListN.{length, drop, get_or, set, replicate, length-set}
 use lib.Seq.{get_or-set_same, get_or-set_other}
 use borrow.Author.Tests.{ltb-true, ltb-false, eq-eqb, ne_eqb, eqb-true, eqb-false, le-leb, lt-leb}
 use Rattle.base.proofs.Truth.{by_cases}
-use Rattle.diagram.specs.TreeNodes.{TextNode, flowing, may-be-solid}
+use Rattle.diagram.specs.TreeNodes.{TextNode, flowing, may_be_solid}
 use Rattle.diagram.specs.declared.Kind.{Kind}
-use Rattle.rules.specs.Kept.{solids, one_of, solids-kept, fault}
-use Rattle.walked.specs.Rows.{mark, kind-code}
-use Rattle.names.specs.code.Kinds.{flow-code, solid-code}
+use Rattle.rules.specs.Kept.{solids, one_of, solids_kept, fault}
+use Rattle.walked.specs.Rows.{mark, kind_code}
+use Rattle.names.specs.code.Kinds.{flow_code, solid_code}
 use Rattle.names.specs.code.Told.{node, Told, found}
 use Rattle.sweeps.specs.code.Weights.{heavier, weight}
-use Rattle.names.proofs.Coded.{flow-coded, solid-coded}
+use Rattle.names.proofs.Coded.{flow_coded, solid_coded}
 use Rattle.names.proofs.Tables.{zeros}
-use Rattle.names.proofs.Numbered.{last_more, from-here, from_past}
+use Rattle.names.proofs.Numbered.{last_more, from_here, from_past}
 
 heavy : (b : Bool) → eqb (cond b 1 2) 0 ≡ false
 heavy true = refl
@@ -29,31 +29,31 @@ light : (b : Bool) → b ≡ eqb (cond b 1 2) 1
 light true = refl
 light false = refl
 
-weight-one : (ks : List Kind) → one_of ks ≡ eqb (weight ks) 1
+weight_one : (ks : List Kind) → one_of ks ≡ eqb (weight ks) 1
 unfolding weight
-weight-one [] = refl
-weight-one (k ∷ []) = rw (solid-coded k) (light (may-be-solid k))
-weight-one (k ∷ e ∷ ks) = rw (heavy (eqb (weight ks) 0 && solid-code (kind-code e)))
+weight_one [] = refl
+weight_one (k ∷ []) = rw (solid_coded k) (light (may_be_solid k))
+weight_one (k ∷ e ∷ ks) = rw (heavy (eqb (weight ks) 0 && solid_code (kind_code e)))
 
 -- The solid children of a flow of depth e, by the depth of the next node.
 module _ (h : TextNode) (after : List TextNode) (e : ℕ) where
-  solids-over : h.depth ≤ e → solids e (h ∷ after) ≡ []
-  solids-over l = rw (le-leb h.depth e l)
+  solids_over : h.depth ≤ e → solids e (h ∷ after) ≡ []
+  solids_over l = rw (le-leb h.depth e l)
 
-  solids-child : h.depth ≡ suc e → solids e (h ∷ after) ≡ cond h.solid (h.kind ∷ solids e after) (solids e after)
-  solids-child q = rw (lt-leb h.depth e (omega arith), eq-eqb h.depth (suc e) q)
+  solids_child : h.depth ≡ suc e → solids e (h ∷ after) ≡ cond h.solid (h.kind ∷ solids e after) (solids e after)
+  solids_child q = rw (lt-leb h.depth e (omega arith), eq-eqb h.depth (suc e) q)
 
-  solids-deeper : suc e < h.depth → solids e (h ∷ after) ≡ solids e after
-  solids-deeper l = rw (lt-leb h.depth e (omega arith), ne_eqb h.depth (suc e) (λ q. omega arith))
+  solids_deeper : suc e < h.depth → solids e (h ∷ after) ≡ solids e after
+  solids_deeper l = rw (lt-leb h.depth e (omega arith), ne_eqb h.depth (suc e) (λ q. omega arith))
 
-weight-none : weight [] ≡ 0
+weight_none : weight [] ≡ 0
 unfolding weight
-weight-none = refl
+weight_none = refl
 
-weight-if : (b : Bool) (w : ℕ) (k : Kind) (ks : List Kind) → w ≡ weight ks → cond (eqb (mark b) 0) w (heavier w (kind-code k)) ≡ weight (cond b (k ∷ ks) ks)
+weight_if : (b : Bool) (w : ℕ) (k : Kind) (ks : List Kind) → w ≡ weight ks → cond (eqb (mark b) 0) w (heavier w (kind_code k)) ≡ weight (cond b (k ∷ ks) ks)
 unfolding weight
-weight-if true w k ks e = rw e
-weight-if false w k ks e = e
+weight_if true w k ks e = rw e
+weight_if false w k ks e = e
 
 -- The table has the weight of the solid children of a flow at each depth, among the nodes from the number i on.
 pub record Weighed (hs : List TextNode) (table : List ℕ) (i : ℕ) : Type 0 where
@@ -61,24 +61,24 @@ pub record Weighed (hs : List TextNode) (table : List ℕ) (i : ℕ) : Type 0 wh
 
 -- The first of these nodes that breaks the rule is one less than f.
 pub record First (hs : List TextNode) (f i : ℕ) : Type 0 where
-  pub is : (before : List TextNode) → fault solids-kept before (drop i hs) ≡ found hs f
+  pub is : (before : List TextNode) → fault solids_kept before (drop i hs) ≡ found hs f
 
 module _ {text rows : List ℕ} {count : ℕ} (t : Told text rows count) where
-  pub weigh-start : Weighed t.hs (replicate 14 0) count
+  pub weigh_start : Weighed t.hs (replicate 14 0) count
   unfolding weight
-  weigh-start = record { each = λ e l. rw (from_past t.hs count (omega (arith, t.many))) (zeros 14 (e + 1)) }
+  weigh_start = record { each = λ e l. rw (from_past t.hs count (omega (arith, t.many))) (zeros 14 (e + 1)) }
 
-  pub first-start : First t.hs 0 count
+  pub first_start : First t.hs 0 count
   unfolding fault
-  first-start = record { is = λ before. rw (from_past t.hs count (omega (arith, t.many))) }
+  first_start = record { is = λ before. rw (from_past t.hs count (omega (arith, t.many))) }
 
-pub first-all : {hs : List TextNode} {f i : ℕ} → First hs f i → i ≤ 0 → fault solids-kept [] hs ≡ found hs f
-first-all {hs} {f} {i} s h = let e : i ≡ 0 = omega arith in rw e at (s.is [])
+pub first_all : {hs : List TextNode} {f i : ℕ} → First hs f i → i ≤ 0 → fault solids_kept [] hs ≡ found hs f
+first_all {hs} {f} {i} s h = let e : i ≡ 0 = omega arith in rw e at (s.is [])
 
-pub blame-within : (n i later : ℕ) (b e : Bool) → later ≤ n → i + 1 ≤ n → cond b (cond e later (i + 1)) later ≤ n
-blame-within n i later true true p q = p
-blame-within n i later true false p q = q
-blame-within n i later false e p q = p
+pub blame_within : (n i later : ℕ) (b e : Bool) → later ≤ n → i + 1 ≤ n → cond b (cond e later (i + 1)) later ≤ n
+blame_within n i later true true p q = p
+blame_within n i later true false p q = q
+blame_within n i later false e p q = p
 
 -- One node more, which has the number i and the depth d.
 module _ {text rows : List ℕ} {count : ℕ} (t : Told text rows count) {table : List ℕ} {i : ℕ} (s : Weighed t.hs table (i + 1)) (h : i < count)
@@ -87,30 +87,30 @@ module _ {text rows : List ℕ} {count : ℕ} (t : Told text rows count) {table 
   depth = let e = (t.row i h).depth in let l = t.deep i h in D (rw e l.2) ∙ e
 
   here : drop i t.hs ≡ node t.hs i ∷ drop (i + 1) t.hs
-  here = from-here t.hs i (omega (arith, t.many))
+  here = from_here t.hs i (omega (arith, t.many))
 
   small : d ≤ 12
   small = rw depth (t.deep i h).2
 
   -- No node after it can be more than one deeper before another comes that is not.
-  none-deeper : (e : ℕ) → d < e → solids e (drop (i + 1) t.hs) ≡ []
-  none-deeper e l =
+  none_deeper : (e : ℕ) → d < e → solids e (drop (i + 1) t.hs) ≡ []
+  none_deeper e l =
       by_cases (ltb (i + 1) count) (λ q.
       let g = ltb-true (i + 1) count q in
       let low : (node t.hs (i + 1)).depth ≤ e = let z = rw (last_more t.hs i) at (t.deep (i + 1) g).1 in let y = depth in omega arith in
-      rw (from-here t.hs (i + 1) (omega (arith, t.many)), le-leb (node t.hs (i + 1)).depth e low)) (λ q.
+      rw (from_here t.hs (i + 1) (omega (arith, t.many)), le-leb (node t.hs (i + 1)).depth e low)) (λ q.
       let g = ltb-false (i + 1) count q in
       rw (from_past t.hs (i + 1) (omega (arith, t.many))))
 
   pub first_next : {f g w : ℕ} → First t.hs f (i + 1) → w ≡ get_or table (d + 1) 0
-      → g ≡ cond (flow-code (get_or rows (i * 8 + 11) 0)) (cond (eqb w 1) f (i + 1)) f → First t.hs g i
+      → g ≡ cond (flow_code (get_or rows (i * 8 + 11) 0)) (cond (eqb w 1) f (i + 1)) f → First t.hs g i
   unfolding fault
   first_next {f} {g} {w} r p q =
       let ws : eqb w 1 ≡ one_of (solids (node t.hs i).depth (drop (i + 1) t.hs)) =
-      rw (weight-one (solids (node t.hs i).depth (drop (i + 1) t.hs)), ← depth, ← s.each d small, p) in
+      rw (weight_one (solids (node t.hs i).depth (drop (i + 1) t.hs)), ← depth, ← s.each d small, p) in
       record {
         is = λ before.
-            rw (here, q, (t.row i h).code, flow-coded (node t.hs i).kind, ← ws)
+            rw (here, q, (t.row i h).code, flow_coded (node t.hs i).kind, ← ws)
             (by_cases (flowing (node t.hs i).kind) (λ a. rw a (by_cases (eqb w 1) (λ b. rw b (r.is (node t.hs i ∷ before))) (λ b. rw (b, add-one i)))) (λ a. rw a (r.is (node t.hs i ∷ before))));
       }
 
@@ -130,8 +130,8 @@ module _ {text rows : List ℕ} {count : ℕ} (t : Told text rows count) {table 
     taken : get_or left d 0 ≡ v
     taken = get_or-set_same (set table (d + 1) 0) d v 0 (simp length-set (let z = small in omega arith))
 
-    at-depth : (e : ℕ) → e ≤ 12 → get_or left (e + 1) 0 ≡ weight (solids e (node t.hs i ∷ drop (i + 1) t.hs))
-    at-depth e l =
+    at_depth : (e : ℕ) → e ≤ 12 → get_or left (e + 1) 0 ≡ weight (solids e (node t.hs i ∷ drop (i + 1) t.hs))
+    at_depth e l =
         let n = node t.hs i in
         let after = drop (i + 1) t.hs in
         let y = depth in
@@ -144,20 +144,20 @@ module _ {text rows : List ℕ} {count : ℕ} (t : Told text rows count) {table 
         ap (λ (k : ℕ). get_or left k 0) (sym z)
         ∙ taken
         ∙ q
-        ∙ rw ((t.row i h).solid, (t.row i h).code) (weight-if n.solid w n.kind (solids e after) wt)
-        ∙ ap weight (sym (solids-child n after e (omega arith)))) (λ b.
+        ∙ rw ((t.row i h).solid, (t.row i h).code) (weight_if n.solid w n.kind (solids e after) wt)
+        ∙ ap weight (sym (solids_child n after e (omega arith)))) (λ b.
         let z = eqb-false d (e + 1) b in
         kept (e + 1) (λ g. z (sym g)) (λ g. omega arith)
         ∙ s.each e l
-        ∙ ap weight (sym (solids-deeper n after e (let u : e + 1 < d = omega arith in omega arith))))) (λ a.
+        ∙ ap weight (sym (solids_deeper n after e (let u : e + 1 < d = omega arith in omega arith))))) (λ a.
         let x = ltb-false e d a in
         by_cases (eqb e d) (λ b.
         let z = eqb-true e d b in
-        ap (λ (k : ℕ). get_or left (k + 1) 0) z ∙ passed ∙ sym weight-none ∙ ap weight (sym (solids-over n after e (omega arith)))) (λ b.
+        ap (λ (k : ℕ). get_or left (k + 1) 0) z ∙ passed ∙ sym weight_none ∙ ap weight (sym (solids_over n after e (omega arith)))) (λ b.
         let z = eqb-false e d b in
         kept (e + 1) (λ g. omega arith) (λ g. z (omega arith))
         ∙ s.each e l
-        ∙ ap weight (none-deeper e (let u : d < e = omega arith in u) ∙ sym (solids-over n after e (omega arith)))))
+        ∙ ap weight (none_deeper e (let u : d < e = omega arith in u) ∙ sym (solids_over n after e (omega arith)))))
 
-    pub weigh-next : Weighed t.hs (set (set table (d + 1) 0) d v) i
-    weigh-next = record { each = λ e l. rw here (at-depth e l) }
+    pub weigh_next : Weighed t.hs (set (set table (d + 1) 0) d v) i
+    weigh_next = record { each = λ e l. rw here (at_depth e l) }

@@ -1,20 +1,20 @@
 ghost use Rattle.std.specs.Prelude.{◌≡◌, ◌&&◌, cond, List, [], ℕ, ◌+◌, ◌*◌, ◌≤◌, ◌<◌, eqb, length, get_or, drop};
 ghost use Rattle.diagram.specs.TreeNodes.{TextNode};
 ghost use Rattle.lexer.specs.Lexicon.{Lexicon};
-ghost use Rattle.grammar.specs.Keys.{keyword-at};
-ghost use Rattle.rules.specs.Kept.{fault, solids-kept, strongs-kept};
-ghost use Rattle.rules.specs.Counted.{total, any-node, eventful, capped};
-ghost use Rattle.rules.specs.Judged.{refuse, counted, verdict as verdict-of};
+ghost use Rattle.grammar.specs.Keys.{keyword_at};
+ghost use Rattle.rules.specs.Kept.{fault, solids_kept, strongs_kept};
+ghost use Rattle.rules.specs.Counted.{total, any_node, eventful, capped};
+ghost use Rattle.rules.specs.Judged.{refuse, counted, verdict as verdict_of};
 ghost use Rattle.walked.specs.Rows.{Rowed, Nested};
-ghost use Rattle.names.specs.code.Kinds.{flow-code, copying-code};
+ghost use Rattle.names.specs.code.Kinds.{flow_code, copying_code};
 ghost use Rattle.names.specs.code.Told.{node, Told, found};
-ghost use Rattle.sweeps.specs.code.Weights.{heavier as heavier-of};
+ghost use Rattle.sweeps.specs.code.Weights.{heavier as heavier_of};
 
 use rules::Verdict;
 
 // The weight of a flow's solid children, with one more whose keyword is c.
 fn heavier(w: usize, c: usize) -> usize
-    ensures { result ≡ heavier-of w c }
+    ensures { result ≡ heavier_of w c }
 {
     if w != 0 {
         return 2;
@@ -37,7 +37,7 @@ fn heavier(w: usize, c: usize) -> usize
 // The weight w of children, with the node i among them if it is solid.
 fn borne(rows: &[u16; 2056], i: usize, w: usize) -> usize
     requires { i < 256 }
-    ensures { result ≡ cond (eqb (get_or rows.now (i * 8 + 9) 0) 0) w (heavier-of w (get_or rows.now (i * 8 + 11) 0)) }
+    ensures { result ≡ cond (eqb (get_or rows.now (i * 8 + 9) 0) 0) w (heavier_of w (get_or rows.now (i * 8 + 11) 0)) }
 {
     if names::told(rows, i, 9) == 0 {
         return w;
@@ -48,7 +48,7 @@ fn borne(rows: &[u16; 2056], i: usize, w: usize) -> usize
 // One more than the number of the node i if it is a flow whose children weigh w, which is not 1; else the one found so far.
 fn blamed(rows: &[u16; 2056], i: usize, w: usize, later: usize) -> usize
     requires { i < 256 }
-    ensures { result ≡ cond (flow-code (get_or rows.now (i * 8 + 11) 0)) (cond (eqb w 1) later (i + 1)) later }
+    ensures { result ≡ cond (flow_code (get_or rows.now (i * 8 + 11) 0)) (cond (eqb w 1) later (i + 1)) later }
 {
     if names::told(rows, i, 11) != 7 {
         return later;
@@ -64,7 +64,7 @@ fn blamed(rows: &[u16; 2056], i: usize, w: usize, later: usize) -> usize
 fn solids(rows: &[u16; 2056], count: usize) -> usize
     requires { count ≤ 256 }
     ensures upper_bound { result ≤ count }
-    ensures by_index { (text : List ℕ) (t : Told text rows.now count) → fault solids-kept [] t.hs ≡ found t.hs result }
+    ensures by_index { (text : List ℕ) (t : Told text rows.now count) → fault solids_kept [] t.hs ≡ found t.hs result }
 {
     let mut weights = [0usize; 14];
     let mut first = 0;
@@ -93,7 +93,7 @@ fn cap(n: usize) -> usize
 // The size of the node i if it is a replicator, else 1.
 fn factor(rows: &[u16; 2056], i: usize) -> usize
     requires { i < 256 }
-    ensures value { result ≡ cond (copying-code (get_or rows.now (i * 8 + 11) 0)) (get_or rows.now (i * 8 + 12) 0) 1 }
+    ensures value { result ≡ cond (copying_code (get_or rows.now (i * 8 + 11) 0)) (get_or rows.now (i * 8 + 12) 0) 1 }
     ensures upper_bound { result < 65536 }
 {
     let c = names::told(rows, i, 11);
@@ -145,7 +145,7 @@ fn limits(copies: usize, events: usize) -> Verdict
 // Whether the node i is a flow whose sw is 0.
 fn weak(rows: &[u16; 2056], i: usize) -> bool
     requires { i < 256 }
-    ensures { result ≡ (flow-code (get_or rows.now (i * 8 + 11) 0) && eqb (get_or rows.now (i * 8 + 14) 0) 0) }
+    ensures { result ≡ (flow_code (get_or rows.now (i * 8 + 11) 0) && eqb (get_or rows.now (i * 8 + 14) 0) 0) }
 {
     if names::told(rows, i, 11) != 7 {
         return false;
@@ -156,7 +156,7 @@ fn weak(rows: &[u16; 2056], i: usize) -> bool
 // Numbers 10 and 11, or the counts: the first flow whose sw is 0 ends the count. How many copies a node has is kept by its depth.
 fn counts(rows: &[u16; 2056], count: usize) -> Verdict
     requires { count ≤ 256 }
-    ensures { (text : List ℕ) (t : Told text rows.now count) → result ≡ refuse 10 (keyword-at text) (fault strongs-kept [] t.hs) (counted (capped (total any-node [] t.hs)) (capped (total eventful [] t.hs))) }
+    ensures { (text : List ℕ) (t : Told text rows.now count) → result ≡ refuse 10 (keyword_at text) (fault strongs_kept [] t.hs) (counted (capped (total any_node [] t.hs)) (capped (total eventful [] t.hs))) }
 {
     let mut around = [1usize; 14];
     let mut copies = 0;
@@ -179,7 +179,7 @@ fn counts(rows: &[u16; 2056], count: usize) -> Verdict
 // Numbers 7 to 11 in this order, each over the whole text, by the rows of its nodes: the first refusal, or how many node copies and events there are.
 pub fn verdict(text: &[u8], rows: &[u16; 2056], count: usize, lexicon: &[u8; 400]) -> Verdict
     requires { (count ≤ 256) × Lexicon lexicon.now }
-    ensures { (hs : List TextNode) → length hs ≡ count → Rowed text.now rows.now 0 hs → Nested 0 hs → result ≡ verdict-of text.now hs }
+    ensures { (hs : List TextNode) → length hs ≡ count → Rowed text.now rows.now 0 hs → Nested 0 hs → result ≡ verdict_of text.now hs }
 {
     let twice = names::names(text, rows, count);
     if 0 < twice {

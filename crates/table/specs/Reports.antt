@@ -10,7 +10,7 @@ abbrev pub report : Answer → Report
 report Done = result []
 report (Refused number place) = refusal number place
 
-abbrev pub finish-report : Finish → Report
-finish-report No = result []
-finish-report Yes = record { number = 255; place = 0; values = [] }
-finish-report (FinishRefused number place) = refusal number place
+abbrev pub finish_report : Finish → Report
+finish_report No = result []
+finish_report Yes = record { number = 255; place = 0; values = [] }
+finish_report (FinishRefused number place) = refusal number place

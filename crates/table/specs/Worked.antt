@@ -3,8 +3,8 @@
 use Rattle.std.specs.Prelude.{◌≡◌, List, [], ◌∷◌, ◌++◌, map, ℕ, ◌*◌, ◌^◌, take, set, replicate}
 use Rattle.base.specs.Reports.{Report}
 use Rattle.record.specs.declared.Record.{Record}
-use Rattle.table.specs.Steps.{check-of, step_of, finished-of, offer-of, offer-left}
-use Rattle.table.specs.Reports.{report, finish-report}
+use Rattle.table.specs.Steps.{check_of, step_of, finished_of, offer_of, offer_left}
+use Rattle.table.specs.Reports.{report, finish_report}
 use Rattle.table.specs.declared.Answer.{Answer}
 use Rattle.table.specs.declared.Stepped.{Stepped}
 
@@ -129,13 +129,13 @@ abbrev stepped : Stepped → Shown Report
 stepped s = shown (report s.answer) s.after.bits
 
 abbrev offered : List ℕ → Record → List ℕ → Answer → Shown Report
-offered t before lent a = shown (report a) (offer-left t before lent a)
+offered t before lent a = shown (report a) (offer_left t before lent a)
 
 abbrev pub does : List ℕ → Call → Shown Report
-does t check = shown (report (check-of t)) []
+does t check = shown (report (check_of t)) []
 does t (step before e) = stepped (step_of t before e)
-does t (finished before) = shown (finish-report (finished-of t before)) []
-does t (offer before lent) = offered t before lent (offer-of t before lent)
+does t (finished before) = shown (finish_report (finished_of t before)) []
+does t (offer before lent) = offered t before lent (offer_of t before lent)
 
 -- A number with place 0, and no values.
 abbrev pub numbered : ℕ → Report

@@ -3,7 +3,7 @@ ghost use Rattle.layout.specs.Fields.{events, rows};
 ghost use Rattle.layout.specs.Sound.{sound};
 ghost use Rattle.layout.specs.Values.{values_of};
 ghost use Rattle.table.specs.code.PassedOn.{passed_on};
-ghost use Rattle.table.specs.Steps.{check-of, admit-of, step_of, finished-of, offered, offer-of, offer-left};
+ghost use Rattle.table.specs.Steps.{check_of, admit_of, step_of, finished_of, offered, offer_of, offer_left};
 
 use record::Record;
 
@@ -31,7 +31,7 @@ pub enum Finish {
 
 // Whether a table is sound; else number 12.
 pub fn check(table: &[u8]) -> Answer
-    ensures { result ≡ check-of table.now }
+    ensures { result ≡ check_of table.now }
 {
     if layout::sound(table) {
         return Answer::Done;
@@ -41,7 +41,7 @@ pub fn check(table: &[u8]) -> Answer
 
 // What every call but `check` looks at first, numbers 12 and 13; where there is neither, `values` has what every row says.
 fn admit(t: &[u8], before: Record, values: &mut [bool; 12288]) -> Answer
-    ensures value { result ≡ admit-of t.now before.bits }
+    ensures value { result ≡ admit_of t.now before.bits }
     ensures values_after { result ≡ Answer.Done → take (rows t.now) values.new ≡ values_of t.now before.bits }
 {
     let bits = before.bits;
@@ -102,7 +102,7 @@ fn passed_on(answer: Answer) -> Finish
 
 // Whether the last row says yes, of a sound table and a record with no set bit at or past E.
 pub fn finished(table: &[u8], before: Record) -> Finish
-    ensures { result ≡ finished-of table.now before }
+    ensures { result ≡ finished_of table.now before }
 {
     let mut values = [false; 12288];
     let answer = admit(table, before, &mut values);
@@ -138,8 +138,8 @@ fn gather(t: &[u8], values: &[bool; 12288]) -> [u64; 8]
 
 // The bit of each event that a step would take, in 64 bytes; bytes past them stay. Number 1 for a buffer of under 64 bytes, before all others.
 pub fn offer(table: &[u8], before: Record, out: &mut [u8]) -> Answer
-    ensures value { result ≡ offer-of table.now before out.old }
-    ensures out_after { out.new ≡ offer-left table.now before out.old (offer-of table.now before out.old) }
+    ensures value { result ≡ offer_of table.now before out.old }
+    ensures out_after { out.new ≡ offer_left table.now before out.old (offer_of table.now before out.old) }
 {
     if out.len() < 64 {
         return Answer::Refused(1, 0);

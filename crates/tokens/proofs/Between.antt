@@ -12,35 +12,35 @@ use Rattle.tokens.specs.Classes.{between, spacing, class_of}
 pub between_in : (a b x : ℕ) → a ≤ x → x ≤ b → between a b x ≡ true
 between_in a b x h l = and_i (le-leb a x h) (le-leb x b l)
 
-pub in-range : (a b x : ℕ) → between a b x ≡ true → (a ≤ x) × (x ≤ b)
-in-range a b x e = (leb-true a x (and_l (leb a x) (leb x b) e), leb-true x b (and_r (leb a x) (leb x b) e))
+pub in_range : (a b x : ℕ) → between a b x ≡ true → (a ≤ x) × (x ≤ b)
+in_range a b x e = (leb-true a x (and_l (leb a x) (leb x b) e), leb-true x b (and_r (leb a x) (leb x b) e))
 
-pub between-low : (a b x : ℕ) → x < a → between a b x ≡ false
-between-low a b x h = is_false (between a b x) (λ e. let l = in-range a b x e in omega arith)
+pub between_low : (a b x : ℕ) → x < a → between a b x ≡ false
+between_low a b x h = is_false (between a b x) (λ e. let l = in_range a b x e in omega arith)
 
-pub between-high : (a b x : ℕ) → b < x → between a b x ≡ false
-between-high a b x h = is_false (between a b x) (λ e. let l = in-range a b x e in omega arith)
+pub between_high : (a b x : ℕ) → b < x → between a b x ≡ false
+between_high a b x h = is_false (between a b x) (λ e. let l = in_range a b x e in omega arith)
 
 -- A byte's class is 0 to 9, and 9 only for #.
 module _ (b k : ℕ) (h : 8 ≤ k) where
-  either-small : (t : Bool) (x y : ℕ) → x ≤ 8 → y ≤ k → cond t x y ≤ k
-  either-small true x y l m = omega arith
-  either-small false x y l m = m
+  either_small : (t : Bool) (x y : ℕ) → x ≤ 8 → y ≤ k → cond t x y ≤ k
+  either_small true x y l m = omega arith
+  either_small false x y l m = m
 
-  class-within : cond (eqb b (byte "#")) 9 0 ≤ k → class_of b ≤ k
+  class_within : cond (eqb b (byte "#")) 9 0 ≤ k → class_of b ≤ k
   unfolding class_of
-  class-within l =
-      either-small (eqb b (byte "(")) 1 _ (omega arith)
-      (either-small (eqb b (byte ")")) 2 _ (omega arith)
-      (either-small (eqb b (byte ",")) 3 _ (omega arith)
-      (either-small (eqb b (byte ":")) 4 _ (omega arith)
-      (either-small (between (byte "A") (byte "Z") b || between (byte "a") (byte "z") b) 5 _ (omega arith)
-      (either-small (between (byte "0") (byte "9") b) 6 _ (omega arith)
-      (either-small (eqb b (byte "_")) 7 _ (omega arith)
-      (either-small (spacing b) 8 _ (omega arith) l)))))))
+  class_within l =
+      either_small (eqb b (byte "(")) 1 _ (omega arith)
+      (either_small (eqb b (byte ")")) 2 _ (omega arith)
+      (either_small (eqb b (byte ",")) 3 _ (omega arith)
+      (either_small (eqb b (byte ":")) 4 _ (omega arith)
+      (either_small (between (byte "A") (byte "Z") b || between (byte "a") (byte "z") b) 5 _ (omega arith)
+      (either_small (between (byte "0") (byte "9") b) 6 _ (omega arith)
+      (either_small (eqb b (byte "_")) 7 _ (omega arith)
+      (either_small (spacing b) 8 _ (omega arith) l)))))))
 
-pub class-small : (b : ℕ) → class_of b ≤ 9
-class-small b = class-within b 9 (omega arith) (by_cases (eqb b 35) (λ e. rw e (omega arith)) (λ e. rw e (omega arith)))
+pub class_small : (b : ℕ) → class_of b ≤ 9
+class_small b = class_within b 9 (omega arith) (by_cases (eqb b 35) (λ e. rw e (omega arith)) (λ e. rw e (omega arith)))
 
-pub class-smaller : (b : ℕ) → eqb b 35 ≡ false → class_of b ≤ 8
-class-smaller b e = class-within b 8 (omega arith) (rw e (omega arith))
+pub class_smaller : (b : ℕ) → eqb b 35 ≡ false → class_of b ≤ 8
+class_smaller b e = class_within b 8 (omega arith) (rw e (omega arith))

@@ -10,38 +10,38 @@ use lib.ListN.{length, drop, get_or, drop_of_length-le}
 use lib.Seq.{drop-cons}
 use Rattle.tokens.specs.Remarks.{opened, stretch}
 
-cond-le : (b : Bool) (n m : ℕ) → n ≤ m → cond b (suc n) 0 ≤ suc m
-cond-le true n m h = omega arith
-cond-le false n m h = omega arith
+cond_le : (b : Bool) (n m : ℕ) → n ≤ m → cond b (suc n) 0 ≤ suc m
+cond_le true n m h = omega arith
+cond_le false n m h = omega arith
 
 either : (v : Bool) (f : Bool → ℕ) → cond v (f true) (f false) ≡ f v
 either true f = refl
 either false f = refl
 
 -- One byte, and then those after it.
-pub stretch-cons : (t : Bool → ℕ → Bool) (o : Bool) (b : ℕ) (bs : List ℕ)
+pub stretch_cons : (t : Bool → ℕ → Bool) (o : Bool) (b : ℕ) (bs : List ℕ)
     → stretch t o (b ∷ bs) ≡ cond (t o b) (suc (stretch t (opened o b) bs)) 0
 unfolding stretch
-stretch-cons t o b bs = ap (λ (n : ℕ). cond (t o b) (suc n) 0) (either (opened o b) (λ p. stretch t p bs))
+stretch_cons t o b bs = ap (λ (n : ℕ). cond (t o b) (suc n) 0) (either (opened o b) (λ p. stretch t p bs))
 
-pub stretch-nil : (t : Bool → ℕ → Bool) (o : Bool) → stretch t o [] ≡ 0
+pub stretch_nil : (t : Bool → ℕ → Bool) (o : Bool) → stretch t o [] ≡ 0
 unfolding stretch
-stretch-nil t o = refl
+stretch_nil t o = refl
 
 module _ (t : Bool → ℕ → Bool) where
-  pub stretch-le : (o : Bool) (bs : List ℕ) → stretch t o bs ≤ length bs
-  stretch-le o [] = rw (stretch-nil t o) (omega arith)
-  stretch-le o (b ∷ bs) = rw (stretch-cons t o b bs) (cond-le (t o b) (stretch t (opened o b) bs) (length bs) (stretch-le (opened o b) bs))
+  pub stretch_le : (o : Bool) (bs : List ℕ) → stretch t o bs ≤ length bs
+  stretch_le o [] = rw (stretch_nil t o) (omega arith)
+  stretch_le o (b ∷ bs) = rw (stretch_cons t o b bs) (cond_le (t o b) (stretch t (opened o b) bs) (length bs) (stretch_le (opened o b) bs))
 
   module _ (o : Bool) (text : List ℕ) (at : ℕ) where
-    pub stretch-end : length text ≤ at → at + stretch t o (drop at text) ≡ at
-    stretch-end h = rw (drop_of_length-le text h, stretch-nil t o) (add-zero at)
+    pub stretch_end : length text ≤ at → at + stretch t o (drop at text) ≡ at
+    stretch_end h = rw (drop_of_length-le text h, stretch_nil t o) (add-zero at)
 
     module _ (h : at < length text) where
-      pub stretch-stop : t o (get_or text at 0) ≡ false → at + stretch t o (drop at text) ≡ at
-      stretch-stop e = rw (drop-cons text at 0 h, stretch-cons t o (get_or text at 0) (drop (suc at) text), e) (add-zero at)
+      pub stretch_stop : t o (get_or text at 0) ≡ false → at + stretch t o (drop at text) ≡ at
+      stretch_stop e = rw (drop-cons text at 0 h, stretch_cons t o (get_or text at 0) (drop (suc at) text), e) (add-zero at)
 
-      pub stretch-more : t o (get_or text at 0) ≡ true
+      pub stretch_more : t o (get_or text at 0) ≡ true
           → at + stretch t o (drop at text) ≡ at + 1 + stretch t (opened o (get_or text at 0)) (drop (at + 1) text)
-      stretch-more e =
-          rw (drop-cons text at 0 h, stretch-cons t o (get_or text at 0) (drop (suc at) text), e, add-one at) (add-suc _ _ ∙ sym (suc-add _ _))
+      stretch_more e =
+          rw (drop-cons text at 0 h, stretch_cons t o (get_or text at 0) (drop (suc at) text), e, add-one at) (add-suc _ _ ∙ sym (suc-add _ _))

@@ -13,14 +13,14 @@ use Rattle.base.specs.Text.{bytes}
 use Rattle.diagram.specs.Tree.{Name, all, some, one}
 use Rattle.diagram.specs.Names.{same}
 use Rattle.base.proofs.Truth.{clash, by_cases, and_l, and_i}
-use Rattle.base.proofs.Decided.{same-decides}
+use Rattle.base.proofs.Decided.{same_decides}
 use Rattle.tokens.specs.Classes.{between, spacing, class_of, foreign, worded, unbroken}
-use Rattle.tokens.specs.Words.{keywords, numerals, place_in, keyword, short, every, lettered, numeral as numeral-code, word-code, code as bytes-code}
-use Rattle.tokens.specs.Spans.{Span, spans-of}
-use Rattle.tokens.specs.Token.{Sign, opening, closing, comma, colon, Keyword, flow, leaf, group, replicator, loop, sign, key, name, numeral, other, in_order, key-place, word-place, keyed, named, class-token, numeral-token, word-token, token-of, text-tokens, proper, all-proper, sign-bytes, bytes_of, sound, sign-code, code}
-use Rattle.tokens.proofs.Below.{at-below}
-use Rattle.tokens.proofs.Between.{in-range, between_in}
-use Rattle.tokens.proofs.Remarks.{worded-unbroken}
+use Rattle.tokens.specs.Words.{keywords, numerals, place_in, keyword, short, every, lettered, numeral as numeral_code, word_code, code as bytes_code}
+use Rattle.tokens.specs.Spans.{Span, spans_of}
+use Rattle.tokens.specs.Token.{Sign, opening, closing, comma, colon, Keyword, flow, leaf, group, replicator, loop, sign, key, name, numeral, other, in_order, key_place, word_place, keyed, named, class_token, numeral_token, word_token, token_of, text_tokens, proper, all_proper, sign_bytes, bytes_of, sound, sign_code, code}
+use Rattle.tokens.proofs.Below.{at_below}
+use Rattle.tokens.proofs.Between.{in_range, between_in}
+use Rattle.tokens.proofs.Remarks.{worded_unbroken}
 
 -- What a token's bytes can be: a word, or one byte that is no blank and starts no remark.
 abbrev pub token : Name → Bool
@@ -28,9 +28,9 @@ token [] = false
 token (b ∷ []) = unbroken b
 token (b ∷ c ∷ w) = every worded (b ∷ c ∷ w)
 
-abbrev pub all-tokens : List Name → Bool
-all-tokens [] = true
-all-tokens (t ∷ ts) = token t && all-tokens ts
+abbrev pub all_tokens : List Name → Bool
+all_tokens [] = true
+all_tokens (t ∷ ts) = token t && all_tokens ts
 
 -- Which way a choice went.
 pub chosen : {A : Type 0} (b : Bool) (x y : A) (P : A → Type 0) → (b ≡ true → P x) → (b ≡ false → P y) → P (cond b x y)
@@ -45,17 +45,17 @@ pub data Found (ns : List Name) (w : Name) : Type 0 where
 pub found : (ns : List Name) (w : Name) → Found ns w
 found [] w = nowhere (λ k none. refl)
 found (n ∷ ns) w =
-    by_cases (same w n) (λ q. there 0 (omega arith) (λ k none. rw q (sym (add-zero k))) ((same-decides w n).0 q)) (λ q. later q (found ns w))
+    by_cases (same w n) (λ q. there 0 (omega arith) (λ k none. rw q (sym (add-zero k))) ((same_decides w n).0 q)) (λ q. later q (found ns w))
   where
     later : same w n ≡ false → Found ns w → Found (n ∷ ns) w
     later q (nowhere f) = nowhere (λ k none. rw q (f (suc k) none))
     later q (there i l f e) = there (suc i) (omega arith) (λ k none. rw q (f (suc k) none ∙ omega arith)) e
 
 -- The keywords by their places.
-key-at : (i : ℕ) → i < 9 → key-place (get_or in_order i loop) ≡ i
-key-at i h = eqb-true (key-place (get_or in_order i loop)) i (at-below (λ k. eqb (key-place (get_or in_order k loop)) k) 9 refl i h)
+key_at : (i : ℕ) → i < 9 → key_place (get_or in_order i loop) ≡ i
+key_at i h = eqb-true (key_place (get_or in_order i loop)) i (at_below (λ k. eqb (key_place (get_or in_order k loop)) k) 9 refl i h)
 
-pub key_back : (k : Keyword) → (key-place k < 9) × (get_or in_order (key-place k) loop ≡ k)
+pub key_back : (k : Keyword) → (key_place k < 9) × (get_or in_order (key_place k) loop ≡ k)
 key_back flow = (omega arith, refl)
 key_back leaf = (omega arith, refl)
 key_back (group all) = (omega arith, refl)
@@ -68,8 +68,8 @@ key_back loop = (omega arith, refl)
 
 -- A byte by its class: a sign, or none.
 data Classed (b c : ℕ) : Type 0 where
-  a-sign : (s : Sign) → class-token c ≡ sign s → (c ≡ sign-code s) × (1 ≤ c) → b ∷ [] ≡ sign-bytes s → Classed b c
-  no_sign : class-token c ≡ other → (c ≡ 0) ⊎ (5 ≤ c) → Classed b c
+  a_sign : (s : Sign) → class_token c ≡ sign s → (c ≡ sign_code s) × (1 ≤ c) → b ∷ [] ≡ sign_bytes s → Classed b c
+  no_sign : class_token c ≡ other → (c ≡ 0) ⊎ (5 ≤ c) → Classed b c
 
 classed : (b : ℕ) → Classed b (class_of b)
 unfolding class_of
@@ -83,37 +83,37 @@ classed b =
     (up (eqb b 95) refl (inr (omega arith))
     (up (spacing b) refl (inr (omega arith)) (up (eqb b 35) refl (inr (omega arith)) (no_sign refl (inl refl))))))))))
   where
-    at : (v : ℕ) {c d : ℕ} (s : Sign) → class-token c ≡ sign s → (c ≡ sign-code s) × (1 ≤ c) → v ∷ [] ≡ sign-bytes s → Classed b d
+    at : (v : ℕ) {c d : ℕ} (s : Sign) → class_token c ≡ sign s → (c ≡ sign_code s) × (1 ≤ c) → v ∷ [] ≡ sign_bytes s → Classed b d
         → Classed b (cond (eqb b v) c d)
-    at v {c} {d} s p q r h = chosen (eqb b v) c d (Classed b) (λ e. a-sign s p q (ap (λ (x : ℕ). x ∷ []) (eqb-true b v e) ∙ r)) (λ e. h)
+    at v {c} {d} s p q r h = chosen (eqb b v) c d (Classed b) (λ e. a_sign s p q (ap (λ (x : ℕ). x ∷ []) (eqb-true b v e) ∙ r)) (λ e. h)
 
-    up : (t : Bool) {c d : ℕ} → class-token c ≡ other → (c ≡ 0) ⊎ (5 ≤ c) → Classed b d → Classed b (cond t c d)
+    up : (t : Bool) {c d : ℕ} → class_token c ≡ other → (c ≡ 0) ⊎ (5 ≤ c) → Classed b d → Classed b (cond t c d)
     up t {c} {d} p q h = chosen t c d (Classed b) (λ e. no_sign p q) (λ e. h)
 
 -- What a word's token can be.
 data Sorted (words : List Name) (w : Name) : Type 0 where
-  signed : (s : Sign) → token-of words w ≡ sign s → worded (get_or w 0 0) ≡ false → get_or w 0 0 ∷ [] ≡ sign-bytes s → Sorted words w
-  keying : (i : ℕ) → i < 9 → token-of words w ≡ key (get_or in_order i loop) → w ≡ get_or words i [] → Sorted words w
-  naming : token-of words w ≡ name w → named words w ≡ true → Sorted words w
-  valued : (n : ℕ) → n < 17 → token-of words w ≡ numeral n → w ≡ get_or numerals n [] → Sorted words w
-  useless : token-of words w ≡ other → Sorted words w
+  signed : (s : Sign) → token_of words w ≡ sign s → worded (get_or w 0 0) ≡ false → get_or w 0 0 ∷ [] ≡ sign_bytes s → Sorted words w
+  keying : (i : ℕ) → i < 9 → token_of words w ≡ key (get_or in_order i loop) → w ≡ get_or words i [] → Sorted words w
+  naming : token_of words w ≡ name w → named words w ≡ true → Sorted words w
+  valued : (n : ℕ) → n < 17 → token_of words w ≡ numeral n → w ≡ get_or numerals n [] → Sorted words w
+  useless : token_of words w ≡ other → Sorted words w
 
 sorted : (words : List Name) (w : Name) → Sorted words w
-unfolding token-of word-token
+unfolding token_of word_token
 sorted words w =
     by_cases (worded (get_or w 0 0))
-    (λ p. by_cases (keyed words w) (keyword-at p (found words w)) (λ q. by_cases (lettered w) (letters p q) (λ l. number p q l (found numerals w))))
+    (λ p. by_cases (keyed words w) (keyword_at p (found words w)) (λ q. by_cases (lettered w) (letters p q) (λ l. number p q l (found numerals w))))
     (λ p. byte_at p (classed (get_or w 0 0)))
   where
     byte_at : worded (get_or w 0 0) ≡ false → Classed (get_or w 0 0) (class_of (get_or w 0 0)) → Sorted words w
-    byte_at p (a-sign s e c b) = signed s (rw p e) p b
+    byte_at p (a_sign s e c b) = signed s (rw p e) p b
     byte_at p (no_sign e c) = useless (rw p e)
 
-    keyword-at : worded (get_or w 0 0) ≡ true → Found words w → keyed words w ≡ true → Sorted words w
-    keyword-at p (nowhere f) q = let z = ltb-true (word-place words w) 9 q in let y = f 0 9 in let x : ⊥ = omega arith in absurd x
-    keyword-at p (there i l f e) q =
-        let z = ltb-true (word-place words w) 9 q in
-        let y : word-place words w ≡ i = f 0 9 ∙ zero-add i in
+    keyword_at : worded (get_or w 0 0) ≡ true → Found words w → keyed words w ≡ true → Sorted words w
+    keyword_at p (nowhere f) q = let z = ltb-true (word_place words w) 9 q in let y = f 0 9 in let x : ⊥ = omega arith in absurd x
+    keyword_at p (there i l f e) q =
+        let z = ltb-true (word_place words w) 9 q in
+        let y : word_place words w ≡ i = f 0 9 ∙ zero-add i in
         keying i (omega arith) (rw (p, q, y)) e
 
     letters : worded (get_or w 0 0) ≡ true → keyed words w ≡ false → lettered w ≡ true → Sorted words w
@@ -123,23 +123,23 @@ sorted words w =
     number p q l (nowhere f) = useless (rw (p, q, l, f 0 17))
     number p q l (there i h f e) = valued i h (rw (p, q, l, f 0 17, zero-add i, lt-ltb i 17 h)) e
 
-pub token-proper : (words : List Name) (w : Name) → proper words (token-of words w) ≡ true
-token-proper words w = go (sorted words w)
+pub token_proper : (words : List Name) (w : Name) → proper words (token_of words w) ≡ true
+token_proper words w = go (sorted words w)
   where
-    go : Sorted words w → proper words (token-of words w) ≡ true
+    go : Sorted words w → proper words (token_of words w) ≡ true
     go (signed s e c b) = rw e
     go (keying i h e b) = rw e
     go (naming e n) = rw e n
     go (valued n h e b) = rw e (le-leb n 16 (omega arith))
     go (useless e) = rw e
 
-pub text-proper : (words : List Name) (text : List ℕ) → all-proper words (text-tokens words text) ≡ true
-unfolding text-tokens
-text-proper words text = go (spans-of text)
+pub text_proper : (words : List Name) (text : List ℕ) → all_proper words (text_tokens words text) ≡ true
+unfolding text_tokens
+text_proper words text = go (spans_of text)
   where
-    go : (ss : List Span) → all-proper words (map (λ (s : Span). token-of words s.bytes) ss) ≡ true
+    go : (ss : List Span) → all_proper words (map (λ (s : Span). token_of words s.bytes) ss) ≡ true
     go [] = refl
-    go (s ∷ ss) = and_i (token-proper words s.bytes) (go ss)
+    go (s ∷ ss) = and_i (token_proper words s.bytes) (go ss)
 
 -- A token is written as it was read, unless it is wanted nowhere.
 single : (w : Name) → token w ≡ true → worded (get_or w 0 0) ≡ false → w ≡ get_or w 0 0 ∷ []
@@ -147,12 +147,12 @@ single [] h p = absurd (false≢true h)
 single (b ∷ []) h p = refl
 single (b ∷ c ∷ w) h p = absurd (clash (and_l (worded b) (every worded (c ∷ w)) h) p)
 
-pub written : (words : List Name) (w : Name) → token w ≡ true → (token-of words w ≡ other → ⊥) → bytes_of words (token-of words w) ≡ w
+pub written : (words : List Name) (w : Name) → token w ≡ true → (token_of words w ≡ other → ⊥) → bytes_of words (token_of words w) ≡ w
 written words w h n = go (sorted words w)
   where
-    go : Sorted words w → bytes_of words (token-of words w) ≡ w
+    go : Sorted words w → bytes_of words (token_of words w) ≡ w
     go (signed s e p b) = rw e (sym (single w h p ∙ b))
-    go (keying i l e b) = rw (e, key-at i l) (sym b)
+    go (keying i l e b) = rw (e, key_at i l) (sym b)
     go (naming e m) = rw e
     go (valued m l e b) = rw e (sym b)
     go (useless e) = absurd (n e)
@@ -160,55 +160,55 @@ written words w h n = go (sorted words w)
 pub whole_word : (w : Name) → every worded w ≡ true → worded (get_or w 0 0) ≡ true → token w ≡ true
 unfolding class_of
 whole_word [] h p = absurd (false≢true p)
-whole_word (b ∷ []) h p = worded-unbroken b p
+whole_word (b ∷ []) h p = worded_unbroken b p
 whole_word (b ∷ c ∷ w) h p = h
 
 -- With document 01's words a token has the number of its bytes, unless it is a foreign byte, which has the number 0 and is wanted nowhere.
-word-spelled : (w : Name) → token w ≡ true → worded (get_or w 0 0) ≡ true → every worded w ≡ true
-word-spelled [] h p = absurd (false≢true h)
-word-spelled (b ∷ []) h p = and_i p refl
-word-spelled (b ∷ c ∷ w) h p = h
+word_spelled : (w : Name) → token w ≡ true → worded (get_or w 0 0) ≡ true → every worded w ≡ true
+word_spelled [] h p = absurd (false≢true h)
+word_spelled (b ∷ []) h p = and_i p refl
+word_spelled (b ∷ c ∷ w) h p = h
 
-named-short : (words : List Name) (w : Name) → lettered w ≡ true → every worded w ≡ true → keyed words w ≡ false → named words w ≡ short w
+named_short : (words : List Name) (w : Name) → lettered w ≡ true → every worded w ≡ true → keyed words w ≡ false → named words w ≡ short w
 unfolding named
-named-short words w l h q = rw (l, h, q) (and-true (short w))
+named_short words w l h q = rw (l, h, q) (and-true (short w))
 
-word-coded : (w : Name) → every worded w ≡ true → code (word-token keywords w) ≡ word-code w
-unfolding word-token word-code keyword keywords numeral-code
-word-coded w h = go (found keywords w)
+word_coded : (w : Name) → every worded w ≡ true → code (word_token keywords w) ≡ word_code w
+unfolding word_token word_code keyword keywords numeral_code
+word_coded w h = go (found keywords w)
   where
     plain : (l s : Bool) → lettered w ≡ l → short w ≡ s → keyed keywords w ≡ false → Found numerals w
-        → code (cond l (cond (named keywords w) (name w) other) (numeral-token (place_in numerals 0 17 w))) ≡ cond l (cond s 6 5) (place_in numerals 16 5 w)
-    plain true true q r z f = rw (named-short keywords w q h z, r)
-    plain true false q r z f = rw (named-short keywords w q h z, r)
+        → code (cond l (cond (named keywords w) (name w) other) (numeral_token (place_in numerals 0 17 w))) ≡ cond l (cond s 6 5) (place_in numerals 16 5 w)
+    plain true true q r z f = rw (named_short keywords w q h z, r)
+    plain true false q r z f = rw (named_short keywords w q h z, r)
     plain false s q r z (nowhere f) = rw (f 0 17, f 16 5)
     plain false s q r z (there i l f e) = rw (f 0 17, f 16 5, zero-add i, lt-ltb i 17 l)
 
-    go : Found keywords w → code (word-token keywords w) ≡ word-code w
+    go : Found keywords w → code (word_token keywords w) ≡ word_code w
     go (nowhere f) = let z : keyed keywords w ≡ false = rw (f 0 9) in rw (z, f 7 0) (plain (lettered w) (short w) refl refl z (found numerals w))
-    go (there i l f e) = rw (f 0 9, f 7 0, zero-add i, lt-ltb i 9 l, lt-ltb 0 (7 + i) (omega arith)) (ap (λ (k : ℕ). 7 + k) (key-at i l))
+    go (there i l f e) = rw (f 0 9, f 7 0, zero-add i, lt-ltb i 9 l, lt-ltb 0 (7 + i) (omega arith)) (ap (λ (k : ℕ). 7 + k) (key_at i l))
 
 -- A byte that stands in no word has no class past the signs'.
 no_word : (w : Name) → token w ≡ true → worded (get_or w 0 0) ≡ false → 5 ≤ class_of (get_or w 0 0) → ⊥
 no_word [] h p c = false≢true h
-no_word (b ∷ []) h p c = clash (between_in 5 7 (class_of b) c (in-range 0 7 (class_of b) h).1) p
+no_word (b ∷ []) h p c = clash (between_in 5 7 (class_of b) c (in_range 0 7 (class_of b) h).1) p
 no_word (b ∷ d ∷ w) h p c = clash (and_l (worded b) (every worded (d ∷ w)) h) p
 
-pub known-code : (w : Name) → token w ≡ true → foreign (get_or w 0 0) ≡ false → bytes-code w ≡ code (token-of keywords w)
-unfolding token-of bytes-code
-known-code w h f =
-    by_cases (worded (get_or w 0 0)) (λ p. rw p (sym (word-coded w (word-spelled w h p)))) (λ p. sign_at p (classed (get_or w 0 0)))
+pub known_code : (w : Name) → token w ≡ true → foreign (get_or w 0 0) ≡ false → bytes_code w ≡ code (token_of keywords w)
+unfolding token_of bytes_code
+known_code w h f =
+    by_cases (worded (get_or w 0 0)) (λ p. rw p (sym (word_coded w (word_spelled w h p)))) (λ p. sign_at p (classed (get_or w 0 0)))
   where
-    sign_at : worded (get_or w 0 0) ≡ false → Classed (get_or w 0 0) (class_of (get_or w 0 0)) → bytes-code w ≡ code (token-of keywords w)
-    sign_at p (a-sign s e c b) = rw (p, e) c.0
+    sign_at : worded (get_or w 0 0) ≡ false → Classed (get_or w 0 0) (class_of (get_or w 0 0)) → bytes_code w ≡ code (token_of keywords w)
+    sign_at p (a_sign s e c b) = rw (p, e) c.0
     sign_at p (no_sign e (inl c)) = absurd (true≢false (rw c at f))
     sign_at p (no_sign e (inr c)) = absurd (no_word w h p c)
 
-pub foreign-code : (words : List Name) (w : Name) → foreign (get_or w 0 0) ≡ true → (bytes-code w ≡ 0) × (token-of words w ≡ other)
-unfolding token-of bytes-code
-foreign-code words w f = let z : class_of (get_or w 0 0) ≡ 0 = omega (arith, in-range 0 0 (class_of (get_or w 0 0)) f) in rw z (refl, refl)
+pub foreign_code : (words : List Name) (w : Name) → foreign (get_or w 0 0) ≡ true → (bytes_code w ≡ 0) × (token_of words w ≡ other)
+unfolding token_of bytes_code
+foreign_code words w f = let z : class_of (get_or w 0 0) ≡ 0 = omega (arith, in_range 0 0 (class_of (get_or w 0 0)) f) in rw z (refl, refl)
 
 -- Document 01's words are sound.
-pub keywords-sound : sound keywords ≡ true
+pub keywords_sound : sound keywords ≡ true
 unfolding sound keywords class_of
-keywords-sound = refl
+keywords_sound = refl

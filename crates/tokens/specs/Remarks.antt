@@ -26,8 +26,8 @@ strange false b = foreign b
 strange true b = not (skipped true b)
 
 -- The byte at a place of a text is foreign.
-abbrev pub foreign-at : List ℕ → ℕ → Bool
-foreign-at text j = strange (open_at false text j) (get_or text j 0)
+abbrev pub foreign_at : List ℕ → ℕ → Bool
+foreign_at text j = strange (open_at false text j) (get_or text j 0)
 
 -- How many bytes at the front pass a test, before the first that does not. The test is told whether a remark is open.
 unfoldable pub stretch : (Bool → ℕ → Bool) → Bool → List ℕ → ℕ

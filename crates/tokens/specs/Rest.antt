@@ -9,27 +9,27 @@ unfoldable pub rest : List ℕ → ℕ → List Span
 rest text at = spans (length text - at) at (drop at text)
 
 -- The first of these tokens: its number, 0 where there is none; its place, the text's end where there is none; how many bytes it has; those after it.
-abbrev pub front-code : List Span → ℕ
-front-code [] = 0
-front-code (s ∷ ss) = code s.bytes
+abbrev pub front_code : List Span → ℕ
+front_code [] = 0
+front_code (s ∷ ss) = code s.bytes
 
-abbrev pub front-place : ℕ → List Span → ℕ
-front-place e [] = e
-front-place e (s ∷ ss) = s.place
+abbrev pub front_place : ℕ → List Span → ℕ
+front_place e [] = e
+front_place e (s ∷ ss) = s.place
 
 abbrev pub front_length : List Span → ℕ
 front_length [] = 0
 front_length (s ∷ ss) = length s.bytes
 
-abbrev pub others-of : List Span → List Span
-others-of [] = []
-others-of (s ∷ ss) = ss
+abbrev pub others_of : List Span → List Span
+others_of [] = []
+others_of (s ∷ ss) = ss
 
 -- The token at a position or after it. Number 0 is no token: the text's end, or a foreign byte.
 pub record Next (text : List ℕ) (at : ℕ) (t : Lexeme) : Type 0 where
-  pub coded : t.code ≡ front-code (rest text at)
-  pub placed : t.start ≡ front-place (length text) (rest text at)
-  pub after : rest text t.end ≡ others-of (rest text at)
+  pub coded : t.code ≡ front_code (rest text at)
+  pub placed : t.start ≡ front_place (length text) (rest text at)
+  pub after : rest text t.end ≡ others_of (rest text at)
   pub within : t.start ≤ length text
   pub ended : length text ≤ t.start → rest text at ≡ []
   pub long : (t.code ≡ 0 → ⊥) → t.end ≡ t.start + front_length (rest text at)

@@ -27,12 +27,12 @@ spans zero at bs = []
 spans (suc f) at bs = cut (λ at bs. spans f at bs) (at + blanks bs) (drop (blanks bs) bs)
 
 -- The tokens of a text. Each has a byte at least, so there are no more than bytes.
-unfoldable pub spans-of : List ℕ → List Span
-spans-of text = spans (length text) 0 text
+unfoldable pub spans_of : List ℕ → List Span
+spans_of text = spans (length text) 0 text
 
 -- The tokens of a text as their bytes, and their places.
 unfoldable pub tokens : List ℕ → List Name
-tokens text = map (λ (s : Span). s.bytes) (spans-of text)
+tokens text = map (λ (s : Span). s.bytes) (spans_of text)
 
 unfoldable pub places : List ℕ → List ℕ
-places text = map (λ (s : Span). s.place) (spans-of text)
+places text = map (λ (s : Span). s.place) (spans_of text)

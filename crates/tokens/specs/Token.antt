@@ -6,7 +6,7 @@ use Rattle.diagram.specs.Tree.{Name, Way, all, some, one}
 use Rattle.diagram.specs.Names.{differ}
 use Rattle.tokens.specs.Classes.{between, class_of, letter, worded}
 use Rattle.tokens.specs.Words.{place_in, short, every, lettered, numerals}
-use Rattle.tokens.specs.Spans.{Span, spans-of}
+use Rattle.tokens.specs.Spans.{Span, spans_of}
 
 -- "one of ( ) , :"
 pub data Sign : Type 0 where
@@ -36,52 +36,52 @@ abbrev pub in_order : List Keyword
 in_order =
     flow ∷ leaf ∷ group all ∷ group some ∷ group one ∷ replicator all ∷ replicator some ∷ replicator one ∷ loop ∷ []
 
-abbrev pub way-place : Way → ℕ
-way-place all = 0
-way-place some = 1
-way-place one = 2
+abbrev pub way_place : Way → ℕ
+way_place all = 0
+way_place some = 1
+way_place one = 2
 
-abbrev pub key-place : Keyword → ℕ
-key-place flow = 0
-key-place leaf = 1
-key-place (group y) = 2 + way-place y
-key-place (replicator y) = 5 + way-place y
-key-place loop = 8
+abbrev pub key_place : Keyword → ℕ
+key_place flow = 0
+key_place leaf = 1
+key_place (group y) = 2 + way_place y
+key_place (replicator y) = 5 + way_place y
+key_place loop = 8
 
 -- The place of a word among the nine, and 9 where it is none of them.
-abbrev pub word-place : List Name → Name → ℕ
-word-place words w = place_in words 0 9 w
+abbrev pub word_place : List Name → Name → ℕ
+word_place words w = place_in words 0 9 w
 
 abbrev pub keyed : List Name → Name → Bool
-keyed words w = ltb (word-place words w) 9
+keyed words w = ltb (word_place words w) 9
 
 -- "A name starts with a letter and is no keyword"; as a word it has at most 24 bytes.
 unfoldable pub named : List Name → Name → Bool
 named words w = (lettered w && every worded w) && (short w && not (keyed words w))
 
 -- The token of a byte by its class, of a keyword and of a numeral by their places, and of a word.
-abbrev pub class-token : ℕ → Token
-class-token c =
+abbrev pub class_token : ℕ → Token
+class_token c =
     cond (eqb c 1) (sign opening) (cond (eqb c 2) (sign closing) (cond (eqb c 3) (sign comma) (cond (eqb c 4) (sign colon) other)))
 
-abbrev pub key-token : ℕ → Token
-key-token i = key (get_or in_order i loop)
+abbrev pub key_token : ℕ → Token
+key_token i = key (get_or in_order i loop)
 
-abbrev pub numeral-token : ℕ → Token
-numeral-token n = cond (ltb n 17) (numeral n) other
+abbrev pub numeral_token : ℕ → Token
+numeral_token n = cond (ltb n 17) (numeral n) other
 
-unfoldable pub word-token : List Name → Name → Token
-word-token words w =
-    cond (keyed words w) (key-token (word-place words w))
-    (cond (lettered w) (cond (named words w) (name w) other) (numeral-token (place_in numerals 0 17 w)))
+unfoldable pub word_token : List Name → Name → Token
+word_token words w =
+    cond (keyed words w) (key_token (word_place words w))
+    (cond (lettered w) (cond (named words w) (name w) other) (numeral_token (place_in numerals 0 17 w)))
 
 -- The token that a word is, or that a byte is which stands in no word.
-unfoldable pub token-of : List Name → Name → Token
-token-of words w = cond (worded (get_or w 0 0)) (word-token words w) (class-token (class_of (get_or w 0 0)))
+unfoldable pub token_of : List Name → Name → Token
+token_of words w = cond (worded (get_or w 0 0)) (word_token words w) (class_token (class_of (get_or w 0 0)))
 
 -- The tokens of a text.
-unfoldable pub text-tokens : List Name → List ℕ → List Token
-text-tokens words text = map (λ (s : Span). token-of words s.bytes) (spans-of text)
+unfoldable pub text_tokens : List Name → List ℕ → List Token
+text_tokens words text = map (λ (s : Span). token_of words s.bytes) (spans_of text)
 
 -- What the tokens of a text are: its names are names, and its numerals are those of document 01.
 abbrev pub proper : List Name → Token → Bool
@@ -91,20 +91,20 @@ proper words (name w) = named words w
 proper words (numeral n) = leb n 16
 proper words other = true
 
-abbrev pub all-proper : List Name → List Token → Bool
-all-proper words [] = true
-all-proper words (t ∷ ts) = proper words t && all-proper words ts
+abbrev pub all_proper : List Name → List Token → Bool
+all_proper words [] = true
+all_proper words (t ∷ ts) = proper words t && all_proper words ts
 
 -- How a token is written.
-abbrev pub sign-bytes : Sign → Name
-sign-bytes opening = bytes "("
-sign-bytes closing = bytes ")"
-sign-bytes comma = bytes ","
-sign-bytes colon = bytes ":"
+abbrev pub sign_bytes : Sign → Name
+sign_bytes opening = bytes "("
+sign_bytes closing = bytes ")"
+sign_bytes comma = bytes ","
+sign_bytes colon = bytes ":"
 
 abbrev pub bytes_of : List Name → Token → Name
-bytes_of words (sign s) = sign-bytes s
-bytes_of words (key k) = get_or words (key-place k) []
+bytes_of words (sign s) = sign_bytes s
+bytes_of words (key k) = get_or words (key_place k) []
 bytes_of words (name w) = w
 bytes_of words (numeral n) = get_or numerals n []
 bytes_of words other = []
@@ -113,24 +113,24 @@ bytes_of words other = []
 abbrev pub lettering : Name → Bool
 lettering w = between 1 12 (length w) && every letter w
 
-abbrev pub all-lettering : List Name → Bool
-all-lettering [] = true
-all-lettering (w ∷ ws) = lettering w && all-lettering ws
+abbrev pub all_lettering : List Name → Bool
+all_lettering [] = true
+all_lettering (w ∷ ws) = lettering w && all_lettering ws
 
 unfoldable pub sound : List Name → Bool
-sound words = eqb (length words) 9 && (all-lettering words && differ words)
+sound words = eqb (length words) 9 && (all_lettering words && differ words)
 
 -- The number by which the code knows a token: 1 to 4 the signs, 5 what is wanted nowhere, 6 a name, 7 to 15 the keywords, 16 to 32 the
 -- numerals 0 to 16.
-abbrev pub sign-code : Sign → ℕ
-sign-code opening = 1
-sign-code closing = 2
-sign-code comma = 3
-sign-code colon = 4
+abbrev pub sign_code : Sign → ℕ
+sign_code opening = 1
+sign_code closing = 2
+sign_code comma = 3
+sign_code colon = 4
 
 abbrev pub code : Token → ℕ
-code (sign s) = sign-code s
-code (key k) = 7 + key-place k
+code (sign s) = sign_code s
+code (key k) = 7 + key_place k
 code (name w) = 6
 code (numeral n) = 16 + n
 code other = 5

@@ -24,12 +24,12 @@ place_in [] k none w = none
 place_in (n ∷ ns) k none w = cond (same w n) k (place_in ns (suc k) none w)
 
 -- The number of a word among those that are the keywords, the first of which has the number 7; 0 for any other word.
-abbrev pub keyword-in : List Name → Name → ℕ
-keyword-in words w = place_in words 7 0 w
+abbrev pub keyword_in : List Name → Name → ℕ
+keyword_in words w = place_in words 7 0 w
 
 -- The number of a keyword: 7 flow, 8 leaf, 9 and, 10 or, 11 xor, 12 all, 13 some, 14 one, 15 loop; 0 for any other word.
 unfoldable pub keyword : Name → ℕ
-keyword w = keyword-in keywords w
+keyword w = keyword_in keywords w
 
 -- "at most 24 bytes"
 abbrev pub short : Name → Bool
@@ -55,9 +55,9 @@ unfoldable pub numeral : Name → ℕ
 numeral w = place_in numerals 16 5 w
 
 -- The number of a word: a keyword's, 6 for a name, a numeral's, and 5 for a word that has no place in any drawing.
-unfoldable pub word-code : Name → ℕ
-word-code w = cond (ltb 0 (keyword w)) (keyword w) (cond (lettered w) (cond (short w) 6 5) (numeral w))
+unfoldable pub word_code : Name → ℕ
+word_code w = cond (ltb 0 (keyword w)) (keyword w) (cond (lettered w) (cond (short w) 6 5) (numeral w))
 
 -- The number of a token by its bytes: a sign's class, 1 to 4, or the number of a word.
 unfoldable pub code : List ℕ → ℕ
-code w = cond (worded (get_or w 0 0)) (word-code w) (class_of (get_or w 0 0))
+code w = cond (worded (get_or w 0 0)) (word_code w) (class_of (get_or w 0 0))

@@ -3,14 +3,14 @@ use Rattle.std.specs.Prelude.{◌≡◌, List, [], ◌∷◌, map, ℕ, replicat
 use Prim.Native.Char.{code as byte}
 use Rattle.base.specs.Text.{bytes}
 use Rattle.tokens.specs.Classes.{class_of}
-use Rattle.tokens.specs.Scanned.{scan-of}
+use Rattle.tokens.specs.Scanned.{scan_of}
 use Rattle.tokens.specs.declared.Scan.{Scan}
 use Rattle.tokens.specs.declared.Scan.TheVariants.{Tokens, Refused}
 
 -- Each byte at which a class begins or ends, with those beside it: 0 foreign, 1 to 4 the signs ( ) , : in this order, 5 letter, 6 digit,
 -- 7 underscore, 8 blank, 9 the start of a remark. A tab, 9, is foreign.
-abbrev pub byte-classes : List (ℕ × ℕ)
-byte-classes =
+abbrev pub byte_classes : List (ℕ × ℕ)
+byte_classes =
     (0, 0) ∷ (9, 0) ∷ (10, 8) ∷ (11, 0) ∷ (13, 0) ∷ (31, 0) ∷ (32, 8) ∷ (33, 0) ∷ (34, 0) ∷ (35, 9) ∷ (36, 0) ∷ (39, 0) ∷ (40, 1) ∷ (41, 2) ∷ (42, 0) ∷ (43, 0) ∷ (44, 3) ∷ (45, 0)
     ∷ (47, 0) ∷ (48, 6) ∷ (57, 6) ∷ (58, 4) ∷ (59, 0) ∷ (64, 0) ∷ (65, 5) ∷ (90, 5) ∷ (91, 0) ∷ (94, 0) ∷ (95, 7) ∷ (96, 0) ∷ (97, 5) ∷ (122, 5) ∷ (123, 0)
     ∷ (127, 0) ∷ (128, 0) ∷ (255, 0) ∷ []
@@ -52,4 +52,4 @@ abbrev pub Classed : List (ℕ × ℕ) → Type 0
 Classed bs = map (λ b. class_of b.0) bs ≡ map (λ b. b.1) bs
 
 abbrev pub Scanned : List (List ℕ × Scan) → Type 0
-Scanned ts = map (λ t. scan-of t.0) ts ≡ map (λ t. t.1) ts
+Scanned ts = map (λ t. scan_of t.0) ts ≡ map (λ t. t.1) ts

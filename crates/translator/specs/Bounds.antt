@@ -5,7 +5,7 @@ use Rattle.diagram.specs.Tree.{Flow}
 use Rattle.reading.specs.Accepted.{Accepted}
 use Rattle.reading.specs.Refused.{RefusedAt}
 use Rattle.translator.specs.Reports.{report}
-use Rattle.translator.specs.Translates.{Table-of, table_of}
+use Rattle.translator.specs.Translates.{TableOf, table_of}
 use Rattle.translator.specs.declared.Translated.{Translated}
 
 -- The front of the lent bytes is the table of the diagram, and the bytes past it are those that were there.
@@ -16,15 +16,15 @@ pub record Result (text lent : List ℕ) (r : Translated) (left : List ℕ) : Ty
   pub count : ℕ
   pub is : report r ≡ result (count ∷ [])
   pub few : count ≤ 51204
-  pub length-stays : length left ≡ length lent
-  pub its-table : Table-of tree (table_of tree)
+  pub length_stays : length left ≡ length lent
+  pub its_table : TableOf tree (table_of tree)
   pub front : take count left ≡ table_of tree
   pub past : drop count left ≡ drop count lent
 
 -- Number 1, at 0, exactly where "translation under 51,204" bytes is lent; else the text's number and place.
 pub data Reason (text lent : List ℕ) (number place : ℕ) : Type 0 where
-  short-sheet : length lent < 51204 → number ≡ 1 → place ≡ 0 → Reason text lent number place
-  of-text : 51204 ≤ length lent → RefusedAt text number place → Reason text lent number place
+  short_sheet : length lent < 51204 → number ≡ 1 → place ≡ 0 → Reason text lent number place
+  of_text : 51204 ≤ length lent → RefusedAt text number place → Reason text lent number place
 
 -- One of the numbers 1 to 11, and every lent byte as it was.
 pub record Refusal (text lent : List ℕ) (r : Translated) (left : List ℕ) : Type 0 where
@@ -38,5 +38,5 @@ pub record Refusal (text lent : List ℕ) (r : Translated) (left : List ℕ) : T
   pub untouched : left ≡ lent
 
 pub data Bounded (text lent : List ℕ) (r : Translated) (left : List ℕ) : Type 0 where
-  its-result : Result text lent r left → Bounded text lent r left
-  its-refusal : Refusal text lent r left → Bounded text lent r left
+  its_result : Result text lent r left → Bounded text lent r left
+  its_refusal : Refusal text lent r left → Bounded text lent r left

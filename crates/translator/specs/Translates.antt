@@ -4,7 +4,7 @@ use Rattle.std.specs.Prelude.{◌≡◌, true, ◌&&◌, List, [], ◌∷◌, �
 use Rattle.base.specs.Fill.{fill}
 use Rattle.base.specs.Reports.{result, refusal}
 use Rattle.diagram.specs.Tree.{Flow}
-use Rattle.diagram.specs.Count.{flow-copies, flow-events}
+use Rattle.diagram.specs.Count.{flow_copies, flow_events}
 use Rattle.diagram.specs.declared.Diagram.{Diagram}
 use Rattle.reading.specs.Accepted.{Accepted}
 use Rattle.reading.specs.Refused.{RefusedAt}
@@ -13,25 +13,25 @@ use Rattle.reading.specs.declared.Answer.{Answer}
 use Rattle.reading.specs.declared.Answer.TheVariants.{Done, Refused as Unread}
 use Rattle.process.specs.Expand.{expand}
 use Rattle.process.specs.Bits.{clears}
-use Rattle.layout.specs.Fields.{events, rows, event-word, first_of, count_of}
+use Rattle.layout.specs.Fields.{events, rows, event_word, first_of, count_of}
 use Rattle.layout.specs.Sound.{sound}
-use Rattle.book.specs.Plays.{Plays-by-book}
+use Rattle.book.specs.Plays.{PlaysByBook}
 use Rattle.plan.specs.Plan.{planned}
 use Rattle.translator.specs.Reports.{report}
 use Rattle.translator.specs.declared.Translated.{Translated}
 use Rattle.translator.specs.declared.Translated.TheVariants.{Bytes, Refused}
 
 -- A table of a diagram.
-pub record Table-of (d : Flow) (t : List ℕ) : Type 0 where
-  pub its-sound : sound t ≡ true
-  pub its-events : events t ≡ flow-events d
+pub record TableOf (d : Flow) (t : List ℕ) : Type 0 where
+  pub its_sound : sound t ≡ true
+  pub its_events : events t ≡ flow_events d
   -- the bits that the record of event e clears: at a reset those of its loop's body
-  pub its-clears : (e i : ℕ) → e < flow-events d
-      → (leb (first_of (event-word t e)) i && ltb i (first_of (event-word t e) + count_of (event-word t e))) ≡ clears (expand d) e i
+  pub its_clears : (e i : ℕ) → e < flow_events d
+      → (leb (first_of (event_word t e)) i && ltb i (first_of (event_word t e) + count_of (event_word t e))) ≡ clears (expand d) e i
   -- "A translation uses at most 16 rows for each node copy": this one at most 8
-  pub its-rows : rows t ≤ 8 * flow-copies d
+  pub its_rows : rows t ≤ 8 * flow_copies d
   -- property 3
-  pub its-runs : Plays-by-book d t
+  pub its_runs : PlaysByBook d t
 
 -- The bytes that are chosen for a diagram. Which rows they have is open; they depend on the diagram alone.
 unfoldable pub table_of : Flow → List ℕ
@@ -39,10 +39,10 @@ table_of d = planned (expand d)
 
 -- They stand over the front of the lent bytes, which has room for them, and are a table of the diagram. "On success, bytes past those written stay too."
 pub record Written (d : Flow) (lent : List ℕ) (count : ℕ) (left : List ℕ) : Type 0 where
-  pub its-count : count ≡ length (table_of d)
-  pub its-left : left ≡ fill lent (table_of d)
+  pub its_count : count ≡ length (table_of d)
+  pub its_left : left ≡ fill lent (table_of d)
   pub fits : length (table_of d) ≤ length lent
-  pub its-table : Table-of d (table_of d)
+  pub its_table : TableOf d (table_of d)
 
 -- The answer to a text, and the lent bytes after it: number 1, "translation under 51,204", before all others; then reading's refusal, "Lent buffers and records keep their
 -- bytes"; or the table of the text's diagram.

@@ -8,21 +8,21 @@ use native.Mathlib.Omega.{arith}
 use Rattle.base.specs.Text.{bytes}
 use Rattle.formulas.specs.Formulas.{is}
 use Rattle.formulas.specs.Lines.{Naming, formula}
-use Rattle.formulas.specs.Conditions.{some-true, all-false}
+use Rattle.formulas.specs.Conditions.{some_true, all_false}
 use Rattle.variables.specs.code.Spelled.{connective, lead, over}
 
-pub over-one : (v : Naming) (value : Bool) (from after : ℕ) → after ≡ 0 → formula v (is from value) ≡ formula v (over value from after)
-unfolding some-true all-false
-over-one v true from after e = rw e
-over-one v false from after e = rw e
+pub over_one : (v : Naming) (value : Bool) (from after : ℕ) → after ≡ 0 → formula v (is from value) ≡ formula v (over value from after)
+unfolding some_true all_false
+over_one v true from after e = rw e
+over_one v false from after e = rw e
 
-pub over-more : (v : Naming) (value : Bool) (from after : ℕ) → (after ≡ 0 → ⊥)
+pub over_more : (v : Naming) (value : Bool) (from after : ℕ) → (after ≡ 0 → ⊥)
     → lead v from value ++ (formula v (over value (from + 1) (after - 1)) ++ bytes ")") ≡ formula v (over value from after)
-unfolding some-true all-false formula
-over-more v value from zero h = absurd (h refl)
-over-more v true from (suc after) h =
+unfolding some_true all_false formula
+over_more v value from zero h = absurd (h refl)
+over_more v true from (suc after) h =
     let e : suc after - 1 ≡ after = omega arith in
     rw (e, add-one from) (ap (λ (bs : List ℕ). bytes "(" ++ bs) (append_assoc (formula v (is from true)) (connective true) _))
-over-more v false from (suc after) h =
+over_more v false from (suc after) h =
     let e : suc after - 1 ≡ after = omega arith in
     rw (e, add-one from) (ap (λ (bs : List ℕ). bytes "(" ++ bs) (append_assoc (formula v (is from false)) (connective false) _))

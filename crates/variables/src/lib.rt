@@ -1,8 +1,8 @@
 ghost use Rattle.std.specs.Prelude.{◌≡◌, cond, ◌+◌, ◌<◌};
 ghost use Rattle.output.specs.Buffer.{buffer, put_all};
-ghost use Rattle.formulas.specs.Formulas.{is as is-of};
-ghost use Rattle.formulas.specs.Lines.{truth as truth-of, formula};
-ghost use Rattle.variables.specs.code.Spelled.{mark as mark_of, spelled, connective as connective-of, lead as lead-of, over};
+ghost use Rattle.formulas.specs.Formulas.{is as is_of};
+ghost use Rattle.formulas.specs.Lines.{truth as truth_of, formula};
+ghost use Rattle.variables.specs.code.Spelled.{mark as mark_of, spelled, connective as connective_of, lead as lead_of, over};
 
 // Where the name of each of the first 32 events stands in the text, and whether it is a reset, 1, or a leaf, 0.
 #[derive(Drop)]
@@ -38,14 +38,14 @@ pub fn name(text: &[u8], v: Variables, n: usize, out: &mut [u8], at: usize) -> u
 
 // A value as it is written.
 pub fn truth(value: bool, out: &mut [u8], at: usize) -> usize
-    ensures { buffer result out.new ≡ put_all (truth-of value) (buffer at out.old) }
+    ensures { buffer result out.new ≡ put_all (truth_of value) (buffer at out.old) }
 {
     one_of(value, b"TRUE", b"FALSE", out, at)
 }
 
 // The variable of event n has a value.
 pub fn is(text: &[u8], v: Variables, n: usize, value: bool, out: &mut [u8], at: usize) -> usize
-    ensures { buffer result out.new ≡ put_all (formula (spelled text.now v) (is-of n value)) (buffer at out.old) }
+    ensures { buffer result out.new ≡ put_all (formula (spelled text.now v) (is_of n value)) (buffer at out.old) }
 {
     let a = name(text, v, n, out, at);
     let b = output::bytes(out, a, b" = ");
@@ -54,14 +54,14 @@ pub fn is(text: &[u8], v: Variables, n: usize, value: bool, out: &mut [u8], at: 
 
 // Between two formulas: either of them, or both.
 pub fn connective(either: bool, out: &mut [u8], at: usize) -> usize
-    ensures { buffer result out.new ≡ put_all (connective-of either) (buffer at out.old) }
+    ensures { buffer result out.new ≡ put_all (connective_of either) (buffer at out.old) }
 {
     one_of(either, b" or ", b" & ", out, at)
 }
 
 // A formula of two up to its second: the variable of event n has a value.
 fn lead(text: &[u8], v: Variables, n: usize, value: bool, out: &mut [u8], at: usize) -> usize
-    ensures { buffer result out.new ≡ put_all (lead-of (spelled text.now v) n value) (buffer at out.old) }
+    ensures { buffer result out.new ≡ put_all (lead_of (spelled text.now v) n value) (buffer at out.old) }
 {
     let a = output::bytes(out, at, b"(");
     let b = is(text, v, n, value, out, a);

@@ -1,6 +1,6 @@
 ghost use Rattle.std.specs.Prelude.{◌≡◌, ◌<◌};
-ghost use Rattle.grammar.specs.Machine.{root, member, child, flow-parts, group-parts, loop-parts};
-ghost use Rattle.grammar.specs.code.Coded.{coded-parts};
+ghost use Rattle.grammar.specs.Machine.{root, member, child, flow_parts, group_parts, loop_parts};
+ghost use Rattle.grammar.specs.code.Coded.{coded_parts};
 ghost use Rattle.walked.specs.Walk.{ending};
 ghost use Rattle.walked.specs.code.Readers.{Fills, Opens, told};
 ghost use Rattle.heads.specs.code.Lent.{Lent};
@@ -34,7 +34,7 @@ fn read_flow(
     lexicon: &[u8; 400],
 ) -> Step
     requires { Lent text.now lexicon.now }
-    ensures { Fills text.now (flow-parts depth) n at rows.old result rows.new }
+    ensures { Fills text.now (flow_parts depth) n at rows.old result rows.new }
 {
     let s = heads::read_flow_head(text, at, n, rows, lexicon);
     let Step::Go(mut p, mut m) = s else {
@@ -125,7 +125,7 @@ fn read_constructor(
     lexicon: &[u8; 400],
 ) -> Step
     requires { Lent text.now lexicon.now }
-    ensures { 8 < c → Fills text.now (coded-parts c depth) n at rows.old result rows.new }
+    ensures { 8 < c → Fills text.now (coded_parts c depth) n at rows.old result rows.new }
 {
     if c <= XOR {
         return read_group(text, at, depth, n, rows, lexicon);
@@ -151,7 +151,7 @@ fn read_group(
     lexicon: &[u8; 400],
 ) -> Step
     requires { Lent text.now lexicon.now }
-    ensures { Fills text.now (group-parts depth) n at rows.old result rows.new }
+    ensures { Fills text.now (group_parts depth) n at rows.old result rows.new }
 {
     let s = heads::sign(text, at, n, 1, lexicon);
     let Step::Go(p, m) = s else {
@@ -186,7 +186,7 @@ fn read_body(
     lexicon: &[u8; 400],
 ) -> Step
     requires { Lent text.now lexicon.now }
-    ensures { Fills text.now (loop-parts depth) n at rows.old result rows.new }
+    ensures { Fills text.now (loop_parts depth) n at rows.old result rows.new }
 {
     let s = heads::sign(text, at, n, 1, lexicon);
     let Step::Go(p, m) = s else {

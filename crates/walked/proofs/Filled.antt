@@ -41,8 +41,8 @@ pub record Head (rows rows' : List ℕ) (n : ℕ) (vs : List ℕ) : Type 0 where
   pub before : (j : ℕ) → j < n * 8 + 8 → get_or rows' j 0 ≡ get_or rows j 0
   pub here : Holds rows' n vs
 
-head-none : (rows : List ℕ) (n : ℕ) → Room rows n → Head rows rows n (0 ∷ 0 ∷ 0 ∷ 0 ∷ 0 ∷ 0 ∷ 0 ∷ 0 ∷ [])
-head-none rows n r = record {
+head_none : (rows : List ℕ) (n : ℕ) → Room rows n → Head rows rows n (0 ∷ 0 ∷ 0 ∷ 0 ∷ 0 ∷ 0 ∷ 0 ∷ 0 ∷ [])
+head_none rows n r = record {
   room = record { sized = r.sized; clear = λ j h. r.clear j (omega arith) };
   before = λ j h. refl;
   here = λ j h. r.clear (n * 8 + 8 + j) (omega arith) ∙ sym (get_or-replicate 8 j 0 0 h);
@@ -50,8 +50,8 @@ head-none rows n r = record {
 
 -- A store into the row.
 module _ {rows rows' : List ℕ} {n : ℕ} {vs : List ℕ} (l : n < 256) where
-  pub head-store : (i k v : ℕ) → i < 8 → length vs ≡ 8 → k ≡ n * 8 + 8 + i → Head rows rows' n vs → Head rows (store rows' k v) n (set vs i v)
-  head-store i k v h e q x = record {
+  pub head_store : (i k v : ℕ) → i < 8 → length vs ≡ 8 → k ≡ n * 8 + 8 + i → Head rows rows' n vs → Head rows (store rows' k v) n (set vs i v)
+  head_store i k v h e q x = record {
     room = record {
       sized = store_length rows' k v ∙ x.room.sized;
       clear = λ j g. store_other rows' k v j (λ z. omega arith) ∙ x.room.clear j g;
@@ -64,12 +64,12 @@ module _ {rows rows' : List ℕ} {n : ℕ} {vs : List ℕ} (l : n < 256) where
         store_other rows' k v (n * 8 + 8 + j) (λ z. f (omega arith)) ∙ (x.here j g ∙ sym (get_or-set_other vs i j v 0 f)));
   }
 
-pub head-begun : (rows : List ℕ) (n c p d : ℕ) → n < 256 → Room rows n → Head rows (begun rows n c p d) n (p ∷ 0 ∷ 0 ∷ c ∷ 0 ∷ (13 - d) ∷ 0 ∷ 0 ∷ [])
+pub head_begun : (rows : List ℕ) (n c p d : ℕ) → n < 256 → Room rows n → Head rows (begun rows n c p d) n (p ∷ 0 ∷ 0 ∷ c ∷ 0 ∷ (13 - d) ∷ 0 ∷ 0 ∷ [])
 unfolding begun
-head-begun rows n c p d l r =
-    head-store l 5 (n * 8 + 13) (13 - d) (omega arith) refl (omega arith)
-    (head-store l 3 (n * 8 + 11) c (omega arith) refl (omega arith)
-    (head-store l 0 (n * 8 + 8) p (omega arith) refl (omega arith) (head-none rows n r)))
+head_begun rows n c p d l r =
+    head_store l 5 (n * 8 + 13) (13 - d) (omega arith) refl (omega arith)
+    (head_store l 3 (n * 8 + 11) c (omega arith) refl (omega arith)
+    (head_store l 0 (n * 8 + 8) p (omega arith) refl (omega arith) (head_none rows n r)))
 
 -- Rows after the nodes n to m - 1 were written.
 pub record Kept (n m : ℕ) (rows rows' : List ℕ) : Type 0 where
@@ -77,17 +77,17 @@ pub record Kept (n m : ℕ) (rows rows' : List ℕ) : Type 0 where
   pub room : Room rows' m
   pub before : (j : ℕ) → j < n * 8 + 8 → get_or rows' j 0 ≡ get_or rows j 0
 
-kept-seq : {n m q : ℕ} {rows rows' rows'' : List ℕ} → Kept n m rows rows' → Kept m q rows' rows'' → Kept n q rows rows''
-kept-seq x y = record {
+kept_seq : {n m q : ℕ} {rows rows' rows'' : List ℕ} → Kept n m rows rows' → Kept m q rows' rows'' → Kept n q rows rows''
+kept_seq x y = record {
   grows = omega arith;
   room = y.room;
   before = λ j h. y.before j (omega arith) ∙ x.before j h;
 }
 
-any-mark : (v : ℕ) (vs : List ℕ) (b : Bool) (j : ℕ) → (j ≡ 1 → ⊥) → get_or (v ∷ 0 ∷ vs) j 0 ≡ get_or (v ∷ mark b ∷ vs) j 0
-any-mark v vs b zero h = refl
-any-mark v vs b (suc zero) h = absurd (h refl)
-any-mark v vs b (suc (suc j)) h = refl
+any_mark : (v : ℕ) (vs : List ℕ) (b : Bool) (j : ℕ) → (j ≡ 1 → ⊥) → get_or (v ∷ 0 ∷ vs) j 0 ≡ get_or (v ∷ mark b ∷ vs) j 0
+any_mark v vs b zero h = refl
+any_mark v vs b (suc zero) h = absurd (h refl)
+any_mark v vs b (suc (suc j)) h = refl
 
 module _ (text : List ℕ) where
   -- The rows from n to m - 1 are the nodes that a part of a drawing puts before others: they are so in any rows that are the same there.
@@ -115,9 +115,9 @@ module _ (text : List ℕ) where
   }
 
   module _ {n m q : ℕ} {rows rows' rows'' : List ℕ} {f g : List TextNode → List TextNode} where
-    pub part-seq : Part n m rows rows' f → Part m q rows' rows'' g → Part n q rows rows'' (λ hs. f (g hs))
-    part-seq x y = record {
-      kept = kept-seq x.kept y.kept;
+    pub part_seq : Part n m rows rows' f → Part m q rows' rows'' g → Part n q rows rows'' (λ hs. f (g hs))
+    part_seq x y = record {
+      kept = kept_seq x.kept y.kept;
       counted = λ hs. x.counted (g hs) ∙ y.counted hs;
       told = λ rs hs s a.
           let l = x.kept.grows in
@@ -127,16 +127,16 @@ module _ (text : List ℕ) where
 
   module _ {n m : ℕ} {rows rows' : List ℕ} {f : Bool → List TextNode → List TextNode} (x : First n m rows rows' f) where
     -- A member has no mark.
-    pub part-plain : Part n m rows rows' (f false)
-    part-plain = record {
+    pub part_plain : Part n m rows rows' (f false)
+    part_plain = record {
       kept = x.kept;
       counted = x.counted false;
       told = λ rs hs s a. let l = x.some in x.told false rs hs (λ j h k z. s j h k) (s (n * 8 + 9) (omega arith) (omega arith) ∙ x.bare) a;
     }
 
     -- A child has that of its ref.
-    pub part-marked : (r : Bool) → n < 256 → Part n m rows (store rows' (n * 8 + 9) (mark r)) (f r)
-    part-marked r u =
+    pub part_marked : (r : Bool) → n < 256 → Part n m rows (store rows' (n * 8 + 9) (mark r)) (f r)
+    part_marked r u =
         let l = x.some in
         let k = n * 8 + 9 in
         record {
@@ -156,9 +156,9 @@ module _ (text : List ℕ) where
 
   -- A node with its parts, where any rows that hold these numbers tell it.
   module _ {n m : ℕ} {rows rows' rows'' : List ℕ} {f : List TextNode → List TextNode} (v : ℕ) (vs : List ℕ) where
-    pub first-node : Head rows rows' n (v ∷ 0 ∷ vs) → (h : Bool → TextNode) → ((rs : List ℕ) (b : Bool) → Holds rs n (v ∷ mark b ∷ vs) → Row text rs n (h b))
+    pub first_node : Head rows rows' n (v ∷ 0 ∷ vs) → (h : Bool → TextNode) → ((rs : List ℕ) (b : Bool) → Holds rs n (v ∷ mark b ∷ vs) → Row text rs n (h b))
         → Part (suc n) m rows' rows'' f → First n m rows rows'' (λ b hs. h b ∷ f hs)
-    first-node x h e y =
+    first_node x h e y =
         let l = y.kept.grows in
         record {
           kept = record { grows = omega arith; room = y.kept.room; before = λ j g. y.kept.before j (omega arith) ∙ x.before j g };
@@ -170,7 +170,7 @@ module _ (text : List ℕ) where
                 (λ p. let z = eqb-true j 1 p in rw z (ap (λ (j : ℕ). get_or rs j 0) (omega arith) ∙ t))
                 (λ p. let z = eqb-false j 1 p in
                 s (n * 8 + 8 + j) (omega arith) (omega arith) (λ w. z (omega arith))
-                ∙ (y.kept.before (n * 8 + 8 + j) (omega arith) ∙ (x.here j g ∙ any-mark v vs b j z)))),
+                ∙ (y.kept.before (n * 8 + 8 + j) (omega arith) ∙ (x.here j g ∙ any_mark v vs b j z)))),
             y.told rs hs (λ j g k. s j (omega arith) k (λ w. omega arith)) a,
           );
         }

@@ -6,50 +6,50 @@ use Prim.Native.Nat.{ℕ, suc, ◌+◌, ◌*◌, ◌-◌, ◌≤◌, ◌<◌}
 use native.Mathlib.Omega.{arith}
 use lib.ListN.{length}
 use Rattle.diagram.specs.Tree.{Name, Way, all, some, one, flow, Children, none, next, Child, loop, group, replicator, Member, leaf, Members, end, also}
-use Rattle.diagram.specs.Count.{child-nodes, member-nodes}
-use Rattle.diagram.specs.TreeNodes.{TextNode, own, flowing, has-name, size_of, group-kind, replicator-kind, text-node, flow-text-node, flow-tree-nodes, children-tree-nodes, child-tree-nodes, member-tree-nodes, members-tree-nodes}
+use Rattle.diagram.specs.Count.{child_nodes, member_nodes}
+use Rattle.diagram.specs.TreeNodes.{TextNode, own, flowing, has_name, size_of, group_kind, replicator_kind, text_node, flow_text_node, flow_tree_nodes, children_tree_nodes, child_tree_nodes, member_tree_nodes, members_tree_nodes}
 use Rattle.diagram.specs.declared.Kind.{Kind}
 use Rattle.diagram.specs.declared.Kind.TheVariants.{Flow as FlowNode, Leaf, Loop}
 use Rattle.tokens.specs.Classes.{between}
 use Rattle.tokens.specs.Words.{keywords}
 use Rattle.tokens.specs.Token.{opening, closing, comma, colon, Keyword, Token, key, numeral, code}
 use Rattle.grammar.specs.Named.{all_named}
-use Rattle.grammar.specs.Tokens.{bit, pars-tokens, ref-tokens, flow-tokens, children-tokens, child-tokens, member-tokens, members-tokens}
+use Rattle.grammar.specs.Tokens.{bit, pars_tokens, ref_tokens, flow_tokens, children_tokens, child_tokens, member_tokens, members_tokens}
 use Rattle.grammar.specs.Machine.{Place, member, child, allows, Want, sign, number, params, node, more, others, ref, parts}
 use Rattle.walked.specs.Walk.{State, state, store, begun, waiting}
-use Rattle.walked.specs.Rows.{mark, kind-code, Row}
-use Rattle.walked.proofs.Filled.{Room, Holds, Head, head-store, head-begun, Part, First, part_none, part-seq, part-plain, part-marked, first-node}
-use Rattle.walked.proofs.Past.{start_of, Here, past-key, past-token, past-bit, key-there}
-use Rattle.walked.proofs.Row.{no_name, one_name, with-pars, row_told}
-use Rattle.walked.proofs.Track.{past-pars, track, closes, ref-step, size_step, pars-step, open_step, name-step, more-closing, others-closing, more-node, others-node}
+use Rattle.walked.specs.Rows.{mark, kind_code, Row}
+use Rattle.walked.proofs.Filled.{Room, Holds, Head, head_store, head_begun, Part, First, part_none, part_seq, part_plain, part_marked, first_node}
+use Rattle.walked.proofs.Past.{start_of, Here, past_key, past_token, past_bit, key_there}
+use Rattle.walked.proofs.Row.{no_name, one_name, with_pars, row_told}
+use Rattle.walked.proofs.Track.{past_pars, track, closes, ref_step, size_step, pars_step, open_step, name_step, more_closing, others_closing, more_node, others_node}
 
 -- The keywords and the kinds of a way.
-group-code : (y : Way) → code (key (Keyword.group y)) ≡ kind-code (group-kind y)
-group-code all = refl
-group-code some = refl
-group-code one = refl
+group_code : (y : Way) → code (key (Keyword.group y)) ≡ kind_code (group_kind y)
+group_code all = refl
+group_code some = refl
+group_code one = refl
 
-group-unnamed : (y : Way) → (has-name (group-kind y) ≡ false) × (size_of (group-kind y) ≡ 0)
-group-unnamed all = (refl, refl)
-group-unnamed some = (refl, refl)
-group-unnamed one = (refl, refl)
+group_unnamed : (y : Way) → (has_name (group_kind y) ≡ false) × (size_of (group_kind y) ≡ 0)
+group_unnamed all = (refl, refl)
+group_unnamed some = (refl, refl)
+group_unnamed one = (refl, refl)
 
-replicator-code : (y : Way) (z : ℕ) → code (key (Keyword.replicator y)) ≡ kind-code (replicator-kind y z)
-replicator-code all z = refl
-replicator-code some z = refl
-replicator-code one z = refl
+replicator_code : (y : Way) (z : ℕ) → code (key (Keyword.replicator y)) ≡ kind_code (replicator_kind y z)
+replicator_code all z = refl
+replicator_code some z = refl
+replicator_code one z = refl
 
-replicator-named : (y : Way) (z : ℕ)
-    → (has-name (replicator-kind y z) ≡ true) × (flowing (replicator-kind y z) ≡ false) × (size_of (replicator-kind y z) ≡ z)
-replicator-named all z = (refl, refl, refl)
-replicator-named some z = (refl, refl, refl)
-replicator-named one z = (refl, refl, refl)
+replicator_named : (y : Way) (z : ℕ)
+    → (has_name (replicator_kind y z) ≡ true) × (flowing (replicator_kind y z) ≡ false) × (size_of (replicator_kind y z) ≡ z)
+replicator_named all z = (refl, refl, refl)
+replicator_named some z = (refl, refl, refl)
+replicator_named one z = (refl, refl, refl)
 
 module _ (text : List ℕ) where
   past_all : {n k : ℕ} (ps : List Name) (sw : Bool) (ts : List Token)
-      → Here text n k (pars-tokens ps (Token.sign comma ∷ bit sw ∷ Token.sign closing ∷ Token.sign opening ∷ ts)) → Here text n (past-pars k ps) ts
-  past_all [] sw ts h = past-token text refl (past-token text refl (past-bit text sw (past-token text refl h)))
-  past_all (p ∷ ps) sw ts h = past_all ps sw ts (past-token text refl (past-token text refl h))
+      → Here text n k (pars_tokens ps (Token.sign comma ∷ bit sw ∷ Token.sign closing ∷ Token.sign opening ∷ ts)) → Here text n (past_pars k ps) ts
+  past_all [] sw ts h = past_token text refl (past_token text refl (past_bit text sw (past_token text refl h)))
+  past_all (p ∷ ps) sw ts h = past_all ps sw ts (past_token text refl (past_token text refl h))
 
   -- The node that stands from the tokens ts up to the tokens us, the nodes n to m - 1, is walked over; after it the children s wait as p says.
   pub record Walked (w : Want) (p : List ℕ → List ℕ) (ts us : List Token) (g : Bool → List TextNode → List TextNode) (n m k : ℕ) (rows : List ℕ) : Type 0 where
@@ -78,49 +78,49 @@ module _ (text : List ℕ) where
   module _ (around : List Name) (d x : ℕ) where
     abbrev pub MemberWalks : Place → Member → List Token → ℕ → ℕ → Type 0
     MemberWalks place a us n m =
-        Walks (node place d) (λ s. waiting place n s) (member-tokens a us) us (λ b hs. member-tree-nodes own a around b x n hs) n m
+        Walks (node place d) (λ s. waiting place n s) (member_tokens a us) us (λ b hs. member_tree_nodes own a around b x n hs) n m
 
     abbrev pub ChildWalks : Child → List Token → ℕ → ℕ → Type 0
-    ChildWalks c us n m = Walks (node child d) (λ s. n ∷ s) (child-tokens c us) us (λ b hs. child-tree-nodes own c around b x n hs) n m
+    ChildWalks c us n m = Walks (node child d) (λ s. n ∷ s) (child_tokens c us) us (λ b hs. child_tree_nodes own c around b x n hs) n m
 
     abbrev pub MembersPass : List Want → Members → List Token → ℕ → ℕ → Type 0
     MembersPass vs ms us n m =
-        Passes vs (members-tokens ms (Token.sign closing ∷ us)) us (λ hs. members-tree-nodes own ms around x n hs) n m
+        Passes vs (members_tokens ms (Token.sign closing ∷ us)) us (λ hs. members_tree_nodes own ms around x n hs) n m
 
     abbrev pub ChildrenPass : List Want → Children → List Token → ℕ → ℕ → Type 0
     ChildrenPass vs cs us n m =
-        Passes vs (children-tokens cs (Token.sign closing ∷ us)) us (λ hs. children-tree-nodes own cs around x n hs) n m
+        Passes vs (children_tokens cs (Token.sign closing ∷ us)) us (λ hs. children_tree_nodes own cs around x n hs) n m
 
     -- No more than the `)`.
     module _ (us : List Token) (n m : ℕ) (M : n ≡ m) where
-      end-closed : (vs : List Want) → ((st : State) (ws : List Want) (k : ℕ) → track text (vs ++ ws) n st k (Token.sign closing ∷ us) ≡ track text ws n st (suc k) us)
+      end_closed : (vs : List Want) → ((st : State) (ws : List Want) (k : ℕ) → track text (vs ++ ws) n st k (Token.sign closing ∷ us) ≡ track text ws n st (suc k) us)
           → Passes vs (Token.sign closing ∷ us) us (λ hs. hs) n m
-      end-closed vs c k rows r h = record {
+      end_closed vs c k rows r h = record {
         after = rows;
         next = suc k;
         goes = λ s ws. c (state rows s) ws k ∙ ap (λ (i : ℕ). track text ws i (state rows s) (suc k) us) M;
-        here = rw (← M) (past-token text refl h);
+        here = rw (← M) (past_token text refl h);
         part = part_none text n m rows M r;
       }
 
-      pub last-closed : MembersPass (sign closing ∷ []) end us n m
-      unfolding members-tokens members-tree-nodes
-      last-closed = end-closed (sign closing ∷ []) (λ st ws k. closes text ws n st k us)
+      pub last_closed : MembersPass (sign closing ∷ []) end us n m
+      unfolding members_tokens members_tree_nodes
+      last_closed = end_closed (sign closing ∷ []) (λ st ws k. closes text ws n st k us)
 
-      pub members-end : MembersPass (others d ∷ []) end us n m
-      unfolding members-tokens members-tree-nodes
-      members-end = end-closed (others d ∷ []) (λ st ws k. others-closing text d ws n st k us)
+      pub members_end : MembersPass (others d ∷ []) end us n m
+      unfolding members_tokens members_tree_nodes
+      members_end = end_closed (others d ∷ []) (λ st ws k. others_closing text d ws n st k us)
 
-      pub children-none : ChildrenPass (more d ∷ []) none us n m
-      unfolding children-tokens children-tree-nodes
-      children-none = end-closed (more d ∷ []) (λ st ws k. more-closing text d ws n st k us)
+      pub children_none : ChildrenPass (more d ∷ []) none us n m
+      unfolding children_tokens children_tree_nodes
+      children_none = end_closed (more d ∷ []) (λ st ws k. more_closing text d ws n st k us)
 
     -- A member, or a child with its ref, and then others.
     module _ (us : List Token) (n m : ℕ) where
-      pub member-then : (vs : List Want) (a : Member) (ms : Members) → MemberWalks member a (members-tokens ms (Token.sign closing ∷ us)) n (n + member-nodes a)
-          → MembersPass vs ms us (n + member-nodes a) m → MembersPass (node member d ∷ vs) (also a ms) us n m
-      unfolding members-tokens members-tree-nodes
-      member-then vs a ms A M k rows room h =
+      pub member_then : (vs : List Want) (a : Member) (ms : Members) → MemberWalks member a (members_tokens ms (Token.sign closing ∷ us)) n (n + member_nodes a)
+          → MembersPass vs ms us (n + member_nodes a) m → MembersPass (node member d ∷ vs) (also a ms) us n m
+      unfolding members_tokens members_tree_nodes
+      member_then vs a ms A M k rows room h =
           let u = A k rows room h in
           let v = M u.next u.after u.first.kept.room u.here in
           record {
@@ -128,28 +128,28 @@ module _ (text : List ℕ) where
             next = v.next;
             goes = λ s ws. u.goes s (vs ++ ws) ∙ v.goes s ws;
             here = v.here;
-            part = part-seq text (part-plain text u.first) v.part;
+            part = part_seq text (part_plain text u.first) v.part;
           }
 
-      pub child-then : (c : Child) (r : Bool) (cs : Children) → n < 256
-          → ChildWalks c (ref-tokens r (children-tokens cs (Token.sign closing ∷ us))) n (n + child-nodes c)
-          → ChildrenPass (more d ∷ []) cs us (n + child-nodes c) m → ChildrenPass (node child d ∷ ref ++ (more d ∷ [])) (next c r cs) us n m
-      unfolding children-tokens children-tree-nodes
-      child-then c r cs U C K k rows room h =
+      pub child_then : (c : Child) (r : Bool) (cs : Children) → n < 256
+          → ChildWalks c (ref_tokens r (children_tokens cs (Token.sign closing ∷ us))) n (n + child_nodes c)
+          → ChildrenPass (more d ∷ []) cs us (n + child_nodes c) m → ChildrenPass (node child d ∷ ref ++ (more d ∷ [])) (next c r cs) us n m
+      unfolding children_tokens children_tree_nodes
+      child_then c r cs U C K k rows room h =
           let u = C k rows room h in
-          let p = part-marked text u.first r U in
+          let p = part_marked text u.first r U in
           let v =
           K (suc (suc (suc u.next))) (store u.after (n * 8 + 9) (mark r)) p.kept.room
-          (past-token text refl (past-bit text r (past-token text refl u.here))) in
+          (past_token text refl (past_bit text r (past_token text refl u.here))) in
           record {
             after = v.after;
             next = v.next;
             goes = λ s ws.
                 u.goes s (ref ++ (more d ∷ ws))
-                ∙ (ref-step text (more d ∷ ws) (n + child-nodes c) n u.after s u.next r (children-tokens cs (Token.sign closing ∷ us))
+                ∙ (ref_step text (more d ∷ ws) (n + child_nodes c) n u.after s u.next r (children_tokens cs (Token.sign closing ∷ us))
                 ∙ v.goes s ws);
             here = v.here;
-            part = part-seq text p v.part;
+            part = part_seq text p v.part;
           }
 
       -- The same after others.
@@ -159,15 +159,15 @@ module _ (text : List ℕ) where
           let u = A k rows room h in
           record { after = u.after; next = u.next; goes = λ s ws. q (state rows s) ws k ∙ u.goes s ws; here = u.here; part = u.part }
 
-      pub members-also : (a : Member) (ms : Members) (w : Keyword) (ts : List Token) → allows member w ≡ true
-          → members-tokens (also a ms) (Token.sign closing ∷ us) ≡ key w ∷ ts
+      pub members_also : (a : Member) (ms : Members) (w : Keyword) (ts : List Token) → allows member w ≡ true
+          → members_tokens (also a ms) (Token.sign closing ∷ us) ≡ key w ∷ ts
           → MembersPass (node member d ∷ others d ∷ []) (also a ms) us n m → MembersPass (others d ∷ []) (also a ms) us n m
-      members-also a ms w ts B q A = begins (λ st ws k. rw q (others-node text d ws n st k ts w B)) A
+      members_also a ms w ts B q A = begins (λ st ws k. rw q (others_node text d ws n st k ts w B)) A
 
-      pub children-next : (c : Child) (r : Bool) (cs : Children) (w : Keyword) (ts : List Token)
-          → children-tokens (next c r cs) (Token.sign closing ∷ us) ≡ key w ∷ ts
+      pub children_next : (c : Child) (r : Bool) (cs : Children) (w : Keyword) (ts : List Token)
+          → children_tokens (next c r cs) (Token.sign closing ∷ us) ≡ key w ∷ ts
           → ChildrenPass (node child d ∷ ref ++ (more d ∷ [])) (next c r cs) us n m → ChildrenPass (more d ∷ []) (next c r cs) us n m
-      children-next c r cs w ts q C = begins (λ st ws k. rw q (more-node text d ws n st k ts w)) C
+      children_next c r cs w ts q C = begins (λ st ws k. rw q (more_node text d ws n st k ts w)) C
 
   -- The node n at depth x, where d depths are left: its row, and then its parts.
   module _ (around : List Name) (d x n m : ℕ) (D : d + x ≡ 13) (H : 0 < d) (G : n < m) (U : m ≤ 256) where
@@ -177,116 +177,116 @@ module _ (text : List ℕ) where
     few : n < 256
     few = omega arith
 
-    node-walked : {w : Want} {p : List ℕ → List ℕ} {us : List Want} {ts ts₁ rest : List Token} {g : List TextNode → List TextNode} {rows rows₁ : List ℕ}
+    node_walked : {w : Want} {p : List ℕ → List ℕ} {us : List Want} {ts ts₁ rest : List Token} {g : List TextNode → List TextNode} {rows rows₁ : List ℕ}
         (k i v : ℕ) (vs : List ℕ) (h : Bool → TextNode) → ((rs : List ℕ) (b : Bool) → Holds rs n (v ∷ mark b ∷ vs) → Row text rs n (h b))
         → Head rows rows₁ n (v ∷ 0 ∷ vs)
         → ((s : List ℕ) (ws : List Want) → track text (w ∷ ws) n (state rows s) k ts ≡ track text (us ++ ws) (suc n) (state rows₁ (p s)) i ts₁)
         → Here text (suc n) i ts₁ → Passes us ts₁ rest g (suc n) m → Walked w p ts rest (λ b hs. h b ∷ g hs) n m k rows
-    node-walked {p = p} {rows₁ = rows₁} k i v vs h tell y front there parts =
+    node_walked {p = p} {rows₁ = rows₁} k i v vs h tell y front there parts =
         let q = parts i rows₁ y.room there in
         record {
           after = q.after;
           next = q.next;
           goes = λ s ws. front s ws ∙ q.goes (p s) ws;
           here = q.here;
-          first = first-node text v vs y h tell q.part;
+          first = first_node text v vs y h tell q.part;
         }
 
     -- The row with the name, which stands two tokens after the keyword.
-    named-rows : List ℕ → ℕ → ℕ → ℕ → List ℕ
-    named-rows rows k c e = store (store (begun rows n c (start_of text k) d) (suc n * 8 + 2) (start_of text (suc (suc k)))) (suc n * 8 + 7) e
+    named_rows : List ℕ → ℕ → ℕ → ℕ → List ℕ
+    named_rows rows k c e = store (store (begun rows n c (start_of text k) d) (suc n * 8 + 2) (start_of text (suc (suc k)))) (suc n * 8 + 7) e
 
-    head-named : (rows : List ℕ) (k c e : ℕ) → Room rows n
-        → Head rows (named-rows rows k c e) n (start_of text k ∷ 0 ∷ start_of text (suc (suc k)) ∷ c ∷ 0 ∷ (13 - d) ∷ 0 ∷ e ∷ [])
-    unfolding named-rows
-    head-named rows k c e r =
-        head-store few 7 (suc n * 8 + 7) e (omega arith) refl (omega arith)
-        (head-store few 2 (suc n * 8 + 2) (start_of text (suc (suc k))) (omega arith) refl (omega arith) (head-begun rows n c (start_of text k) d few r))
+    head_named : (rows : List ℕ) (k c e : ℕ) → Room rows n
+        → Head rows (named_rows rows k c e) n (start_of text k ∷ 0 ∷ start_of text (suc (suc k)) ∷ c ∷ 0 ∷ (13 - d) ∷ 0 ∷ e ∷ [])
+    unfolding named_rows
+    head_named rows k c e r =
+        head_store few 7 (suc n * 8 + 7) e (omega arith) refl (omega arith)
+        (head_store few 2 (suc n * 8 + 2) (start_of text (suc (suc k))) (omega arith) refl (omega arith) (head_begun rows n c (start_of text k) d few r))
 
-    pub leaf-walks : (place : Place) (t : Name) (us : List Token) → allows place Keyword.leaf ≡ true
+    pub leaf_walks : (place : Place) (t : Name) (us : List Token) → allows place Keyword.leaf ≡ true
         → MembersPass around (d - 1) (suc x) (sign closing ∷ []) end us (suc n) m → MemberWalks around d x place (leaf t) us n m
-    unfolding member-tokens member-tree-nodes named-rows
-    leaf-walks place t us a E k rows r h =
+    unfolding member_tokens member_tree_nodes named_rows
+    leaf_walks place t us a E k rows r h =
         let p = start_of text (suc (suc k)) in
-        node-walked k (suc (suc (suc k))) (start_of text k) (p ∷ 8 ∷ 0 ∷ (13 - d) ∷ 0 ∷ (p + length t) ∷ []) (λ b. text-node n Leaf b x t)
+        node_walked k (suc (suc (suc k))) (start_of text k) (p ∷ 8 ∷ 0 ∷ (13 - d) ∷ 0 ∷ (p + length t) ∷ []) (λ b. text_node n Leaf b x t)
         (λ rs b. rw depth
-        (row_told text n (start_of text k) p (p + length t) 0 (text-node n Leaf b x t) refl (key-there text h) refl
+        (row_told text n (start_of text k) p (p + length t) 0 (text_node n Leaf b x t) refl (key_there text h) refl
         (one_name text n k Keyword.leaf t (Token.sign closing ∷ us) h Leaf refl refl) rs))
-        (head-named rows k 8 (p + length t) r)
-        (λ s ws. name-step text place d n Keyword.leaf a H few (sign closing ∷ []) ws rows s k (Token.sign closing ∷ us) t refl)
-        (past-token text refl (past-token text refl (past-key text h))) E
+        (head_named rows k 8 (p + length t) r)
+        (λ s ws. name_step text place d n Keyword.leaf a H few (sign closing ∷ []) ws rows s k (Token.sign closing ∷ us) t refl)
+        (past_token text refl (past_token text refl (past_key text h))) E
 
     -- A constructor with members but no name.
-    bare-walked : (w : Keyword) (kind : Kind) (vs : List Want) (ms : Members) (us : List Token) → code (key w) ≡ kind-code kind
-        → parts w (d - 1) ≡ sign opening ∷ vs → has-name kind ≡ false → size_of kind ≡ 0 → MembersPass around (d - 1) (suc x) vs ms us (suc n) m
-        → Walks (node child d) (λ s. n ∷ s) (key w ∷ Token.sign opening ∷ members-tokens ms (Token.sign closing ∷ us)) us
-        (λ b hs. text-node n kind b x [] ∷ members-tree-nodes own ms around (suc x) (suc n) hs) n m
-    bare-walked w kind vs ms us c p f z M k rows r h =
-        node-walked k (suc (suc k)) (start_of text k) (0 ∷ kind-code kind ∷ 0 ∷ (13 - d) ∷ 0 ∷ 0 ∷ []) (λ b. text-node n kind b x [])
+    bare_walked : (w : Keyword) (kind : Kind) (vs : List Want) (ms : Members) (us : List Token) → code (key w) ≡ kind_code kind
+        → parts w (d - 1) ≡ sign opening ∷ vs → has_name kind ≡ false → size_of kind ≡ 0 → MembersPass around (d - 1) (suc x) vs ms us (suc n) m
+        → Walks (node child d) (λ s. n ∷ s) (key w ∷ Token.sign opening ∷ members_tokens ms (Token.sign closing ∷ us)) us
+        (λ b hs. text_node n kind b x [] ∷ members_tree_nodes own ms around (suc x) (suc n) hs) n m
+    bare_walked w kind vs ms us c p f z M k rows r h =
+        node_walked k (suc (suc k)) (start_of text k) (0 ∷ kind_code kind ∷ 0 ∷ (13 - d) ∷ 0 ∷ 0 ∷ []) (λ b. text_node n kind b x [])
         (λ rs b. rw depth
-        (row_told text n (start_of text k) 0 0 0 (text-node n kind b x []) refl (key-there text h) z (no_name text n kind f) rs))
-        (head-begun rows n (kind-code kind) (start_of text k) d few r)
+        (row_told text n (start_of text k) 0 0 0 (text_node n kind b x []) refl (key_there text h) z (no_name text n kind f) rs))
+        (head_begun rows n (kind_code kind) (start_of text k) d few r)
         (λ s ws. rw (← c)
-        (open_step text child d n w refl H few vs ws rows s k (members-tokens ms (Token.sign closing ∷ us)) p))
-        (past-token text refl (past-key text h)) M
+        (open_step text child d n w refl H few vs ws rows s k (members_tokens ms (Token.sign closing ∷ us)) p))
+        (past_token text refl (past_key text h)) M
 
-    pub loop-walks : (a : Member) (us : List Token) → MembersPass around (d - 1) (suc x) (node member (d - 1) ∷ sign closing ∷ []) (also a end) us (suc n) m
+    pub loop_walks : (a : Member) (us : List Token) → MembersPass around (d - 1) (suc x) (node member (d - 1) ∷ sign closing ∷ []) (also a end) us (suc n) m
         → ChildWalks around d x (loop a) us n m
-    unfolding child-tokens child-tree-nodes
-    loop-walks a us A = bare-walked Keyword.loop Loop (node member (d - 1) ∷ sign closing ∷ []) (also a end) us refl refl refl refl A
+    unfolding child_tokens child_tree_nodes
+    loop_walks a us A = bare_walked Keyword.loop Loop (node member (d - 1) ∷ sign closing ∷ []) (also a end) us refl refl refl refl A
 
-    pub group-walks : (y : Way) (a o : Member) (ms : Members) (us : List Token)
+    pub group_walks : (y : Way) (a o : Member) (ms : Members) (us : List Token)
         → MembersPass around (d - 1) (suc x) (node member (d - 1) ∷ node member (d - 1) ∷ others (d - 1) ∷ []) (also a (also o ms)) us (suc n) m
         → ChildWalks around d x (group y a o ms) us n m
-    unfolding child-tokens child-tree-nodes
-    group-walks y a o ms us A =
-        bare-walked (Keyword.group y) (group-kind y) (node member (d - 1) ∷ node member (d - 1) ∷ others (d - 1) ∷ []) (also a (also o ms)) us
-        (group-code y) refl (group-unnamed y).0 (group-unnamed y).1 A
+    unfolding child_tokens child_tree_nodes
+    group_walks y a o ms us A =
+        bare_walked (Keyword.group y) (group_kind y) (node member (d - 1) ∷ node member (d - 1) ∷ others (d - 1) ∷ []) (also a (also o ms)) us
+        (group_code y) refl (group_unnamed y).0 (group_unnamed y).1 A
 
-    pub replicator-walks : (y : Way) (par : Name) (z : ℕ) (a : Member) (us : List Token) → between 1 16 z ≡ true
+    pub replicator_walks : (y : Way) (par : Name) (z : ℕ) (a : Member) (us : List Token) → between 1 16 z ≡ true
         → MembersPass (around ++ (par ∷ [])) (d - 1) (suc x) (node member (d - 1) ∷ sign closing ∷ []) (also a end) us (suc n) m
         → ChildWalks around d x (replicator y par z a) us n m
-    unfolding child-tokens child-tree-nodes named-rows
-    replicator-walks y par z a us g A k rows r h =
-        let kind = replicator-kind y z in
-        let f = replicator-named y z in
+    unfolding child_tokens child_tree_nodes named_rows
+    replicator_walks y par z a us g A k rows r h =
+        let kind = replicator_kind y z in
+        let f = replicator_named y z in
         let p = start_of text (suc (suc k)) in
         let e = p + length par in
         let vs = node member (d - 1) ∷ sign closing ∷ [] in
-        let ts = member-tokens a (Token.sign closing ∷ us) in
+        let ts = member_tokens a (Token.sign closing ∷ us) in
         let ts₁ = Token.sign colon ∷ numeral z ∷ Token.sign closing ∷ Token.sign opening ∷ ts in
-        let h₁ = past-token text refl (past-token text refl (past-key text h)) in
-        node-walked k (suc (suc (suc (suc (suc (suc (suc k))))))) (start_of text k) (p ∷ kind-code kind ∷ z ∷ (13 - d) ∷ 0 ∷ e ∷ [])
-        (λ b. text-node n kind b x par)
+        let h₁ = past_token text refl (past_token text refl (past_key text h)) in
+        node_walked k (suc (suc (suc (suc (suc (suc (suc k))))))) (start_of text k) (p ∷ kind_code kind ∷ z ∷ (13 - d) ∷ 0 ∷ e ∷ [])
+        (λ b. text_node n kind b x par)
         (λ rs b. rw depth
-        (row_told text n (start_of text k) p e z (text-node n kind b x par) refl (key-there text h) f.2
+        (row_told text n (start_of text k) p e z (text_node n kind b x par) refl (key_there text h) f.2
         (one_name text n k (Keyword.replicator y) par ts₁ h kind f.0 f.1) rs))
-        (head-store few 4 (suc n * 8 + 4) z (omega arith) refl (omega arith) (head-named rows k (kind-code kind) e r))
-        (λ s ws. rw (← replicator-code y z)
-        (name-step text child d n (Keyword.replicator y) refl H few
+        (head_store few 4 (suc n * 8 + 4) z (omega arith) refl (omega arith) (head_named rows k (kind_code kind) e r))
+        (λ s ws. rw (← replicator_code y z)
+        (name_step text child d n (Keyword.replicator y) refl H few
         (sign colon ∷ number 1 16 ∷ sign closing ∷ sign opening ∷ vs) ws rows s k ts₁ par refl
-        ∙ size_step text (vs ++ ws) (suc n) (named-rows rows k (code (key (Keyword.replicator y))) e) (n ∷ s) (suc (suc (suc k))) z ts g))
-        (past-token text refl (past-token text refl (past-token text refl (past-token text refl h₁)))) A
+        ∙ size_step text (vs ++ ws) (suc n) (named_rows rows k (code (key (Keyword.replicator y))) e) (n ∷ s) (suc (suc (suc k))) z ts g))
+        (past_token text refl (past_token text refl (past_token text refl (past_token text refl h₁)))) A
 
-    pub flow-walks : (place : Place) (t : Name) (ps : List Name) (sw : Bool) (c : Child) (r : Bool) (cs : Children) (us : List Token)
+    pub flow_walks : (place : Place) (t : Name) (ps : List Name) (sw : Bool) (c : Child) (r : Bool) (cs : Children) (us : List Token)
         → allows place Keyword.flow ≡ true → all_named keywords ps ≡ true
         → ChildrenPass around (d - 1) (suc x) (node child (d - 1) ∷ ref ++ (more (d - 1) ∷ [])) (next c r cs) us (suc n) m
-        → Walks (node place d) (λ s. waiting place n s) (flow-tokens (flow t ps sw c r cs) us) us
-        (λ b hs. flow-tree-nodes own (flow t ps sw c r cs) around b x n hs) n m
-    unfolding flow-tokens flow-tree-nodes named-rows
-    flow-walks place t ps sw c r cs us a g K k rows room h =
+        → Walks (node place d) (λ s. waiting place n s) (flow_tokens (flow t ps sw c r cs) us) us
+        (λ b hs. flow_tree_nodes own (flow t ps sw c r cs) around b x n hs) n m
+    unfolding flow_tokens flow_tree_nodes named_rows
+    flow_walks place t ps sw c r cs us a g K k rows room h =
         let p = start_of text (suc (suc k)) in
         let e = p + length t in
         let vs = node child (d - 1) ∷ ref ++ (more (d - 1) ∷ []) in
-        let ts = children-tokens (next c r cs) (Token.sign closing ∷ us) in
-        let ts₁ = pars-tokens ps (Token.sign comma ∷ bit sw ∷ Token.sign closing ∷ Token.sign opening ∷ ts) in
+        let ts = children_tokens (next c r cs) (Token.sign closing ∷ us) in
+        let ts₁ = pars_tokens ps (Token.sign comma ∷ bit sw ∷ Token.sign closing ∷ Token.sign opening ∷ ts) in
         let k₁ = suc (suc (suc k)) in
-        node-walked k (past-pars k₁ ps) (start_of text k) (p ∷ 7 ∷ 0 ∷ (13 - d) ∷ mark sw ∷ e ∷ []) (λ b. flow-text-node n b sw x t ps)
+        node_walked k (past_pars k₁ ps) (start_of text k) (p ∷ 7 ∷ 0 ∷ (13 - d) ∷ mark sw ∷ e ∷ []) (λ b. flow_text_node n b sw x t ps)
         (λ rs b. rw depth
-        (row_told text n (start_of text k) p e 0 (flow-text-node n b sw x t ps) refl (key-there text h) refl
-        (with-pars text n k Keyword.flow t ts₁ h FlowNode ps sw (Token.sign opening ∷ ts) refl g refl) rs))
-        (head-store few 6 (suc n * 8 + 6) (mark sw) (omega arith) refl (omega arith) (head-named rows k 7 e room))
+        (row_told text n (start_of text k) p e 0 (flow_text_node n b sw x t ps) refl (key_there text h) refl
+        (with_pars text n k Keyword.flow t ts₁ h FlowNode ps sw (Token.sign opening ∷ ts) refl g refl) rs))
+        (head_store few 6 (suc n * 8 + 6) (mark sw) (omega arith) refl (omega arith) (head_named rows k 7 e room))
         (λ s ws.
-        name-step text place d n Keyword.flow a H few (params ∷ sign opening ∷ vs) ws rows s k ts₁ t refl
-        ∙ pars-step text ps (vs ++ ws) (suc n) (named-rows rows k 7 e) (waiting place n s) k₁ sw ts)
-        (past_all ps sw ts (past-token text refl (past-token text refl (past-key text h)))) K
+        name_step text place d n Keyword.flow a H few (params ∷ sign opening ∷ vs) ws rows s k ts₁ t refl
+        ∙ pars_step text ps (vs ++ ws) (suc n) (named_rows rows k 7 e) (waiting place n s) k₁ sw ts)
+        (past_all ps sw ts (past_token text refl (past_token text refl (past_key text h)))) K

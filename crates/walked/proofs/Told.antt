@@ -7,24 +7,24 @@ use native.Mathlib.Nat.{zero-add}
 use native.Mathlib.Omega.{arith}
 use lib.ListN.{length, get_or, replicate, length-replicate}
 use Rattle.diagram.specs.Tree.{Flow}
-use Rattle.diagram.specs.Count.{flow-nodes}
-use Rattle.diagram.specs.Depth.{flow-depth}
-use Rattle.diagram.specs.TreeNodes.{TextNode, own, flow-tree-nodes, nodes-by}
+use Rattle.diagram.specs.Count.{flow_nodes}
+use Rattle.diagram.specs.Depth.{flow_depth}
+use Rattle.diagram.specs.TreeNodes.{TextNode, own, flow_tree_nodes, nodes_by}
 use Rattle.tokens.specs.Words.{keywords}
-use Rattle.tokens.specs.Spans.{spans-of, places}
-use Rattle.tokens.specs.Token.{text-tokens}
-use Rattle.grammar.specs.Tokens.{flow-tokens}
+use Rattle.tokens.specs.Spans.{spans_of, places}
+use Rattle.tokens.specs.Token.{text_tokens}
+use Rattle.grammar.specs.Tokens.{flow_tokens}
 use Rattle.grammar.specs.Machine.{node, root, depths}
 use Rattle.grammar.specs.Derives.{Derives}
-use Rattle.grammar.proofs.Fit.{grammatical-fit}
+use Rattle.grammar.proofs.Fit.{grammatical_fit}
 use Rattle.walked.specs.Walk.{State, state, whole, ending}
 use Rattle.walked.specs.Rows.{Rowed}
-use Rattle.walked.proofs.Located.{rest-start}
+use Rattle.walked.proofs.Located.{rest_start}
 use Rattle.walked.proofs.Filled.{Room}
-use Rattle.walked.proofs.Past.{at-start}
-use Rattle.walked.proofs.Track.{track, walk-track}
+use Rattle.walked.proofs.Past.{at_start}
+use Rattle.walked.proofs.Track.{track, walk_track}
 use Rattle.walked.proofs.Nodes.{Walked}
-use Rattle.walked.proofs.Tree.{flow-all}
+use Rattle.walked.proofs.Tree.{flow_all}
 
 -- What the walk leaves of rows where nothing is written.
 pub record Tells (text : List ℕ) (hs : List TextNode) (n : ℕ) (rows : List ℕ) : Type 0 where
@@ -32,21 +32,21 @@ pub record Tells (text : List ℕ) (hs : List TextNode) (n : ℕ) (rows : List �
   pub sized : length rows ≡ 2056
   pub nodes : Rowed text rows 0 hs
 
-module _ (text : List ℕ) (d : Flow) (g : Derives keywords (text-tokens keywords text) d) (N : flow-nodes d ≤ 256) (H : flow-depth d ≤ 12)
+module _ (text : List ℕ) (d : Flow) (g : Derives keywords (text_tokens keywords text) d) (N : flow_nodes d ≤ 256) (H : flow_depth d ≤ 12)
     (rows : List ℕ) (r : Room rows 0) where
-  walked : Walked text (node root depths) (λ s. s) (flow-tokens d []) [] (λ b hs. flow-tree-nodes own d [] b 1 0 hs) 0 (flow-nodes d) 0 rows
+  walked : Walked text (node root depths) (λ s. s) (flow_tokens d []) [] (λ b hs. flow_tree_nodes own d [] b 1 0 hs) 0 (flow_nodes d) 0 rows
   walked =
-      flow-all text d [] root [] depths 1 0 (flow-nodes d) refl (omega arith) ((grammatical-fit keywords d).0 g.proper) 0 rows r
-      (rw (← g.tokens) (at-start text))
+      flow_all text d [] root [] depths 1 0 (flow_nodes d) refl (omega arith) ((grammatical_fit keywords d).0 g.proper) 0 rows r
+      (rw (← g.tokens) (at_start text))
 
-  ends-whole : ending text rows ≡ whole (flow-nodes d) (state walked.after [])
-  unfolding ending track text-tokens places
-  ends-whole =
-      rw (rest-start text)
-      (walk-track text (node root depths ∷ []) 0 (state rows []) 0 (spans-of text) (λ i. rw (zero-add i))
+  ends_whole : ending text rows ≡ whole (flow_nodes d) (state walked.after [])
+  unfolding ending track text_tokens places
+  ends_whole =
+      rw (rest_start text)
+      (walk_track text (node root depths ∷ []) 0 (state rows []) 0 (spans_of text) (λ i. rw (zero-add i))
       ∙ (ap (track text (node root depths ∷ []) 0 (state rows []) 0) g.tokens ∙ walked.goes [] []))
 
-  tells : Tells text (nodes-by own d) (flow-nodes d) walked.after
+  tells : Tells text (nodes_by own d) (flow_nodes d) walked.after
   tells =
       let f = walked.first in
       record {
@@ -55,13 +55,13 @@ module _ (text : List ℕ) (d : Flow) (g : Derives keywords (text-tokens keyword
         nodes = f.told false walked.after [] (λ j a b z. refl) f.bare tt;
       }
 
-  read-from : (st : State) × (ending text rows ≡ whole (flow-nodes d) st)
-  read-from = (state walked.after [], ends-whole)
+  read_from : (st : State) × (ending text rows ≡ whole (flow_nodes d) st)
+  read_from = (state walked.after [], ends_whole)
 
-  told-from : (n : ℕ) (st : State) → ending text rows ≡ whole n st → Tells text (nodes-by own d) n st.rows
-  told-from n st e =
-      let a : n ≡ flow-nodes d = cc ends-whole in
-      let b : st ≡ state walked.after [] = cc ends-whole in
+  told_from : (n : ℕ) (st : State) → ending text rows ≡ whole n st → Tells text (nodes_by own d) n st.rows
+  told_from n st e =
+      let a : n ≡ flow_nodes d = cc ends_whole in
+      let b : st ≡ state walked.after [] = cc ends_whole in
       rw (a, b) tells
 
 -- Rows that are all zero.
@@ -70,12 +70,12 @@ zeros zero j = refl
 zeros (suc n) zero = refl
 zeros (suc n) (suc j) = zeros n j
 
-all-zero : Room (replicate 2056 0) 0
-all-zero = record { sized = length-replicate {A = ℕ} 2056 0; clear = λ j h. zeros 2056 j }
+all_zero : Room (replicate 2056 0) 0
+all_zero = record { sized = length-replicate {A = ℕ} 2056 0; clear = λ j h. zeros 2056 j }
 
-module _ (text : List ℕ) (d : Flow) (g : Derives keywords (text-tokens keywords text) d) (N : flow-nodes d ≤ 256) (H : flow-depth d ≤ 12) where
-  pub read : (st : State) × (ending text (replicate 2056 0) ≡ whole (flow-nodes d) st)
-  read = read-from text d g N H (replicate 2056 0) all-zero
+module _ (text : List ℕ) (d : Flow) (g : Derives keywords (text_tokens keywords text) d) (N : flow_nodes d ≤ 256) (H : flow_depth d ≤ 12) where
+  pub read : (st : State) × (ending text (replicate 2056 0) ≡ whole (flow_nodes d) st)
+  read = read_from text d g N H (replicate 2056 0) all_zero
 
-  pub told : (n : ℕ) (st : State) → ending text (replicate 2056 0) ≡ whole n st → Tells text (nodes-by own d) n st.rows
-  told n st e = told-from text d g N H (replicate 2056 0) all-zero n st e
+  pub told : (n : ℕ) (st : State) → ending text (replicate 2056 0) ≡ whole n st → Tells text (nodes_by own d) n st.rows
+  told n st e = told_from text d g N H (replicate 2056 0) all_zero n st e

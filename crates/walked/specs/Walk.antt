@@ -3,9 +3,9 @@ use Rattle.std.specs.Prelude.{cond, List, [], ◌∷◌, ◌++◌, ℕ, ◌+◌,
 use Rattle.diagram.specs.Tree.{Name}
 use Rattle.tokens.specs.Words.{keywords}
 use Rattle.tokens.specs.Spans.{Span}
-use Rattle.tokens.specs.Token.{closing, Token, key, name, numeral, other, token-of, code}
+use Rattle.tokens.specs.Token.{closing, Token, key, name, numeral, other, token_of, code}
 use Rattle.tokens.specs.Rest.{rest}
-use Rattle.grammar.specs.Machine.{is-sign, is_name, Place, root, member, child, Want, sign, named, number, params, param, node, more, others, Move, off, big, push, depths, Outcome, expand}
+use Rattle.grammar.specs.Machine.{is_sign, is_name, Place, root, member, child, Want, sign, named, number, params, param, node, more, others, Move, off, big, push, depths, Outcome, expand}
 use Rattle.grammar.specs.Machine as Machine
 
 -- The rows of the nodes, eight numbers each, from row 1 on, so that the last node read has the row of its count: 0 the place of the keyword, 1 the
@@ -72,8 +72,8 @@ effect (number a b) n t p st = cond (eqb a 0) (marking (value t) st) (sizing n (
 effect params n t p st = st
 effect param n t p st = cond (is_name t) st (switching n (value t) st)
 effect (node place d) n t p st = beginning place d n (code t) p st
-effect (more d) n t p st = cond (is-sign closing t) st (beginning child d n (code t) p st)
-effect (others d) n t p st = cond (is-sign closing t) st (beginning member d n (code t) p st)
+effect (more d) n t p st = cond (is_sign closing t) st (beginning child d n (code t) p st)
+effect (others d) n t p st = cond (is_sign closing t) st (beginning member d n (code t) p st)
 
 -- What stands at the end: a text read, with its number of nodes and their rows; or a refusal at a place.
 pub data End : Type 0 where
@@ -91,8 +91,8 @@ walk [] n st e [] = whole n st
 walk [] n st e (s ∷ ss) = stop 5 s.place
 walk (w ∷ ws) n st e [] = stop 5 e
 walk (w ∷ ws) n st e (s ∷ ss) =
-    proceed (expand w n (token-of keywords s.bytes)) s.place
-    (λ u vs. walk (vs ++ ws) (n + u) (effect w n (token-of keywords s.bytes) s.place st) e ss)
+    proceed (expand w n (token_of keywords s.bytes)) s.place
+    (λ u vs. walk (vs ++ ws) (n + u) (effect w n (token_of keywords s.bytes) s.place st) e ss)
 
 -- The machine from a position of a text on.
 abbrev pub from : List ℕ → List Want → ℕ → State → ℕ → End

@@ -1,6 +1,6 @@
 -- One after the other.
 use native.Mathlib.Omega.{arith}
-use Rattle.output.proofs.Buffers.{before, same-put}
+use Rattle.output.proofs.Buffers.{before, same_put}
 use Rattle.variables.specs.code.Spelled.{spelled}
 use Rattle.actions.proofs.ByKind.{from_first}
 use borrow.Author.Rules.{rules}
@@ -17,9 +17,9 @@ returns c =
     let c25 = c21.before.before.before.before in
     let c30 = c25.before.before.before.before.before in
     before _ _ _ c25.bytes.ensures
-    (before _ _ _ (same-put _ _ _ c20.bytes2.ensures c21.word.ensures.its-word)
-    (before _ _ _ c15.bytes3.ensures (before _ _ _ (same-put _ _ _ c11.lines.ensures (from_first (spelled c30.args.text.now c30.args.v) 0 0 c30.args.n))
-    (before _ _ _ c6.bytes4.ensures (same-put _ _ _ c.before.before.lines2.ensures (from_first (spelled c30.args.text.now c30.args.v) 1 1 c30.args.n))))))
+    (before _ _ _ (same_put _ _ _ c20.bytes2.ensures c21.word.ensures.its_word)
+    (before _ _ _ c15.bytes3.ensures (before _ _ _ (same_put _ _ _ c11.lines.ensures (from_first (spelled c30.args.text.now c30.args.v) 0 0 c30.args.n))
+    (before _ _ _ c6.bytes4.ensures (same_put _ _ _ c.before.before.lines2.ensures (from_first (spelled c30.args.text.now c30.args.v) 1 1 c30.args.n))))))
 
 pub declarations-spec : {M : Type 1} → statement M
 declarations-spec =

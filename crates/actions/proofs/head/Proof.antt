@@ -1,5 +1,5 @@
 -- By the kind.
-use Rattle.output.proofs.Buffers.{before, none-put}
+use Rattle.output.proofs.Buffers.{before, none_put}
 use borrow.Author.Tests.{eq-eqb, ne_eqb}
 use borrow.Author.Rules.{rules}
 use Rattle.actions.proofs.head.Statement.{statement}
@@ -16,7 +16,7 @@ pub head_spec : {M : Type 1} → statement M
 head_spec =
     tie.close
     (tie.spec
-    (λ c. rw (eq-eqb _ 0 c.if1.true) (none-put _))
+    (λ c. rw (eq-eqb _ 0 c.if1.true) (none_put _))
     (λ c κs. search rules)
     (λ c κs. search rules)
     (λ c. search rules)

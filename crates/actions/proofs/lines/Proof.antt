@@ -7,7 +7,7 @@ use lib.ListN.{length}
 use Rattle.output.specs.Buffer.{buffer, put_all}
 use Rattle.variables.specs.code.Spelled.{spelled}
 use Rattle.actions.specs.code.Written.{lines as lines_of}
-use Rattle.actions.proofs.ByKind.{lines-begin, lines_next, lines_end}
+use Rattle.actions.proofs.ByKind.{lines_begin, lines_next, lines_end}
 use borrow.Author.Rules.{rules}
 use Rattle.actions.proofs.lines.Statement.{statement}
 use Rattle.actions.proofs.lines.Tie as tie
@@ -23,7 +23,7 @@ decreases-loop text v kind k from to out₀ at a₀ i₀ out a i = to - i
 loop-holds : tie.Need-loop-init invariant-loop decreases-loop
 loop-holds c =
     let a = c.before.before.args in
-    (omega arith, c.before.before.requires.2, refl, ap (λ (bs : List ℕ). put_all bs (buffer a.at a.out.now)) (lines-begin (spelled c.before.before.args.text.now c.before.before.args.v) a.kind a.k a.from a.to 0 c.before.before.requires.2))
+    (omega arith, c.before.before.requires.2, refl, ap (λ (bs : List ℕ). put_all bs (buffer a.at a.out.now)) (lines_begin (spelled c.before.before.args.text.now c.before.before.args.v) a.kind a.k a.from a.to 0 c.before.before.requires.2))
 
 loop-again : tie.Need-loop-preserved invariant-loop decreases-loop
 loop-again c =

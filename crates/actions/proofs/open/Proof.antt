@@ -1,7 +1,7 @@
 -- One after the other.
 use Prim.Native.Nat.{◌<◌}
 use native.Mathlib.Omega.{arith}
-use Rattle.output.proofs.Buffers.{before, same-put}
+use Rattle.output.proofs.Buffers.{before, same_put}
 use Rattle.variables.specs.code.Spelled.{spelled}
 use Rattle.actions.proofs.ByKind.{opened, from_first}
 use borrow.Author.Rules.{rules}
@@ -20,7 +20,7 @@ returns-2 c =
     let c16 = c11.before.before.before.before.before in
     let c21 = c16.before.before.before.before.before in
     λ l.
-    same-put _ _ _ (before _ _ _ c16.declarations.ensures (before _ _ _ c11.bytes.ensures (before _ _ _ (same-put _ _ _ c7.lines.ensures (from_first (spelled c21.args.text.now c21.args.v) 3 1 c21.args.n)) c.before.before.bytes2.ensures))) (opened _ _ _)
+    same_put _ _ _ (before _ _ _ c16.declarations.ensures (before _ _ _ c11.bytes.ensures (before _ _ _ (same_put _ _ _ c7.lines.ensures (from_first (spelled c21.args.text.now c21.args.v) 3 1 c21.args.n)) c.before.before.bytes2.ensures))) (opened _ _ _)
 
 pub open_spec : {M : Type 1} → statement M
 open_spec =

@@ -1,8 +1,8 @@
 -- The event's own line, and then those of what it clears.
 use Prim.Native.Nat.{◌<◌}
 use native.Mathlib.Omega.{arith}
-use Rattle.output.proofs.Buffers.{before, same-put}
-use Rattle.actions.proofs.ByKind.{event-actions}
+use Rattle.output.proofs.Buffers.{before, same_put}
+use Rattle.actions.proofs.ByKind.{event_actions}
 use borrow.Author.Rules.{rules}
 use Rattle.actions.proofs.write.Statement.{statement}
 use Rattle.actions.proofs.write.Tie as tie
@@ -20,7 +20,7 @@ returns-2 c =
 returns-3 : tie.Need-returns-3
 returns-3 c =
     let c6 = c.before.before.before.before.before.before in
-    λ l h. same-put _ _ _ (before _ _ _ c6.line.ensures c.before.before.lines.ensures) (event-actions _ _ _ _)
+    λ l h. same_put _ _ _ (before _ _ _ c6.line.ensures c.before.before.lines.ensures) (event_actions _ _ _ _)
 
 pub write_spec : {M : Type 1} → statement M
 write_spec =

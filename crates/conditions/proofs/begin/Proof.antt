@@ -1,5 +1,5 @@
 -- By the form that the condition has.
-use Rattle.output.proofs.Buffers.{before, none-put}
+use Rattle.output.proofs.Buffers.{before, none_put}
 use borrow.Author.Tests.{eq-eqb, ne_eqb}
 use borrow.Author.Rules.{rules}
 use Rattle.conditions.proofs.begin.Statement.{statement}
@@ -30,7 +30,7 @@ returns-3 c =
 returns-4 : tie.Need-returns-4
 returns-4 c =
     let c4 = c.before.before.before.before in
-    λ h. rw (ne_eqb _ 1 c4.if1.false, ne_eqb _ 2 c.before.before.if2.false, ne_eqb _ 3 c.if3.false) (none-put _)
+    λ h. rw (ne_eqb _ 1 c4.if1.false, ne_eqb _ 2 c.before.before.if2.false, ne_eqb _ 3 c.if3.false) (none_put _)
 
 pub begin-spec : {M : Type 1} → statement M
 begin-spec =

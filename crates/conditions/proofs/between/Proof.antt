@@ -1,5 +1,5 @@
 -- By the code's test.
-use Rattle.output.proofs.Buffers.{none-put}
+use Rattle.output.proofs.Buffers.{none_put}
 use borrow.Author.Rules.{rules}
 use Rattle.conditions.proofs.between.Statement.{statement}
 use Rattle.conditions.proofs.between.Tie as tie
@@ -13,4 +13,4 @@ between-spec =
     (λ c.
     let c4 = c.before.before.before.before in
     rw c4.if1.true c.before.before.connective.ensures)
-    (λ c. rw c.if1.false (none-put _)))
+    (λ c. rw c.if1.false (none_put _)))

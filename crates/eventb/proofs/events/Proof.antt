@@ -1,6 +1,6 @@
 -- `eventb::events` is safe and ends: what is written of an event fits its buffer. The loop's measure is how many events there may be. Assumes nothing.
 use Prim.Native.Nat.{◌-◌}
-use Rattle.modelling.proofs.Bounds.{event-room}
+use Rattle.modelling.proofs.Bounds.{event_room}
 use borrow.Author.Rules.{rules}
 use Rattle.eventb.proofs.events.Statement.{statement}
 use Rattle.eventb.proofs.events.Tie as tie
@@ -14,12 +14,12 @@ decreases-loop text e₀ e = 32 - e
 array-share-prefix-out : tie.Need-array-share-prefix-out invariant-loop decreases-loop
 array-share-prefix-out c =
     let c4 = c.before.before.before.before in
-    (event-room _ _ _ _ _ c4.event.ensures _ c.before.w.given.1).0
+    (event_room _ _ _ _ _ c4.event.ensures _ c.before.w.given.1).0
 
 slice-aggregate-write-all : tie.Need-slice-aggregate-write-all invariant-loop decreases-loop
 slice-aggregate-write-all c =
     let c5 = c.before.before.before.before.before in
-    (event-room _ _ _ _ _ c5.event.ensures _ c.before.before.w.given.1).1
+    (event_room _ _ _ _ _ c5.event.ensures _ c.before.before.w.given.1).1
 
 pub events-spec : {M : Type 1} → statement M
 events-spec =

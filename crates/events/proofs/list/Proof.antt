@@ -1,5 +1,5 @@
 -- `events::list` meets its contract, by what the text is. Assumes nothing.
-use Rattle.events.proofs.Answers.{listed-drawn, listed-refused}
+use Rattle.events.proofs.Answers.{listed_drawn, listed_refused}
 use borrow.Author.Rules.{rules}
 use Rattle.events.proofs.list.Statement.{statement}
 use Rattle.events.proofs.list.Tie as tie
@@ -9,13 +9,13 @@ returns c =
     let a = c.before.before.before.before.before.before.args in
     let r = c.before.before.before.before.read in
     let refusal = c.before.before.enum-told2.given in
-    listed-refused a.text.now a.out.now _ r.result refusal.0.0 refusal.0.1.0 c.write-refusal.result r.ensures refusal.1 c.before.write-refusal-arg.given.0.1 c.write-refusal.ensures
+    listed_refused a.text.now a.out.now _ r.result refusal.0.0 refusal.0.1.0 c.write-refusal.result r.ensures refusal.1 c.before.write-refusal-arg.given.0.1 c.write-refusal.ensures
 
 returns-2 : tie.Need-returns-2
 returns-2 c =
     let a = c.before.before.before.before.before.before.before.args in
     let r = c.before.before.before.before.before.read in
-    listed-drawn a.text.now a.out.now _ r.result c.write.result r.ensures c.before.before.before.enum_told.given.1 c.write.ensures.1 c.write.ensures.0
+    listed_drawn a.text.now a.out.now _ r.result c.write.result r.ensures c.before.before.before.enum_told.given.1 c.write.ensures.1 c.write.ensures.0
 
 pub list-spec : {M : Type 1} → statement M
 list-spec =

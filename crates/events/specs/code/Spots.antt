@@ -3,7 +3,7 @@ use Rattle.std.specs.Prelude.{cond, List, [], ℕ, ltb}
 use Rattle.diagram.specs.declared.Diagram.{Diagram}
 use Rattle.reading.specs.declared.Answer.{Answer}
 use Rattle.reading.specs.declared.Answer.TheVariants.{Done, Refused as Unread}
-use Rattle.output.specs.Lines.{refused-line}
+use Rattle.output.specs.Lines.{refused_line}
 use Rattle.labels.specs.Seeks.{spot_of}
 use Rattle.events.specs.declared.Label.{Label}
 use Rattle.events.specs.declared.Label.TheVariants.{Leaf, Reset, Refused}
@@ -13,11 +13,11 @@ abbrev pub passed_on : Answer → Label
 passed_on Done = Refused 0 0
 passed_on (Unread number place) = Refused number place
 
-abbrev pub refusal-line : Answer → List ℕ
-refusal-line Done = []
-refusal-line (Unread number place) = refused-line number place
+abbrev pub refusal_line : Answer → List ℕ
+refusal_line Done = []
+refusal_line (Unread number place) = refused_line number place
 
 -- What the values call answers for a text that is read.
-unfoldable pub spot-label : Diagram → ℕ → Label
-spot-label d e =
+unfoldable pub spot_label : Diagram → ℕ → Label
+spot_label d e =
     cond (ltb e d.events) (cond (spot_of d e).reset (Reset (spot_of d e).values) (Leaf (spot_of d e).values)) (Refused 14 0)

@@ -2,7 +2,7 @@
 use mathlib.Core.Path.{ap, ◌∙◌}
 use borrow.Author.Rules.{rules}
 use Rattle.columns.specs.declared.Nodes.{Nodes}
-use Rattle.expansion.specs.Walks.{Place, place, walk-columns, part, expanded}
+use Rattle.expansion.specs.Walks.{Place, place, walk_columns, part, expanded}
 use Rattle.expansion.proofs.expand.Statement.{statement}
 use Rattle.expansion.proofs.expand.Tie as tie
 
@@ -11,7 +11,7 @@ unfolding expanded
 returns c =
     let p = c.before.before in
     let n = p.before.before.before.before.before.before.before.before.before in
-    let w = p.part.ensures ∙ ap (λ (x : Nodes). part 12 (walk-columns x) (place 0 0 n.before.before.args.codes.now)) n.columns.ensures in
+    let w = p.part.ensures ∙ ap (λ (x : Nodes). part 12 (walk_columns x) (place 0 0 n.before.before.args.codes.now)) n.columns.ensures in
     (ap (λ (x : Place). x.walk.count) w, ap (λ (x : Place). x.codes) w)
 
 pub expand-spec : {M : Type 1} → statement M

@@ -4,8 +4,8 @@ use mathlib.Core.Path.{ap}
 use Prim.Native.Nat.{◌+◌, ◌-◌}
 use lib.ListN.{length, drop, length-take}
 use Rattle.variables.specs.code.Spelled.{spelled}
-use Rattle.parts.proofs.Ends.{some_number, first-fewer, second-fewer, second-inside, first_count, within-inner}
-use Rattle.guarding.proofs.Down.{leaf-guarded, first-guarded, reset-guarded, second-guarded}
+use Rattle.parts.proofs.Ends.{some_number, first_fewer, second_fewer, second_inside, first_count, within_inner}
+use Rattle.guarding.proofs.Down.{leaf_guarded, first_guarded, reset_guarded, second_guarded}
 use native.Mathlib.Omega.{arith}
 use borrow.Author.Rules.{rules}
 use borrow.Fn.Kinds.{In}
@@ -44,7 +44,7 @@ module _ (t : ℕ) where
   returns-2 c =
       let c4 = c.before.before.before.before in
       let c10 = c4.before.before.before.before.before.before in
-      λ p e f o l. leaf-guarded (spelled c10.args.text.now c10.args.v) _ c10.args.codes.now c10.args.from c10.args.e p e f.numbered c4.if2.true (c.before.before.own_line.ensures (omega (arith, f.few, some_number c10.args.codes.now p e)))
+      λ p e f o l. leaf_guarded (spelled c10.args.text.now c10.args.v) _ c10.args.codes.now c10.args.from c10.args.e p e f.numbered c4.if2.true (c.before.before.own_line.ensures (omega (arith, f.few, some_number c10.args.codes.now p e)))
 
   returns-3 : write-lts.Need-returns-3 (claims t) (write-at t) write.Post
   returns-3 c =
@@ -75,7 +75,7 @@ module _ (t : ℕ) where
       let u = length-take (length cs - 1 - c14.cut.result) (drop c14.cut.result cs) in
       let some = some_number cs p e in
       let w = c7.ask-second.ensures (omega (arith, f.few, n.1, y.1, t, u, m.1, some)) in
-      first-guarded (spelled c23.args.text.now c23.args.v) a.k cs a.from a.e m.0 (ap (λ (i : ℕ). a.from + i) n.0) y.0 c11.if5.true w
+      first_guarded (spelled c23.args.text.now c23.args.v) a.k cs a.from a.e m.0 (ap (λ (i : ℕ). a.from + i) n.0) y.0 c11.if5.true w
       (λ q g h i j. c.before.before.write.ensures q g h i (omega (arith, l, j, t, m.1, some))) p e f o (omega (arith, c17.if2.false))
 
   returns-6 : write-lts.Need-returns-6 (claims t) (write-at t) write.Post
@@ -88,7 +88,7 @@ module _ (t : ℕ) where
       λ p e f o l.
       let a = c18.args in
       let n = c7.events.ensures in
-      reset-guarded (spelled c18.args.text.now c18.args.v) a.k a.codes.now a.from a.e c9.cut.ensures.0 (ap (λ (i : ℕ). a.from + i) n.0) (omega (arith, c6.if5.false))
+      reset_guarded (spelled c18.args.text.now c18.args.v) a.k a.codes.now a.from a.e c9.cut.ensures.0 (ap (λ (i : ℕ). a.from + i) n.0) (omega (arith, c6.if5.false))
       c3.ask-first.ensures p e f c.if6.true
 
   returns-7 : write-lts.Need-returns-7 (claims t) (write-at t) write.Post
@@ -106,7 +106,7 @@ module _ (t : ℕ) where
       let m = c14.cut.ensures in
       let n = c12.events.ensures in
       let u = length-take (length cs - 1 - c14.cut.result) (drop c14.cut.result cs) in
-      second-guarded (spelled c23.args.text.now c23.args.v) a.k cs a.from a.e m.0 (ap (λ (i : ℕ). a.from + i) n.0) (omega (arith, c11.if5.false)) c8.ask-first.ensures
+      second_guarded (spelled c23.args.text.now c23.args.v) a.k cs a.from a.e m.0 (ap (λ (i : ℕ). a.from + i) n.0) (omega (arith, c11.if5.false)) c8.ask-first.ensures
       (λ q g h i j. c.before.before.write2.ensures q g h i (omega (arith, l, j, u, some_number cs p e))) p e f o (omega (arith, c17.if2.false)) c5.if6.false
 
 pub +write-spec : {M : Type 1} → statement M
@@ -124,7 +124,7 @@ pub +write-spec : {M : Type 1} → statement M
     (λ c κs. omega arith)
     (λ c.
     let c10 = c.before.before.before.before.before.before.before.before.before.before in
-    first_count c10.args.codes.now (within-inner c10.args.codes.now c.before.cut.ensures.1))
+    first_count c10.args.codes.now (within_inner c10.args.codes.now c.before.cut.ensures.1))
     (λ c κs. search rules)
     (λ c.
     let c4 = c.before.before.before.before in
@@ -134,17 +134,17 @@ pub +write-spec : {M : Type 1} → statement M
     let c3 = c.before.before.before in
     let c8 = c3.before.before.before.before.before in
     let c12 = c8.before.before.before.before in
-    (second-inside c12.args.codes.now c8.if1.false c12.requires.0 (within-inner c12.args.codes.now c3.cut.ensures.1)).0)
+    (second_inside c12.args.codes.now c8.if1.false c12.requires.0 (within_inner c12.args.codes.now c3.cut.ensures.1)).0)
     (λ c.
     let c3 = c.before.before.before in
     let c8 = c3.before.before.before.before.before in
     let c12 = c8.before.before.before.before in
-    (second-inside c12.args.codes.now c8.if1.false c12.requires.0 (within-inner c12.args.codes.now c3.cut.ensures.1)).0)
+    (second_inside c12.args.codes.now c8.if1.false c12.requires.0 (within_inner c12.args.codes.now c3.cut.ensures.1)).0)
     (λ c.
     let c3 = c.before.before.before in
     let c8 = c3.before.before.before.before.before in
     let c12 = c8.before.before.before.before in
-    (second-inside c12.args.codes.now c8.if1.false c12.requires.0 (within-inner c12.args.codes.now c3.cut.ensures.1)).1)
+    (second_inside c12.args.codes.now c8.if1.false c12.requires.0 (within_inner c12.args.codes.now c3.cut.ensures.1)).1)
     (λ c κs. search rules)
     (λ c κs.
     let c7 = c.before.before.before.before.before.before.before in
@@ -152,18 +152,18 @@ pub +write-spec : {M : Type 1} → statement M
     (λ c.
     let c10 = c.before.before.before.before.before.before.before.before.before.before in
     let c19 = c10.before.before.before.before.before.before.before.before.before in
-    first_count c19.args.codes.now (within-inner c19.args.codes.now c10.cut.ensures.1))
+    first_count c19.args.codes.now (within_inner c19.args.codes.now c10.cut.ensures.1))
     (λ c κs.
     let c11 = c.before.before.before.before.before.before.before.before.before.before.before in
     let c16 = c11.before.before.before.before.before in
     let c20 = c16.before.before.before.before in
-    (first-fewer c20.args.codes.now c16.if1.false c20.requires.0 (within-inner c20.args.codes.now c11.cut.ensures.1), tt))
+    (first_fewer c20.args.codes.now c16.if1.false c20.requires.0 (within_inner c20.args.codes.now c11.cut.ensures.1), tt))
     (λ c. search rules)
     (returns-5 t)
     (λ c.
     let c4 = c.before.before.before.before in
     let c13 = c4.before.before.before.before.before.before.before.before.before in
-    first_count c13.args.codes.now (within-inner c13.args.codes.now c4.cut.ensures.1))
+    first_count c13.args.codes.now (within_inner c13.args.codes.now c4.cut.ensures.1))
     (λ c κs.
     let c6 = c.before.before.before.before.before.before in
     omega (arith, c6.if4.false))
@@ -173,21 +173,21 @@ pub +write-spec : {M : Type 1} → statement M
     let c9 = c.before.before.before.before.before.before.before.before.before in
     let c14 = c9.before.before.before.before.before in
     let c18 = c14.before.before.before.before in
-    (second-inside c18.args.codes.now c14.if1.false c18.requires.0 (within-inner c18.args.codes.now c9.cut.ensures.1)).0)
+    (second_inside c18.args.codes.now c14.if1.false c18.requires.0 (within_inner c18.args.codes.now c9.cut.ensures.1)).0)
     (λ c.
     let c9 = c.before.before.before.before.before.before.before.before.before in
     let c14 = c9.before.before.before.before.before in
     let c18 = c14.before.before.before.before in
-    (second-inside c18.args.codes.now c14.if1.false c18.requires.0 (within-inner c18.args.codes.now c9.cut.ensures.1)).0)
+    (second_inside c18.args.codes.now c14.if1.false c18.requires.0 (within_inner c18.args.codes.now c9.cut.ensures.1)).0)
     (λ c.
     let c9 = c.before.before.before.before.before.before.before.before.before in
     let c14 = c9.before.before.before.before.before in
     let c18 = c14.before.before.before.before in
-    (second-inside c18.args.codes.now c14.if1.false c18.requires.0 (within-inner c18.args.codes.now c9.cut.ensures.1)).1)
+    (second_inside c18.args.codes.now c14.if1.false c18.requires.0 (within_inner c18.args.codes.now c9.cut.ensures.1)).1)
     (λ c κs.
     let c11 = c.before.before.before.before.before.before.before.before.before.before.before in
     let c16 = c11.before.before.before.before.before in
     let c20 = c16.before.before.before.before in
-    (second-fewer c20.args.codes.now c16.if1.false c20.requires.0 (within-inner c20.args.codes.now c11.cut.ensures.1), tt))
+    (second_fewer c20.args.codes.now c16.if1.false c20.requires.0 (within_inner c20.args.codes.now c11.cut.ensures.1), tt))
     (λ c. search rules)
     (returns-7 t)

@@ -2,14 +2,14 @@
 use mathlib.Core.Path.{sym}
 use native.Mathlib.Omega.{arith}
 use lib.Seq.{length-take-le}
-use Rattle.guarding.proofs.Labelled.{body-cut, parts_cut}
+use Rattle.guarding.proofs.Labelled.{body_cut, parts_cut}
 use borrow.Author.Rules.{rules}
 use Rattle.guarding.proofs.cut.Statement.{statement}
 use Rattle.guarding.proofs.cut.Tie as tie
 
 returns : tie.Need-returns
 returns c =
-    (body-cut _ c.before.before.args.codes.now _ c.before.before.requires c.if1.true, omega arith)
+    (body_cut _ c.before.before.args.codes.now _ c.before.before.requires c.if1.true, omega arith)
 
 returns-2 : tie.Need-returns-2
 returns-2 c =

@@ -1,7 +1,7 @@
 -- By the code's test.
 use native.Mathlib.Omega.{arith}
-use Rattle.output.proofs.Buffers.{same-put, none-put}
-use Rattle.guarding.proofs.Labelled.{leaf-guard, no-guard}
+use Rattle.output.proofs.Buffers.{same_put, none_put}
+use Rattle.guarding.proofs.Labelled.{leaf_guard, no_guard}
 use borrow.Author.Rules.{rules}
 use Rattle.guarding.proofs.own_line.Statement.{statement}
 use Rattle.guarding.proofs.own_line.Tie as tie
@@ -9,11 +9,11 @@ use Rattle.guarding.proofs.own_line.Tie as tie
 returns : tie.Need-returns
 returns c =
     let c4 = c.before.before.before.before in
-    λ h. same-put _ _ _ (c.before.before.idle-line.ensures (omega (arith, h))) (leaf-guard _ _ _ _ c4.if1.true)
+    λ h. same_put _ _ _ (c.before.before.idle-line.ensures (omega (arith, h))) (leaf_guard _ _ _ _ c4.if1.true)
 
 returns-2 : tie.Need-returns-2
 returns-2 c =
-    λ h. same-put _ _ _ (none-put _) (no-guard _ _ _ _ c.if1.false)
+    λ h. same_put _ _ _ (none_put _) (no_guard _ _ _ _ c.if1.false)
 
 pub own-line-spec : {M : Type 1} → statement M
 own-line-spec =

@@ -4,13 +4,13 @@ use Prim.Native.Nat.{◌-◌, ◌≤◌}
 use native.Mathlib.Omega.{arith}
 use borrow.Author.Rules.{rules}
 use lib.ListN.{length}
-use Rattle.guards.specs.code.Passes.{first-start}
-use Rattle.guards.proofs.FirstTurns.{FirstTo, first-turn, first-end}
+use Rattle.guards.specs.code.Passes.{first_start}
+use Rattle.guards.proofs.FirstTurns.{FirstTo, first_turn, first_end}
 use Rattle.guards.proofs.first_pass.Statement.{statement}
 use Rattle.guards.proofs.first_pass.Tie as tie
 
 abbrev invariant-loop : tie.invariant-loop
-invariant-loop ops base out₀ parts₀ needs₀ rows₀ e₀ top₀ i₀ out parts rules rows e top i = FirstTo ops base (first-start out₀) rows e i top parts rules out
+invariant-loop ops base out₀ parts₀ needs₀ rows₀ e₀ top₀ i₀ out parts rules rows e top i = FirstTo ops base (first_start out₀) rows e i top parts rules out
 
 abbrev decreases-loop : tie.decreases-loop
 decreases-loop ops base out₀ parts₀ needs₀ rows₀ e₀ top₀ i₀ out parts rules rows e top i = length ops - i
@@ -23,7 +23,7 @@ bounds : (c : tie.In-loop invariant-loop decreases-loop) → (c.before.loop.rows
 bounds c =
     let u = c.before.loop.invariant in
     let p = (start_of c).requires in
-    (omega (arith, u.few-rows, c.loop-test.true, p.1), omega (arith, u.few-events, c.loop-test.true, p.1), omega (arith, c.loop-test.true, p.1))
+    (omega (arith, u.few_rows, c.loop-test.true, p.1), omega (arith, u.few_events, c.loop-test.true, p.1), omega (arith, c.loop-test.true, p.1))
 
 -- The begin of a turn, from the rows written on.
 abbrev test_of : tie.After-words invariant-loop decreases-loop → tie.In-loop invariant-loop decreases-loop
@@ -33,7 +33,7 @@ abbrev words_of : tie.After-struct-known invariant-loop decreases-loop → tie.A
 words_of c = c.before.before.before.before.before
 
 loop-holds : tie.Need-loop-init invariant-loop decreases-loop
-loop-holds c = record { within = omega arith; few-rows = omega arith; few-events = omega arith; low = omega arith; same_out = refl; its-state = rw c.no_rows.ensures }
+loop-holds c = record { within = omega arith; few_rows = omega arith; few_events = omega arith; low = omega arith; same_out = refl; its_state = rw c.no_rows.ensures }
 
 add-under : tie.Need-overflow-add-under invariant-loop decreases-loop
 add-under c = omega (arith, c.before.before.loop.invariant.low)
@@ -65,7 +65,7 @@ add-rows : tie.Need-overflow-add-rows invariant-loop decreases-loop
 add-rows c = let w = words_of c in omega (arith, bounds (test_of w), w.before.before.before.before.piece.ensures.few)
 
 add-e : tie.Need-overflow-add-e invariant-loop decreases-loop
-add-e c = omega (arith, bounds (test_of (words_of c.before)), c.event-count.ensures.1)
+add-e c = omega (arith, bounds (test_of (words_of c.before)), c.event_count.ensures.1)
 
 add-i : tie.Need-overflow-add-i invariant-loop decreases-loop
 add-i c = omega (arith, bounds (test_of (words_of c.before)))
@@ -81,9 +81,9 @@ loop-again c =
     let test = test_of w in
     let l = test.before.loop in
     let a = (start_of test).args in
-    first-turn a.ops.now a.base _ l.rows l.e l.i l.top l.parts l.needs l.out l.inv test.loop-test.taken
-    moved.before.piece.result c.event-count.result moved.moved.result written.write-rows.new.0 moved.before.piece.ensures
-    c.event-count.ensures moved.moved.ensures written.write-rows.ensures written.write-rows.auto.0
+    first_turn a.ops.now a.base _ l.rows l.e l.i l.top l.parts l.needs l.out l.inv test.loop-test.taken
+    moved.before.piece.result c.event_count.result moved.moved.result written.write-rows.new.0 moved.before.piece.ensures
+    c.event_count.ensures moved.moved.ensures written.write-rows.ensures written.write-rows.auto.0
 
 mul-whole : tie.Need-overflow-mul-whole invariant-loop decreases-loop
 mul-whole c = omega (arith, c.before.loop.invariant.low)
@@ -98,7 +98,7 @@ returns : tie.Need-returns invariant-loop decreases-loop
 returns c =
     let l = c.before.before.loop in
     let s = c.before.before.before.before.before.before in
-    first-end _ _ _ _ _ _ _ _ _ _ l.invariant c.before.loop-test.false s.requires.1 _ refl
+    first_end _ _ _ _ _ _ _ _ _ _ l.invariant c.before.loop-test.false s.requires.1 _ refl
 
 pub first-pass-spec : {M : Type 1} → statement M
 first-pass-spec =

@@ -1,7 +1,7 @@
 -- `join_some` meets its contract: the rows that settle its parts, and four more.
 use native.Mathlib.Omega.{arith}
 use borrow.Author.Rules.{rules}
-use Rattle.guards.proofs.RowsListed.{some-made}
+use Rattle.guards.proofs.RowsListed.{some_made}
 use Rattle.guards.proofs.join_some.Statement.{statement}
 use Rattle.guards.proofs.join_some.Tie as tie
 
@@ -16,8 +16,8 @@ returns c =
     let more-q = first.before in
     let more-p = more-q.before in
     let a = more-p.before.args in
-    some-made a.k _ _ _ _ _ _ _ _ a.p a.q c.after-settling.result (omega (arith, more-p.unsettled.ensures.0)) (omega (arith, more-q.unsettled2.ensures.0))
-    row-p.settled.ensures row-q.settled2.ensures first.either-row.ensures second.not-row.ensures third.both-row.ensures
+    some_made a.k _ _ _ _ _ _ _ _ a.p a.q c.after-settling.result (omega (arith, more-p.unsettled.ensures.0)) (omega (arith, more-q.unsettled2.ensures.0))
+    row-p.settled.ensures row-q.settled2.ensures first.either_row.ensures second.not_row.ensures third.both_row.ensures
     last.both-row2.ensures c.after-settling.ensures
 
 pub join-some-spec : {M : Type 1} → statement M

@@ -23,7 +23,7 @@ returns-4 c = rw c.before.if4.true c.join-some.ensures
 
 returns-5 : tie.Need-returns-5
 unfolding piece_of
-returns-5 c = rw c.before.before.if5.true (rw c.before.either-row.ensures at c.join-pair.ensures)
+returns-5 c = rw c.before.before.if5.true (rw c.before.either_row.ensures at c.join-pair.ensures)
 
 returns-6 : tie.Need-returns-6
 unfolding piece_of
@@ -31,7 +31,7 @@ returns-6 c =
     let six = c.before.before in
     let two = six.before.before in
     rw (ne_eqb _ _ two.before.before.if1.false, ne_eqb _ _ two.before.if2.false, ne_eqb _ _ two.if3.false, ne_eqb _ _ six.before.if4.false, ne_eqb _ _ six.if5.false)
-    (rw c.before.both-row.ensures at c.join-pair2.ensures)
+    (rw c.before.both_row.ensures at c.join-pair2.ensures)
 
 pub piece-spec : {M : Type 1} → statement M
 piece-spec =

@@ -10,10 +10,10 @@ returns c =
     let third = list.before in
     let first = third.before in
     record {
-      its-list = rw (first.bit-row.ensures, first.before.either-row.ensures, third.not-row.ensures) at list.then-settling.ensures.0;
+      its_list = rw (first.bit_row.ensures, first.before.either_row.ensures, third.not_row.ensures) at list.then-settling.ensures.0;
       few = list.then-settling.ensures.1;
-      its-part = rw c.settled.ensures refl;
-      its-needs = refl;
+      its_part = rw c.settled.ensures refl;
+      its_needs = refl;
     }
 
 pub rounds-spec : {M : Type 1} → statement M

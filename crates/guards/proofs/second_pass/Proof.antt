@@ -3,7 +3,7 @@ use mathlib.Core.Path.{refl}
 use Prim.Native.Nat.{◌≤◌}
 use native.Mathlib.Omega.{arith}
 use borrow.Author.Rules.{rules}
-use Rattle.guards.proofs.SecondTurns.{SecondTo, second_at, second-begins, second-turn, second-end}
+use Rattle.guards.proofs.SecondTurns.{SecondTo, second_at, second_begins, second_turn, second_end}
 use Rattle.guards.proofs.second_pass.Statement.{statement}
 use Rattle.guards.proofs.second_pass.Tie as tie
 
@@ -32,10 +32,10 @@ bounds : (c : tie.In-loop invariant-loop decreases-loop) → (c.before.loop.rows
 bounds c =
     let u = c.before.loop.invariant in
     let p = (start_of c).requires in
-    (omega (arith, u.few-rows, c.loop-test.true, p.1, p.2), omega (arith, u.within, p.1))
+    (omega (arith, u.few_rows, c.loop-test.true, p.1, p.2), omega (arith, u.within, p.1))
 
 loop-holds : tie.Need-loop-init invariant-loop decreases-loop
-loop-holds c = second-begins _ _ _ _ _ _ _ _ (omega arith)
+loop-holds c = second_begins _ _ _ _ _ _ _ _ (omega arith)
 
 shared-slice-read-op : tie.Need-shared-slice-read-op invariant-loop decreases-loop
 shared-slice-read-op c = omega (arith, c.before.before.loop.invariant.within, c.before.loop-test.true)
@@ -55,7 +55,7 @@ array-copy-out-n c = omega (arith, bounds c.before, c.before.loop-test.true)
 write-rows-requires : tie.Need-write-rows-requires invariant-loop decreases-loop
 write-rows-requires c κs =
     let w = c.before in
-    ((start_of (test_of (recorded w))).pre.0, omega (arith, w.second-words.ensures.1))
+    ((start_of (test_of (recorded w))).pre.0, omega (arith, w.second_words.ensures.1))
 
 add-gate : tie.Need-overflow-add-gate invariant-loop decreases-loop
 add-gate c = omega (arith, bounds (test_of (recorded (words_of c))))
@@ -73,7 +73,7 @@ moved-requires : tie.Need-moved-requires invariant-loop decreases-loop
 moved-requires c κs = ((test_of (recorded (words_of c.before.before))).before.loop.inv.low, omega arith, omega arith)
 
 add-rows : tie.Need-overflow-add-rows invariant-loop decreases-loop
-add-rows c = let w = words_of c.before.before.before.before in omega (arith, bounds (test_of (recorded w)), w.second-words.ensures.1)
+add-rows c = let w = words_of c.before.before.before.before in omega (arith, bounds (test_of (recorded w)), w.second_words.ensures.1)
 
 loop-less : tie.Need-loop-smaller invariant-loop decreases-loop
 loop-less c = omega (arith, (test_of (recorded (words_of c.before.before.before.before))).loop-test.taken)
@@ -88,9 +88,9 @@ loop-again c =
     let test = test_of r in
     let l = test.before.loop in
     let s = (start_of test).args in
-    second-turn s.ops.now s.base s.first.needs _ l.rows l.e l.left l.top l.gates l.out l.inv test.loop-test.taken _ _
-    r.write-record.result gate.gate.result moved.before.gate2.result moved.moved.result w.second-words.result
-    r.write-record.last.0 written.write-rows.new.0 refl refl r.write-record.ensures.0 r.write-record.ensures.1 r.write-record.kept.0 w.second-words.ensures written.write-rows.ensures
+    second_turn s.ops.now s.base s.first.needs _ l.rows l.e l.left l.top l.gates l.out l.inv test.loop-test.taken _ _
+    r.write-record.result gate.gate.result moved.before.gate2.result moved.moved.result w.second_words.result
+    r.write-record.last.0 written.write-rows.new.0 refl refl r.write-record.ensures.0 r.write-record.ensures.1 r.write-record.kept.0 w.second_words.ensures written.write-rows.ensures
     written.write-rows.auto.0 gate.gate.ensures moved.before.gate2.ensures moved.moved.ensures
 
 same_length : tie.Need-same-length invariant-loop decreases-loop
@@ -99,7 +99,7 @@ same_length c = c.before.loop.invariant.same_out
 returns : tie.Need-returns invariant-loop decreases-loop
 returns c =
     let p = c.before.before.before.before.before.requires in
-    second-end _ _ _ _ _ _ _ _ _ _ c.before.loop.invariant (omega (arith, c.loop-test.false)) p.1 p.2
+    second_end _ _ _ _ _ _ _ _ _ _ c.before.loop.invariant (omega (arith, c.loop-test.false)) p.1 p.2
 
 pub second-pass-spec : {M : Type 1} → statement M
 second-pass-spec =

@@ -4,13 +4,13 @@ use Prim.Native.Nat.{◌-◌, ◌≤◌}
 use native.Mathlib.Omega.{arith}
 use borrow.Author.Rules.{rules}
 use lib.ListN.{length, take, length-map}
-use Rattle.guards.specs.code.Rows.{put-rows}
-use Rattle.guards.proofs.RowsWritten.{none-put, row_put, rows_all}
+use Rattle.guards.specs.code.Rows.{put_rows}
+use Rattle.guards.proofs.RowsWritten.{none_put, row_put, rows_all}
 use Rattle.guards.proofs.write_rows.Statement.{statement}
 use Rattle.guards.proofs.write_rows.Tie as tie
 
 abbrev invariant-loop : tie.invariant-loop
-invariant-loop out₀ base k words count first i₀ out i = (i ≤ count) × (out ≡ put-rows base k (take i words) out₀) × (length out ≡ length out₀)
+invariant-loop out₀ base k words count first i₀ out i = (i ≤ count) × (out ≡ put_rows base k (take i words) out₀) × (length out ≡ length out₀)
 
 abbrev decreases-loop : tie.decreases-loop
 decreases-loop out₀ base k words count first i₀ out i = count - i
@@ -20,7 +20,7 @@ six : (s : tie.Start invariant-loop decreases-loop) → length s.args.list.words
 six s = sym (length-map s.args.list.words _) ∙ s.well-formed.1.1.1.0.1.1.0.1.0.1
 
 loop-holds : tie.Need-loop-init invariant-loop decreases-loop
-loop-holds c = (omega arith, none-put _ _ _, refl)
+loop-holds c = (omega arith, none_put _ _ _, refl)
 
 loop-again : tie.Need-loop-preserved invariant-loop decreases-loop
 loop-again c =

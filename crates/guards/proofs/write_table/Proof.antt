@@ -1,7 +1,7 @@
 -- `write_table` meets its contract: nothing where there is no room, else the plan.
 use borrow.Author.Rules.{rules}
 use lib.ListN.{length}
-use Rattle.guards.proofs.RoomTested.{few, none_written, plan-left}
+use Rattle.guards.proofs.RoomTested.{few, none_written, plan_left}
 use Rattle.guards.proofs.write_table.Statement.{statement}
 use Rattle.guards.proofs.write_table.Tie as tie
 
@@ -16,7 +16,7 @@ returns-2 c =
     let passed = c.before.before in
     let test = passed.before.before in
     let a = test.before.before.before.args in
-    plan-left a.ops.now a.events a.out.now _ _ test.if1.false passed.both-passes.ensures
+    plan_left a.ops.now a.events a.out.now _ _ test.if1.false passed.both_passes.ensures
 
 pub write-table-spec : {M : Type 1} → statement M
 write-table-spec = tie.close (tie.spec returns both-passes-requires (λ c. search rules) returns-2)

@@ -1,17 +1,17 @@
 -- `adl_test_place` meets its contract, by what is found.
 use mathlib.Core.Path.{sym, ◌∙◌}
-use Rattle.packing.specs.Nodes.{place-values}
-use Rattle.harness.specs.Nodes.{report as found-report}
-use Rattle.packing.proofs.Packs.{by-case, refused}
+use Rattle.packing.specs.Nodes.{place_values}
+use Rattle.harness.specs.Nodes.{report as found_report}
+use Rattle.packing.proofs.Packs.{by_case, refused}
 use borrow.Author.Rules.{rules}
 use Rattle.harness.proofs.adl_test_place.Statement.{statement}
 use Rattle.harness.proofs.adl_test_place.Tie as tie
 
 returns : tie.Need-returns
-returns c = by-case 16 (found-report place-values) (sym c.before.before.before.before.find.ensures ∙ c.before.before.found.given.1) c.place-number.ensures
+returns c = by_case 16 (found_report place_values) (sym c.before.before.before.before.find.ensures ∙ c.before.before.found.given.1) c.place-number.ensures
 
 returns-2 : tie.Need-returns-2
-returns-2 c = by-case 16 (found-report place-values) (sym c.before.before.before.before.find.ensures ∙ c.before.before.found2.given.1) (refused 16 _ _ c.refusal.ensures)
+returns-2 c = by_case 16 (found_report place_values) (sym c.before.before.before.before.find.ensures ∙ c.before.before.found2.given.1) (refused 16 _ _ c.refusal.ensures)
 
 pub adl-test-place-spec : {M : Type 1} → statement M
 adl-test-place-spec =

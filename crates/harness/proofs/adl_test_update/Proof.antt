@@ -46,7 +46,7 @@ use Rattle.table.specs.Reports.{report}
 use Rattle.table.specs.declared.Answer.{Answer}
 use Rattle.table.specs.contracts.Answer as N
 use Rattle.table.proofs.Answer.TheLaws as N'
-use Rattle.inplace.specs.Updates.{answer-of, left-of}
+use Rattle.inplace.specs.Updates.{answer_of, left_of}
 use Rattle.inplace.specs.contracts.step as thin
 use Rattle.inplace.proofs.step.Symbol as thin-def
 use Rattle.inplace.proofs.step.Symbol.{name as #inplace·step}
@@ -54,9 +54,9 @@ use Rattle.inplace.proofs.step.Met as thin-thm
 use Rattle.packing.specs.Packed.{packed}
 use Rattle.harness.specs.contracts.step_number as number
 use Rattle.harness.proofs.step_number.Symbol as number-def
-use Rattle.harness.proofs.step_number.Symbol.{name as #harness·step-number}
+use Rattle.harness.proofs.step_number.Symbol.{name as #harness·step_number}
 use Rattle.harness.proofs.step_number.Met as number-thm
-use Rattle.harness.specs.contracts.adl_test_update.Key.{name as #harness·adl-test-update}
+use Rattle.harness.specs.contracts.adl_test_update.Key.{name as #harness·adl_test_update}
 use Rattle.harness.specs.contracts.adl_test_update as f
 use Rattle.harness.proofs.adl_test_update.Statement as stated
 use Rattle.harness.proofs.adl_test_update.Code as code
@@ -113,10 +113,10 @@ module _ {M : Type 1} {𝓤 : Ura M} (𝓛 : Logic 𝓤) (at_mem : Memory → SP
 
   -- what the thin call answers and leaves
   abbrev answered : Answer
-  answered = answer-of t.now h e
+  answered = answer_of t.now h e
 
   abbrev left : Record
-  left = left-of t.now h e
+  left = left_of t.now h e
 
   abbrev Post : Val → SProp 𝓤
   Post = (walk_of 𝓛 f.ended stayed (f.clauses 𝓛 at_mem run)).post (((κ, (κ', tt)), (q, (q', tt)), tt, a, vals), tt)
@@ -166,7 +166,7 @@ module _ {M : Type 1} {𝓤 : Ura M} (𝓛 : Logic 𝓤) (at_mem : Memory → SP
       owned ! u64 (Is u64) (uint_Makes 𝓛 w64) r _ (refl, r-fits) $ done !
 
   module _ (C : Calls 𝓤 H) (Λ : Loops 𝓤 H) (fm : FmC 𝓤 H 𝓛.laws C) (known : Triple 𝓤 (C #inplace·step) (Thin 𝓛 at_mem run))
-      (known-number : Triple 𝓤 (C #harness·step-number) (Number 𝓛 at_mem run)) where
+      (known-number : Triple 𝓤 (C #harness·step_number) (Number 𝓛 at_mem run)) where
     walk : Is (ShrSlice (named 0) κ u8) t (v ∷ []) → ent 𝓤 (on_entry 𝓛 f.signature (κ, (κ', tt)) (q, (q', tt)) a vals)
         (WpFn 𝓤 H C Λ code.function (v ∷ vptr b o ∷ vint w64 e ∷ []) Post)
     walk p =
@@ -214,7 +214,7 @@ module _ {M : Type 1} {𝓤 : Ura M} (𝓛 : Logic 𝓤) (at_mem : Memory → SP
   open 𝓛 use {H}
 
   walks : (C : Calls 𝓤 H) (Λ : Loops 𝓤 H) → FmC 𝓤 H 𝓛.laws C → Triple 𝓤 (C #inplace·step) (Thin 𝓛 at_mem run)
-      → Triple 𝓤 (C #harness·step-number) (Number 𝓛 at_mem run)
+      → Triple 𝓤 (C #harness·step_number) (Number 𝓛 at_mem run)
       → Walks 𝓛 f.ended stayed (WpFn 𝓤 H C Λ code.function) (f.clauses 𝓛 at_mem run)
   walks C Λ fm known known-number =
       walked 𝓛 f.ended stayed (f.clauses 𝓛 at_mem run) (WpFn 𝓤 H C Λ code.function) (λ κs. (shr_slice_vals, (shr_vals, (uint_vals w64, tt))))
@@ -230,7 +230,7 @@ module _ {M : Type 1} {𝓤 : Ura M} (𝓛 : Logic 𝓤) (at_mem : Memory → SP
   )
 
 meets : {M : Type 1} {𝓤 : Ura M} (𝓛 : Logic 𝓤) → (at_mem : Memory → SProp 𝓤) (run : Routine → Fun 𝓤) (𝓣 : Tables 𝓤 𝓛.H)
-    → Triple 𝓤 (𝓣.C #inplace·step) (Thin 𝓛 at_mem run) → Triple 𝓤 (𝓣.C #harness·step-number) (Number 𝓛 at_mem run)
+    → Triple 𝓤 (𝓣.C #inplace·step) (Thin 𝓛 at_mem run) → Triple 𝓤 (𝓣.C #harness·step_number) (Number 𝓛 at_mem run)
     → Meets 𝓛 f.signature (WpFn 𝓤 𝓛.H 𝓣.C 𝓣.Λ code.function) (f.spec 𝓛 at_mem run)
 meets {𝓤 = 𝓤} 𝓛 at_mem run 𝓣 known known-number =
     walk_Meets 𝓛 f.ended stayed (all_go 𝓛 at_mem run) (f.clauses 𝓛 at_mem run) (WpFn 𝓤 𝓛.H 𝓣.C 𝓣.Λ code.function)
@@ -240,9 +240,9 @@ pub adl-test-update-spec : {M : Type 1} → stated.statement M
 unfolding code.routine tables_of
 adl-test-update-spec 𝓤 𝓛 𝓜 𝓡 =
     entered 𝓤 𝓛.H (triple_of 𝓛 f.signature (f.spec 𝓛 𝓜.mem 𝓡.run))
-    (tables 𝓤 𝓛.H 𝓜 𝓡 code.env).C (tables 𝓤 𝓛.H 𝓜 𝓡 code.env).Λ #harness·adl-test-update code.function (code.unfolded 𝓤 𝓛.H 𝓜 𝓡)
+    (tables 𝓤 𝓛.H 𝓜 𝓡 code.env).C (tables 𝓤 𝓛.H 𝓜 𝓡 code.env).Λ #harness·adl_test_update code.function (code.unfolded 𝓤 𝓛.H 𝓜 𝓡)
     (meets 𝓛 𝓜.mem 𝓡.run (tables_of 𝓤 𝓛.H 𝓜 (tables 𝓤 𝓛.H 𝓜 𝓡 code.env))
     (cited 𝓤 𝓛.H (Thin 𝓛 𝓜.mem 𝓡.run) 𝓜 𝓡 code.env #inplace·step thin-def.routine code.calls-inplace::step
     (thin-thm.met 𝓤 𝓛 𝓜 𝓡))
-    (cited 𝓤 𝓛.H (Number 𝓛 𝓜.mem 𝓡.run) 𝓜 𝓡 code.env #harness·step-number number-def.routine code.calls-harness::step-number
+    (cited 𝓤 𝓛.H (Number 𝓛 𝓜.mem 𝓡.run) 𝓜 𝓡 code.env #harness·step_number number-def.routine code.calls-harness::step_number
     (number-thm.met 𝓤 𝓛 𝓜 𝓡)))

@@ -2,34 +2,34 @@
 use native.Mathlib.Omega.{arith}
 use borrow.Author.Rules.{rules}
 use mathlib.Core.Path.{refl}
-use Rattle.walked.proofs.Laws.{go-not-stop, starts, off-grammar, over-limit, opens, node-below, node-above, node-deep, node-many}
+use Rattle.walked.proofs.Laws.{go_not_stop, starts, off_grammar, over_limit, opens, node_below, node_above, node_deep, node_many}
 use Rattle.heads.proofs.begin_node.Statement.{statement}
 use Rattle.heads.proofs.begin_node.Tie as tie
 
 returns : tie.Need-returns
 returns c = record {
-  taken = λ j m g. go-not-stop g;
-  turns = λ p e q s. off-grammar starts q (node-below _ _ _ p c.if1.true);
+  taken = λ j m g. go_not_stop g;
+  turns = λ p e q s. off_grammar starts q (node_below _ _ _ p c.if1.true);
 }
 
 returns-2 : tie.Need-returns-2
 returns-2 c = record {
-  taken = λ j m g. go-not-stop g;
-  turns = λ p e q s. off-grammar starts q (node-above _ _ _ p (rw e c.if2.true));
+  taken = λ j m g. go_not_stop g;
+  turns = λ p e q s. off_grammar starts q (node_above _ _ _ p (rw e c.if2.true));
 }
 
 returns-3 : tie.Need-returns-3
 returns-3 c = record {
-  taken = λ j m g. go-not-stop g;
-  turns = λ p e q s. over-limit starts q (node-deep _ _ _ p c.before.before.if1.false (rw e c.before.if2.false) c.if3.true);
+  taken = λ j m g. go_not_stop g;
+  turns = λ p e q s. over_limit starts q (node_deep _ _ _ p c.before.before.if1.false (rw e c.before.if2.false) c.if3.true);
 }
 
 returns-4 : tie.Need-returns-4
 returns-4 c =
     let k = c.before.before in
     record {
-      taken = λ j m g. go-not-stop g;
-      turns = λ p e q s. over-limit starts q (node-many _ _ _ p k.before.if1.false (rw e k.if2.false) (omega arith));
+      taken = λ j m g. go_not_stop g;
+      turns = λ p e q s. over_limit starts q (node_many _ _ _ p k.before.if1.false (rw e k.if2.false) (omega arith));
     }
 
 returns-5 : tie.Need-returns-5

@@ -15,7 +15,7 @@ returns c m e =
     let b : m * 8 + 11 ≡ n * 8 + 3 = omega arith in
     let d : m * 8 + 13 ≡ n * 8 + 5 = omega arith in
     let p = c.before.before.before in
-    rw (c.put3.ensures, p.put2.ensures, p.before.before.put.ensures, c.before.depth-of.ensures, a, b, d)
+    rw (c.put3.ensures, p.put2.ensures, p.before.before.put.ensures, c.before.depth_of.ensures, a, b, d)
 
 pub begin-row-spec : {M : Type 1} → statement M
 begin-row-spec =

@@ -2,7 +2,7 @@
 use Prim.Native.Nat.{◌-◌}
 use native.Mathlib.Omega.{arith}
 use lib.ListN.{length}
-use Rattle.lexer.proofs.Gaps.{Reached, reached-start, reached-more, reached-stop, reached-end}
+use Rattle.lexer.proofs.Gaps.{Reached, reached_start, reached_more, reached_stop, reached_end}
 use borrow.Author.Rules.{rules}
 use Rattle.lexer.proofs.gap.Statement.{statement}
 use Rattle.lexer.proofs.gap.Tie as tie
@@ -14,12 +14,12 @@ abbrev decreases-loop : tie.decreases-loop
 decreases-loop text at lexicon i₀ i = length text - i
 
 loop-holds : tie.Need-loop-init invariant-loop decreases-loop
-loop-holds c = reached-start _ _ _ c.past.ensures
+loop-holds c = reached_start _ _ _ c.past.ensures
 
 returns : tie.Need-returns invariant-loop decreases-loop
 returns c =
     let t = c.before.before in
-    reached-stop _ _ _ t.before.loop.invariant t.loop-test.true c.if1.true
+    reached_stop _ _ _ t.before.loop.invariant t.loop-test.true c.if1.true
 
 loop-less : tie.Need-loop-smaller invariant-loop decreases-loop
 loop-less c =
@@ -29,10 +29,10 @@ loop-less c =
 loop-again : tie.Need-loop-preserved invariant-loop decreases-loop
 loop-again c =
     let t = c.before.before.before.before in
-    reached-more _ _ _ t.before.loop.invariant _ _ t.loop-test.true c.before.before.if1.false c.before.remark-end.ensures c.past2.ensures
+    reached_more _ _ _ t.before.loop.invariant _ _ t.loop-test.true c.before.before.if1.false c.before.remark-end.ensures c.past2.ensures
 
 returns-2 : tie.Need-returns-2 invariant-loop decreases-loop
-returns-2 c = reached-end _ _ _ c.before.loop.invariant c.loop-test.false
+returns-2 c = reached_end _ _ _ c.before.loop.invariant c.loop-test.false
 
 pub gap-spec : {M : Type 1} → statement M
 gap-spec =

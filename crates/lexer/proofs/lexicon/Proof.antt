@@ -8,20 +8,20 @@ use lib.ListN.{length, get_or}
 use borrow.Author.Tests.{eqb-true}
 use Rattle.tokens.specs.Classes.{class_of}
 use Rattle.tokens.specs.Words.{keywords}
-use Rattle.lexer.specs.Lexicon.{rows_in, words-in, Lexicon}
-use Rattle.tokens.proofs.Below.{all-below, at-below}
+use Rattle.lexer.specs.Lexicon.{rows_in, words_in, Lexicon}
+use Rattle.tokens.proofs.Below.{all_below, at_below}
 use Rattle.lexer.proofs.lexicon.Statement.{statement}
 use Rattle.lexer.proofs.lexicon.Tie as tie
 
 right : List ℕ → ℕ → Bool
 right table b = eqb (get_or table b 0) (class_of b)
 
-by-test : (table : List ℕ) → length table ≡ 400 → all-below (right table) 256 ≡ true → words-in table ≡ keywords → Lexicon table
+by-test : (table : List ℕ) → length table ≡ 400 → all_below (right table) 256 ≡ true → words_in table ≡ keywords → Lexicon table
 unfolding right
-by-test table n e w = record { size = n; class = λ b h. eqb-true (get_or table b 0) (class_of b) (at-below (right table) 256 e b h); words = w }
+by-test table n e w = record { size = n; class = λ b h. eqb-true (get_or table b 0) (class_of b) (at_below (right table) 256 e b h); words = w }
 
 returns : tie.Need-returns
-unfolding class_of right rows_in words-in keywords
+unfolding class_of right rows_in words_in keywords
 returns c = by-test _ refl refl refl
 
 pub lexicon-spec : {M : Type 1} → statement M

@@ -4,7 +4,7 @@ use native.Mathlib.Numerals.{add-one}
 use native.Mathlib.Omega.{arith}
 use lib.ListN.{length-take, length-drop}
 use Rattle.tokens.specs.Words.{numeral}
-use Rattle.tokens.proofs.WordCodes.{one-digit, two_digits, no_one, no_longer, one_byte, two_bytes}
+use Rattle.tokens.proofs.WordCodes.{one_digit, two_digits, no_one, no_longer, one_byte, two_bytes}
 use borrow.Author.Rules.{rules}
 use Rattle.lexer.proofs.numeral.Statement.{statement}
 use Rattle.lexer.proofs.numeral.Tie as tie
@@ -13,7 +13,7 @@ returns : tie.Need-returns
 returns c =
     let s = c.before.before.before.before in
     let a = s.args in
-    c.digit.ensures ∙ sym (ap numeral (one_byte a.text.now a.a a.e s.requires.1 c.before.before.if1.true) ∙ one-digit _)
+    c.digit.ensures ∙ sym (ap numeral (one_byte a.text.now a.a a.e s.requires.1 c.before.before.if1.true) ∙ one_digit _)
 
 returns-2 : tie.Need-returns-2
 returns-2 c =

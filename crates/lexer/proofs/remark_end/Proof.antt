@@ -5,8 +5,8 @@ use native.Mathlib.Omega.{arith}
 use lib.ListN.{length, drop, get_or}
 use Rattle.tokens.specs.Classes.{between}
 use Rattle.tokens.specs.Words.{front}
-use Rattle.tokens.proofs.Front.{front-end, front-stop, front-more}
-use Rattle.tokens.proofs.Between.{between_in, between-low, between-high}
+use Rattle.tokens.proofs.Front.{front_end, front_stop, front_more}
+use Rattle.tokens.proofs.Between.{between_in, between_low, between_high}
 use borrow.Author.Rules.{rules}
 use Rattle.lexer.proofs.remark_end.Statement.{statement}
 use Rattle.lexer.proofs.remark_end.Tie as tie
@@ -25,14 +25,14 @@ returns c =
     let t = c.before.before in
     let l = t.before.loop in
     let b = get_or t.before.before.args.text.now l.i 0 in
-    sym (l.invariant ∙ front-stop _ _ l.i t.loop-test.true (between-low 32 126 b (omega (arith, c.if1.true))))
+    sym (l.invariant ∙ front_stop _ _ l.i t.loop-test.true (between_low 32 126 b (omega (arith, c.if1.true))))
 
 returns-2 : tie.Need-returns-2 invariant-loop decreases-loop
 returns-2 c =
     let t = c.before.before.before in
     let l = t.before.loop in
     let b = get_or t.before.before.args.text.now l.i 0 in
-    sym (l.invariant ∙ front-stop _ _ l.i t.loop-test.true (between-high 32 126 b (omega (arith, c.if2.true))))
+    sym (l.invariant ∙ front_stop _ _ l.i t.loop-test.true (between_high 32 126 b (omega (arith, c.if2.true))))
 
 loop-again : tie.Need-loop-preserved invariant-loop decreases-loop
 loop-again c =
@@ -40,10 +40,10 @@ loop-again c =
     let l = t.before.loop in
     let b = get_or t.before.before.args.text.now l.i 0 in
     l.invariant
-    ∙ front-more _ _ l.i t.loop-test.true (between_in 32 126 b (omega (arith, c.before.if1.false)) (omega (arith, c.if2.false)))
+    ∙ front_more _ _ l.i t.loop-test.true (between_in 32 126 b (omega (arith, c.before.if1.false)) (omega (arith, c.if2.false)))
 
 returns-3 : tie.Need-returns-3 invariant-loop decreases-loop
-returns-3 c = sym (c.before.loop.invariant ∙ front-end _ _ c.before.loop.i c.loop-test.false)
+returns-3 c = sym (c.before.loop.invariant ∙ front_end _ _ c.before.loop.i c.loop-test.false)
 
 pub remark-end-spec : {M : Type 1} → statement M
 remark-end-spec =

@@ -3,7 +3,7 @@ use mathlib.Core.Path.{◌≡◌, refl}
 use Prim.Native.Nat.{◌+◌, ◌-◌, ◌≤◌}
 use native.Mathlib.Omega.{arith}
 use lib.ListN.{take, drop}
-use Rattle.lexer.proofs.Rows.{byte-differs, byte_more, bytes_same, other-size, same_size}
+use Rattle.lexer.proofs.Rows.{byte_differs, byte_more, bytes_same, other_size, same_size}
 use borrow.Author.Rules.{rules}
 use Rattle.lexer.proofs.row_is.Statement.{statement}
 use Rattle.lexer.proofs.row_is.Tie as tie
@@ -18,7 +18,7 @@ returns : tie.Need-returns invariant-loop decreases-loop
 returns c =
     let s = c.before.before.before.before in
     let a = s.args in
-    other-size a.text.now a.lexicon.now a.a a.n a.row _ s.requires.0 s.requires.1 s.requires.2 s.requires.3 c.before.wide.ensures.0
+    other_size a.text.now a.lexicon.now a.a a.n a.row _ s.requires.0 s.requires.1 s.requires.2 s.requires.3 c.before.wide.ensures.0
     c.if1.true
 
 loop-holds : tie.Need-loop-init invariant-loop decreases-loop
@@ -31,7 +31,7 @@ returns-2 c =
     let s = w.before.before.before in
     let a = s.args in
     same_size a.lexicon.now (take a.n (drop a.a a.text.now)) a.n a.row _ w.wide.ensures.0 t.before.before.if1.false
-    (byte-differs a.text.now a.lexicon.now a.a (a.row + 1) a.n s.requires.0 (omega (arith, s.requires.1, s.requires.2, s.requires.3)) t.before.loop.i
+    (byte_differs a.text.now a.lexicon.now a.a (a.row + 1) a.n s.requires.0 (omega (arith, s.requires.1, s.requires.2, s.requires.3)) t.before.loop.i
     t.loop-test.true c.if2.true)
 
 loop-again : tie.Need-loop-preserved invariant-loop decreases-loop

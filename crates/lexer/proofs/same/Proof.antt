@@ -4,7 +4,7 @@ use mathlib.Core.Path.{◌≡◌, refl, sym, ◌∙◌}
 use lib.ListN.{length}
 use Rattle.diagram.specs.Names.{same}
 use Rattle.tokens.specs.Words.{word_at}
-use Rattle.tokens.proofs.WordAt.{Onward, words-differ, words-end, words-on}
+use Rattle.tokens.proofs.WordAt.{Onward, words_differ, words_end, words_on}
 use borrow.Author.Rules.{rules}
 use Rattle.lexer.proofs.same.Statement.{statement}
 use Rattle.lexer.proofs.same.Tie as tie
@@ -22,19 +22,19 @@ returns : tie.Need-returns invariant-loop decreases-loop
 returns c =
     let x = c.before.before in
     let l = x.before.loop in
-    words-differ _ l.p l.q _ _ x.letter.ensures c.before.letter2.ensures c.if1.true ∙ sym l.invariant
+    words_differ _ l.p l.q _ _ x.letter.ensures c.before.letter2.ensures c.if1.true ∙ sym l.invariant
 
 returns-2 : tie.Need-returns-2 invariant-loop decreases-loop
 returns-2 c =
     let y = c.before.before in
     let l = y.before.before.loop in
-    words-end _ l.p l.q _ _ y.before.letter.ensures y.letter2.ensures c.before.if1.false c.if2.true ∙ sym l.invariant
+    words_end _ l.p l.q _ _ y.before.letter.ensures y.letter2.ensures c.before.if1.false c.if2.true ∙ sym l.invariant
 
 goes_on : (c : tie.Else2 invariant-loop decreases-loop) → let l = c.before.before.before.before in Onward l.before.before.args.text.now l.loop.p l.loop.q
 goes_on c =
     let y = c.before.before in
     let l = y.before.before.loop in
-    words-on _ l.p l.q _ _ y.before.letter.ensures y.letter2.ensures c.before.if1.false c.if2.false
+    words_on _ l.p l.q _ _ y.before.letter.ensures y.letter2.ensures c.before.if1.false c.if2.false
 
 add-p : tie.Need-overflow-add-p invariant-loop decreases-loop
 add-p c = let o = goes_on c in search rules

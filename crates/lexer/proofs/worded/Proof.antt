@@ -5,17 +5,17 @@ use Prim.Native.Nat.{ℕ, ◌+◌, ◌≤◌, ◌<◌}
 use native.Mathlib.Omega.{arith}
 use lib.Dec.{leb}
 use borrow.Author.Tests.{leb-true, leb-false}
-use Rattle.base.proofs.Truth.{not-e, by_cases}
+use Rattle.base.proofs.Truth.{not_e, by_cases}
 use Rattle.tokens.specs.Classes.{class_of, worded}
-use Rattle.tokens.proofs.Below.{all-below, at-between}
+use Rattle.tokens.proofs.Below.{all_below, at_between}
 use Rattle.lexer.proofs.worded.Statement.{statement}
 use Rattle.lexer.proofs.worded.Tie as tie
 
-yes : (low n : ℕ) → all-below (λ d. worded (low + d)) n ≡ true → (b : ℕ) → low ≤ b → b < low + n → true ≡ worded b
-yes low n e b l h = sym (at-between worded low n e b l h)
+yes : (low n : ℕ) → all_below (λ d. worded (low + d)) n ≡ true → (b : ℕ) → low ≤ b → b < low + n → true ≡ worded b
+yes low n e b l h = sym (at_between worded low n e b l h)
 
-no : (low n : ℕ) → all-below (λ d. not (worded (low + d))) n ≡ true → (b : ℕ) → low ≤ b → b < low + n → false ≡ worded b
-no low n e b l h = sym (not-e (worded b) (at-between (λ b. not (worded b)) low n e b l h))
+no : (low n : ℕ) → all_below (λ d. not (worded (low + d))) n ≡ true → (b : ℕ) → low ≤ b → b < low + n → false ≡ worded b
+no low n e b l h = sym (not_e (worded b) (at_between (λ b. not (worded b)) low n e b l h))
 
 returns : tie.Need-returns
 unfolding class_of

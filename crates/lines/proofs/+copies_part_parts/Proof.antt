@@ -1,8 +1,8 @@
 -- The walks that call each other meet their contracts. The measure is twice the depth left, and one more where the walk is inside a node. The
 -- invariants of the loops over the parts and over the values: those left from here are those left from the start. Their measures are how many are left.
 -- Assumes nothing.
-use Rattle.lines.specs.code.Walks.{columns, walk-stands, part as part_of}
-use Rattle.lines.proofs.Steps.{PartsLeft, parts-left-begin, parts-left-none, parts-left-shallow, parts-left-next, CopiesLeft, copies-left-begin, copies-left-none, copies-left-next, part_none, part-past, part-leaf, part-copies, part-reset, part-ends}
+use Rattle.lines.specs.code.Walks.{columns, walk_stands, part as part_of}
+use Rattle.lines.proofs.Steps.{PartsLeft, parts_left_begin, parts_left_none, parts_left_shallow, parts_left_next, CopiesLeft, copies_left_begin, copies_left_none, copies_left_next, part_none, part_past, part_leaf, part_copies, part_reset, part_ends}
 use borrow.Author.Rules.{rules}
 use native.Mathlib.Omega.{arith}
 use Prim.Native.Nat.{ℕ, ◌+◌, ◌-◌, ◌<◌}
@@ -64,7 +64,7 @@ parts-claims t = (number-reads.Asked, number-reads.Learnt, part-below t, part.Po
 
 abbrev copies-Inv-loop : copies-lts.invariant-loop
 copies-Inv-loop text kinds sizes depths names left i values size event at out₀ t₀ value₀ out t value =
-    CopiesLeft (part_of text left (columns kinds sizes depths names)) i values size (walk-stands t₀ out₀) value (walk-stands t out)
+    CopiesLeft (part_of text left (columns kinds sizes depths names)) i values size (walk_stands t₀ out₀) value (walk_stands t out)
 
 abbrev copies-μ-loop : copies-lts.decreases-loop
 copies-μ-loop text kinds sizes depths names left i values size event at out₀ t₀ value₀ out t value = size - value
@@ -72,7 +72,7 @@ copies-μ-loop text kinds sizes depths names left i values size event at out₀ 
 abbrev parts-Inv-loop : parts-lts.invariant-loop
 parts-Inv-loop text kinds sizes depths names left i values event at out₀ t₀ turn₀ out t turn =
     let c = columns kinds sizes depths names in
-    PartsLeft (part_of text left c values) c i (walk-stands t₀ out₀) turn (walk-stands t out)
+    PartsLeft (part_of text left c values) c i (walk_stands t₀ out₀) turn (walk_stands t out)
 
 abbrev parts-μ-loop : parts-lts.decreases-loop
 parts-μ-loop text kinds sizes depths names left i values event at out₀ t₀ turn₀ out t turn = 255 - turn
@@ -84,17 +84,17 @@ module _ (t : ℕ) where
   copies-loop-again : copies-lts.Need-loop-preserved (copies-claims t) (copies_at t) copies.Post copies-Inv-loop copies-μ-loop
   copies-loop-again c =
       let l = c.before.before.before in
-      copies-left-next l.before.loop.invariant l.loop-test.true c.before.before.push.ensures c.part.ensures
+      copies_left_next l.before.loop.invariant l.loop-test.true c.before.before.push.ensures c.part.ensures
 
   copies-returns : copies-lts.Need-returns (copies-claims t) (copies_at t) copies.Post copies-Inv-loop copies-μ-loop
-  copies-returns c = copies-left-none c.before.loop.invariant c.loop-test.false
+  copies-returns c = copies_left_none c.before.loop.invariant c.loop-test.false
 
 module _ (t : ℕ) where
   part-returns-3 : part-lts.Need-returns-3 (part-claims t) (part_at t) part.Post
   part-returns-3 c =
       let leaf = c.before.before.before.before in
       let k = leaf.before in
-      part-leaf _ _ _ _ k.before.before.before.if1.false (omega (arith, k.before.before.if2.false)) k.byte.ensures leaf.if3.true c.before.number.ensures c.line.ensures
+      part_leaf _ _ _ _ k.before.before.before.if1.false (omega (arith, k.before.before.if2.false)) k.byte.ensures leaf.if3.true c.before.number.ensures c.line.ensures
 
   part-copies-requires : part-lts.Need-copies-requires (part-claims t) (part_at t) part.Post
   part-copies-requires c κs =
@@ -106,7 +106,7 @@ module _ (t : ℕ) where
       let r = c.before.before.before in
       let n = r.before.before.before in
       let k = n.before in
-      part-copies _ _ _ _ k.before.before.before.if1.false (omega (arith, k.before.before.if2.false)) k.byte.ensures n.if3.false r.before.byte2.ensures
+      part_copies _ _ _ _ k.before.before.before.if1.false (omega (arith, k.before.before.if2.false)) k.byte.ensures n.if3.false r.before.byte2.ensures
       r.if4.true c.before.before.wide.ensures.0 c.copies.ensures
 
   part-parts-requires : part-lts.Need-parts-requires (part-claims t) (part_at t) part.Post
@@ -123,7 +123,7 @@ module _ (t : ℕ) where
       let r = p.before.before in
       let n = r.before.before.before in
       let k = n.before in
-      part-reset _ _ _ _ k.before.before.before.if1.false (omega (arith, k.before.before.if2.false)) k.byte.ensures n.if3.false r.before.byte2.ensures
+      part_reset _ _ _ _ k.before.before.before.if1.false (omega (arith, k.before.before.if2.false)) k.byte.ensures n.if3.false r.before.byte2.ensures
       r.if4.false m.byte3.ensures test.before.resets.ensures p.parts.ensures test.if5.true l.before.number2.ensures l.line2.ensures
 
   part-returns-6 : part-lts.Need-returns-6 (part-claims t) (part_at t) part.Post
@@ -133,14 +133,14 @@ module _ (t : ℕ) where
       let r = p.before.before in
       let n = r.before.before.before in
       let k = n.before in
-      part-ends _ _ _ _ k.before.before.before.if1.false (omega (arith, k.before.before.if2.false)) k.byte.ensures n.if3.false r.before.byte2.ensures
+      part_ends _ _ _ _ k.before.before.before.if1.false (omega (arith, k.before.before.if2.false)) k.byte.ensures n.if3.false r.before.byte2.ensures
       r.if4.false m.byte3.ensures c.before.resets.ensures p.parts.ensures c.if5.false
 
 module _ (t : ℕ) where
   parts-returns : parts-lts.Need-returns (parts-claims t) (parts_at t) parts.Post parts-Inv-loop parts-μ-loop
   parts-returns c =
       let l = c.before.before.before.before.before in
-      parts-left-shallow l.before.loop.invariant l.loop-test.true c.before.before.before.number.ensures c.before.number2.ensures c.if1.true
+      parts_left_shallow l.before.loop.invariant l.loop-test.true c.before.before.before.number.ensures c.before.number2.ensures c.if1.true
 
   parts-part-requires : parts-lts.Need-part-requires (parts-claims t) (parts_at t) parts.Post parts-Inv-loop parts-μ-loop
   parts-part-requires c κs = (omega (arith, c.before.before.before.before.before.before.before.before.before.requires.0), tt)
@@ -149,19 +149,19 @@ module _ (t : ℕ) where
   parts-loop-again c =
       let e = c.before.before in
       let l = e.before.before.before.before.before in
-      parts-left-next l.before.loop.invariant l.loop-test.true e.before.before.before.number.ensures e.before.number2.ensures (omega (arith, e.if1.false)) c.part.ensures
+      parts_left_next l.before.loop.invariant l.loop-test.true e.before.before.before.number.ensures e.before.number2.ensures (omega (arith, e.if1.false)) c.part.ensures
 
   parts-returns-2 : parts-lts.Need-returns-2 (parts-claims t) (parts_at t) parts.Post parts-Inv-loop parts-μ-loop
-  parts-returns-2 c = parts-left-none c.before.loop.invariant c.loop-test.false
+  parts-returns-2 c = parts_left_none c.before.loop.invariant c.loop-test.false
 
 pub +copies-part-parts-spec : {M : Type 1} → statement M
 +copies-part-parts-spec =
     close μ-copies μ-part μ-parts
-    (λ t. copies-lts.spec (copies-claims t) (copies_at t) copies.Post copies-Inv-loop copies-μ-loop (λ c. search rules) (λ c. copies-left-begin) (λ c κs. tt)
+    (λ t. copies-lts.spec (copies-claims t) (copies_at t) copies.Post copies-Inv-loop copies-μ-loop (λ c. search rules) (λ c. copies_left_begin) (λ c κs. tt)
     (λ c. search rules) (copies-part-requires t) (λ c. search rules) (λ c. search rules) (copies-loop-again t) (copies-returns t))
-    (λ t. part-lts.spec (part-claims t) (part_at t) part.Post (λ c. part_none _ _ _ _ c.if1.true) (λ c. part-past _ _ _ _ _ c.if2.true)
+    (λ t. part-lts.spec (part-claims t) (part_at t) part.Post (λ c. part_none _ _ _ _ c.if1.true) (λ c. part_past _ _ _ _ _ c.if2.true)
     (λ c κs. tt) (λ c κs. tt) (λ c κs. tt) (λ c. search rules) (λ c. search rules) (part-returns-3 t) (λ c κs. tt) (λ c. search rules) (λ c κs. tt)
     (part-copies-requires t) (part-returns-4 t) (λ c. search rules) (part-parts-requires t) (λ c. search rules) (λ c κs. tt) (λ c κs. tt) (λ c. search rules)
     (λ c κs. tt) (λ c κs. tt) (λ c. search rules) (part-returns-5 t) (part-returns-6 t))
-    λ t. parts-lts.spec (parts-claims t) (parts_at t) parts.Post parts-Inv-loop parts-μ-loop (λ c. search rules) (λ c. parts-left-begin) (λ c κs. tt) (λ c κs. tt)
+    λ t. parts-lts.spec (parts-claims t) (parts_at t) parts.Post parts-Inv-loop parts-μ-loop (λ c. search rules) (λ c. parts_left_begin) (λ c κs. tt) (λ c κs. tt)
     (parts-returns t) (parts-part-requires t) (λ c. search rules) (λ c. search rules) (parts-loop-again t) (parts-returns-2 t)

@@ -1,18 +1,18 @@
 -- `lines::head` meets its contract: its parts stand one after the other. Assumes nothing.
-use Rattle.lines.specs.code.Written.{line-head}
+use Rattle.lines.specs.code.Written.{line_head}
 use Rattle.output.proofs.Buffers.{before}
 use borrow.Author.Rules.{rules}
 use Rattle.lines.proofs.head.Statement.{statement}
 use Rattle.lines.proofs.head.Tie as tie
 
 returns : tie.Need-returns
-unfolding line-head
+unfolding line_head
 returns c =
     let t = c.before.before.before.before.before in
     rw t.if1.true (before _ _ _ t.before.before.before.number.ensures c.before.before.bytes.ensures)
 
 returns-2 : tie.Need-returns-2
-unfolding line-head
+unfolding line_head
 returns-2 c =
     let t = c.before.before.before.before.before in
     rw t.if1.false (before _ _ _ t.before.before.before.number.ensures c.before.before.bytes2.ensures)

@@ -1,6 +1,6 @@
 -- `lines::line` meets its contract: its parts stand one after the other. Assumes nothing.
 use Rattle.lines.specs.code.Written.{line_at}
-use Rattle.output.proofs.Buffers.{before, same-put}
+use Rattle.output.proofs.Buffers.{before, same_put}
 use borrow.Author.Rules.{rules}
 use Rattle.lines.proofs.line.Statement.{statement}
 use Rattle.lines.proofs.line.Tie as tie
@@ -12,7 +12,7 @@ returns c =
     let name = values.before.before in
     let head = name.before.before.before in
     before _ _ _ head.head.ensures
-    (before _ _ _ (same-put _ _ _ name.bytes.ensures name.before.word.ensures.its-word)
+    (before _ _ _ (same_put _ _ _ name.bytes.ensures name.before.word.ensures.its_word)
     (before _ _ _ values.spaced.ensures c.bytes2.ensures))
 
 pub line-spec : {M : Type 1} → statement M

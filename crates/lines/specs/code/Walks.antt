@@ -3,12 +3,12 @@
 use Rattle.std.specs.Prelude.{Bool, true, false, not, ◌&&◌, cond, List, ℕ, zero, suc, ◌+◌, ◌%◌, eqb, leb, get_or}
 use Rattle.diagram.specs.declared.Diagram.{Diagram}
 use Rattle.columns.specs.declared.Nodes.{Nodes}
-use Rattle.columns.specs.Columns.{columns as nodes-of}
+use Rattle.columns.specs.Columns.{columns as nodes_of}
 use Rattle.output.specs.Buffer.{Buffer, buffer, put_all}
 use Rattle.labels.specs.declared.Values.{Values}
 use Rattle.labels.specs.Values.{values, push}
 use Rattle.lines.specs.declared.Walk.{Walk}
-use Rattle.lines.specs.Lines.{first-line}
+use Rattle.lines.specs.Lines.{first_line}
 use Rattle.lines.specs.code.Written.{line_at}
 
 -- What the walk reads of the nodes.
@@ -21,8 +21,8 @@ pub record Columns : Type 0 where
 abbrev pub columns : List ℕ → List ℕ → List ℕ → List ℕ → Columns
 columns kinds sizes depths names = record { kinds = kinds; sizes = sizes; depths = depths; names = names }
 
-abbrev pub walk-columns : Nodes → Columns
-walk-columns ns = columns ns.kinds ns.sizes ns.depths ns.names
+abbrev pub walk_columns : Nodes → Columns
+walk_columns ns = columns ns.kinds ns.sizes ns.depths ns.names
 
 -- The number of the next event, and the buffer with the lines of those before it.
 pub record Told : Type 0 where
@@ -44,8 +44,8 @@ place node so_far = record { node = node; so_far = so_far }
 abbrev pub stands : ℕ → ℕ → ℕ → List ℕ → Place
 stands node event at bytes = place node (told event (buffer at bytes))
 
-abbrev pub walk-stands : Walk → List ℕ → Place
-walk-stands w bytes = stands w.node w.event w.at bytes
+abbrev pub walk_stands : Walk → List ℕ → Place
+walk_stands w bytes = stands w.node w.event w.at bytes
 
 -- One line more, for the event with the next number. A drawing that is read has at most 512 events, so no number comes to 1,024.
 unfoldable pub tell : List ℕ → Bool → ℕ → Values → Told → Told
@@ -84,7 +84,7 @@ part text (suc left) c vs p = cond (leb 256 p.node) p (by_kind text (part text l
 
 -- The whole drawing: "The root has depth 1", and there are at most 12.
 unfoldable pub walked : List ℕ → Diagram → Buffer → Buffer
-walked text d s = (part text 12 (walk-columns (nodes-of d)) (values 0 0 0 0) (place 0 (told 0 s))).so_far.out
+walked text d s = (part text 12 (walk_columns (nodes_of d)) (values 0 0 0 0) (place 0 (told 0 s))).so_far.out
 
-unfoldable pub walked-listing : List ℕ → Diagram → Buffer → Buffer
-walked-listing text d s = walked text d (put_all (first-line d.events d.copies) s)
+unfoldable pub walked_listing : List ℕ → Diagram → Buffer → Buffer
+walked_listing text d s = walked text d (put_all (first_line d.events d.copies) s)

@@ -7,15 +7,15 @@ use Rattle.labels.specs.declared.Values.{Values}
 use Rattle.lines.specs.Lines.{mark}
 
 -- A value after a space, if it is there; and up to three of them.
-abbrev pub spaced-value : Bool → ℕ → List ℕ
-spaced-value there v = cond there (bytes " " ++ decimal v) []
+abbrev pub spaced_value : Bool → ℕ → List ℕ
+spaced_value there v = cond there (bytes " " ++ decimal v) []
 
-unfoldable pub spaced-values : Values → List ℕ
-spaced-values v = spaced-value (ltb 0 v.count) v.first ++ (spaced-value (ltb 1 v.count) v.second ++ spaced-value (ltb 2 v.count) v.third)
+unfoldable pub spaced_values : Values → List ℕ
+spaced_values v = spaced_value (ltb 0 v.count) v.first ++ (spaced_value (ltb 1 v.count) v.second ++ spaced_value (ltb 2 v.count) v.third)
 
 -- The line of event e, up to the name, and whole.
-unfoldable pub line-head : ℕ → Bool → List ℕ
-line-head e reset = decimal e ++ (bytes " " ++ mark reset)
+unfoldable pub line_head : ℕ → Bool → List ℕ
+line_head e reset = decimal e ++ (bytes " " ++ mark reset)
 
 unfoldable pub line_at : List ℕ → ℕ → Bool → ℕ → Values → List ℕ
-line_at text e reset name vs = line-head e reset ++ (word_at text name ++ (spaced-values vs ++ bytes "\n"))
+line_at text e reset name vs = line_head e reset ++ (word_at text name ++ (spaced_values vs ++ bytes "\n"))

@@ -9,7 +9,7 @@ use Rattle.reading.specs.Answers.{read_of}
 use Rattle.reading.specs.declared.Answer.{Answer}
 use Rattle.reading.specs.declared.Answer.TheVariants.{Done, Refused as Unread}
 use Rattle.formulas.specs.Lines.{Naming}
-use Rattle.modelling.specs.Profile.{in-profile}
+use Rattle.modelling.specs.Profile.{in_profile}
 use Rattle.machines.specs.declared.eventb.Admitted.{Admitted}
 use Rattle.modelling.specs.declared.Written.{Written}
 use Rattle.modelling.specs.declared.Written.TheVariants.{Bytes, Refused}
@@ -27,11 +27,11 @@ head v e = bytes "event " ++ (v e ++ bytes "\nwhere\n")
 pub record Drawn (text : List ℕ) (g : Diagram) : Type 0 where
   pub tree : Flow
   pub accepted : Accepted text tree
-  pub profile : in-profile tree ≡ true
-  pub its-diagram : g ≡ (read_of text).diagram
+  pub profile : in_profile tree ≡ true
+  pub its_diagram : g ≡ (read_of text).diagram
 
 -- A text that is turned away whatever is asked of it, or one that has a machine.
 pub data Admission (text : List ℕ) (a : Admitted) : Type 0 where
   unread : (number place : ℕ) → RefusedAt text number place → a.answer ≡ Refused number place → Admission text a
-  outside : (d : Flow) → Accepted text d → in-profile d ≡ false → a.answer ≡ Refused 16 0 → Admission text a
+  outside : (d : Flow) → Accepted text d → in_profile d ≡ false → a.answer ≡ Refused 16 0 → Admission text a
   inside : Drawn text a.diagram → a.answer ≡ Bytes 0 → Admission text a

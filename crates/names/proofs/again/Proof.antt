@@ -4,9 +4,9 @@ use Prim.Native.Nat.{◌+◌, ◌-◌, ◌≤◌}
 use native.Mathlib.Omega.{arith}
 use lib.ListN.{length}
 use borrow.Author.Rules.{rules}
-use Rattle.tokens.proofs.Between.{between_in, between-low, between-high}
+use Rattle.tokens.proofs.Between.{between_in, between_low, between_high}
 use Rattle.walked.specs.Rows.{past_word}
-use Rattle.names.proofs.Agreed.{Agreed, too_long, agreed-start, agreed-other, agreed-next, agreed-end, agreed-longer}
+use Rattle.names.proofs.Agreed.{Agreed, too_long, agreed_start, agreed_other, agreed_next, agreed_end, agreed_longer}
 use Rattle.names.proofs.again.Statement.{statement}
 use Rattle.names.proofs.again.Tie as tie
 
@@ -26,35 +26,35 @@ returns-3 : tie.Need-returns-3 invariant-loop decreases-loop
 returns-3 c = λ e l. too_long _ _ _ e c.before.before.before.before.requires.0 c.if3.true
 
 loop-holds : tie.Need-loop-init invariant-loop decreases-loop
-loop-holds c = (omega arith, omega (arith, c.before.before.before.before.requires.0), λ e. agreed-start _ _ _)
+loop-holds c = (omega arith, omega (arith, c.before.before.before.before.requires.0), λ e. agreed_start _ _ _)
 
 returns-4 : tie.Need-returns-4 invariant-loop decreases-loop
 returns-4 c = λ e l.
     let z = c.before.before.before in
-    agreed-other (z.before.loop.invariant.2 e) e z.loop-test.true refl refl c.if4.true
+    agreed_other (z.before.loop.invariant.2 e) e z.loop-test.true refl refl c.if4.true
 
 loop-again : tie.Need-loop-preserved invariant-loop decreases-loop
 loop-again c =
     let z = c.before.before.before in
-    (omega arith, omega (arith, z.before.loop.invariant.1), λ e. agreed-next (z.before.loop.invariant.2 e) e z.loop-test.true refl refl c.if4.false)
+    (omega arith, omega (arith, z.before.loop.invariant.1), λ e. agreed_next (z.before.loop.invariant.2 e) e z.loop-test.true refl refl c.if4.false)
 
 returns-5 : tie.Need-returns-5 invariant-loop decreases-loop
 returns-5 c = λ e l.
     let f = c.before in
     let z = f.before.before in
-    agreed-end (z.before.loop.invariant.2 e) e z.loop-test.false f.before.byte.ensures (rw (← f.class.ensures) (between-low 5 7 _ c.if5.true))
+    agreed_end (z.before.loop.invariant.2 e) e z.loop-test.false f.before.byte.ensures (rw (← f.class.ensures) (between_low 5 7 _ c.if5.true))
 
 returns-6 : tie.Need-returns-6 invariant-loop decreases-loop
 returns-6 c = λ e l.
     let f = c.before.before in
     let z = f.before.before in
-    agreed-end (z.before.loop.invariant.2 e) e z.loop-test.false f.before.byte.ensures (rw (← f.class.ensures) (between-high 5 7 _ c.if6.true))
+    agreed_end (z.before.loop.invariant.2 e) e z.loop-test.false f.before.byte.ensures (rw (← f.class.ensures) (between_high 5 7 _ c.if6.true))
 
 returns-7 : tie.Need-returns-7 invariant-loop decreases-loop
 returns-7 c = λ e l.
     let f = c.before.before in
     let z = f.before.before in
-    agreed-longer (z.before.loop.invariant.2 e) e z.loop-test.false f.before.byte.ensures
+    agreed_longer (z.before.loop.invariant.2 e) e z.loop-test.false f.before.byte.ensures
     (rw (← f.class.ensures) (between_in 5 7 _ c.before.if5.false c.if6.false))
 
 pub again_spec : {M : Type 1} → statement M

@@ -2,7 +2,7 @@
 use native.Mathlib.Omega.{arith}
 use borrow.Author.Rules.{rules}
 use Rattle.tokens.specs.Words.{word_at}
-use Rattle.names.proofs.Surrounding.{Fresh, fresh_start, fresh-end, fresh-twice, fresh-next}
+use Rattle.names.proofs.Surrounding.{Fresh, fresh_start, fresh_end, fresh_twice, fresh_next}
 use Rattle.names.proofs.fresh.Statement.{statement}
 use Rattle.names.proofs.fresh.Tie as tie
 
@@ -22,16 +22,16 @@ returns : tie.Need-returns invariant-loop decreases-loop
 returns c =
     let f = c.before.before in
     let l = f.before.before in
-    fresh-twice l.before.loop.invariant (omega arith) f.told.ensures.0 c.before.same.ensures c.if1.true
+    fresh_twice l.before.loop.invariant (omega arith) f.told.ensures.0 c.before.same.ensures c.if1.true
 
 loop-again : tie.Need-loop-preserved invariant-loop decreases-loop
 loop-again c =
     let f = c.before.before in
     let l = f.before.before in
-    fresh-next l.before.loop.invariant (omega arith) f.told.ensures.0 c.before.same.ensures c.if1.false
+    fresh_next l.before.loop.invariant (omega arith) f.told.ensures.0 c.before.same.ensures c.if1.false
 
 returns-2 : tie.Need-returns-2 invariant-loop decreases-loop
-returns-2 c = fresh-end c.before.loop.invariant c.loop-test.false
+returns-2 c = fresh_end c.before.loop.invariant c.loop-test.false
 
 pub fresh-spec : {M : Type 1} → statement M
 fresh-spec =

@@ -9,10 +9,10 @@ use borrow.Author.Rules.{rules}
 use Rattle.diagram.specs.Tree.{Name}
 use Rattle.tokens.specs.Classes.{class_of}
 use Rattle.tokens.specs.Remarks.{skipped}
-use Rattle.tokens.proofs.Stretch.{stretch-le}
+use Rattle.tokens.proofs.Stretch.{stretch_le}
 use Rattle.walked.specs.Rows.{past_word, Listed}
 use Rattle.names.specs.code.Pars.{Around}
-use Rattle.names.proofs.Reading.{Reading, read-start, read-inside, read-end, read-over, read-other, read_next, par-ended}
+use Rattle.names.proofs.Reading.{Reading, read_start, read_inside, read_end, read_over, read_other, read_next, par_ended}
 use Rattle.names.proofs.listed.Statement.{statement}
 use Rattle.names.proofs.listed.Tie as tie
 
@@ -24,18 +24,18 @@ abbrev decreases-loop : tie.decreases-loop
 decreases-loop text rows pars n past lexicon k₀ p₀ k p = n - k
 
 loop-holds : tie.Need-loop-init invariant-loop decreases-loop
-loop-holds c = (omega arith, λ at ps ns e l a. read-start e l a)
+loop-holds c = (omega arith, λ at ps ns e l a. read_start e l a)
 
 returns : tie.Need-returns invariant-loop decreases-loop
 returns c = λ at ps ns e l a.
-    let i = read-inside (c.before.before.loop.invariant.1 at ps ns e l a) c.before.gap.ensures in
+    let i = read_inside (c.before.before.loop.invariant.1 at ps ns e l a) c.before.gap.ensures in
     absurd (omega arith)
 
 returns-2 : tie.Need-returns-2 invariant-loop decreases-loop
 returns-2 c = λ at ps ns e l a.
     let g = c.before.before.before in
     let z = g.before.before in
-    read-end (z.before.loop.invariant.1 at ps ns e l a) z.gap.ensures g.gap2.ensures
+    read_end (z.before.loop.invariant.1 at ps ns e l a) z.gap.ensures g.gap2.ensures
     (c.before.class.ensures ∙ ap class_of c.before.before.byte.ensures) c.if2.true
     z.before.loop.invariant.0
 
@@ -44,7 +44,7 @@ returns-3 c = λ at ps ns e l a.
     let f = c.before.before in
     let g = f.before.before in
     let z = g.before.before in
-    read-over (z.before.loop.invariant.1 at ps ns e l a) z.gap.ensures g.gap2.ensures (f.class.ensures ∙ ap class_of f.before.byte.ensures)
+    read_over (z.before.loop.invariant.1 at ps ns e l a) z.gap.ensures g.gap2.ensures (f.class.ensures ∙ ap class_of f.before.byte.ensures)
     c.before.if2.false
     c.if3.true
 
@@ -63,7 +63,7 @@ again-requires c κs =
     let g = c.before.before.before.before.before.before.before in
     let z = g.before.before in
     let text = z.before.before.before.args.text.now in
-    (omega (arith, g.gap2.ensures, g.before.if1.false, stretch-le skipped false (drop (z.gap.result + 1) text), length-drop (z.gap.result + 1) text), z.before.before.before.requires.2)
+    (omega (arith, g.gap2.ensures, g.before.if1.false, stretch_le skipped false (drop (z.gap.result + 1) text), length-drop (z.gap.result + 1) text), z.before.before.before.requires.2)
 
 returns-4 : tie.Need-returns-4 invariant-loop decreases-loop
 returns-4 c = λ at ps ns e l a.
@@ -72,8 +72,8 @@ returns-4 c = λ at ps ns e l a.
     let f = o.before.before in
     let g = f.before.before in
     let z = g.before.before in
-    let ended = par-ended a o.if3.false v.before.told.ensures.0 v.told2.ensures.0 in
-    read-other (z.before.loop.invariant.1 at ps ns e l a) z.gap.ensures g.gap2.ensures (f.class.ensures ∙ ap class_of f.before.byte.ensures)
+    let ended = par_ended a o.if3.false v.before.told.ensures.0 v.told2.ensures.0 in
+    read_other (z.before.loop.invariant.1 at ps ns e l a) z.gap.ensures g.gap2.ensures (f.class.ensures ∙ ap class_of f.before.byte.ensures)
     o.before.if2.false
     o.if3.false v.before.told.ensures.0 (c.before.again.ensures ended.0 ended.1) c.if4.true
 
@@ -86,7 +86,7 @@ loop-again c =
     let z = g.before.before in (
       omega arith,
       λ at ps ns e l a.
-          let ended = par-ended a o.if3.false v.before.told.ensures.0 v.told2.ensures.0 in
+          let ended = par_ended a o.if3.false v.before.told.ensures.0 v.told2.ensures.0 in
           read_next (z.before.loop.invariant.1 at ps ns e l a) z.gap.ensures g.gap2.ensures (f.class.ensures ∙ ap class_of f.before.byte.ensures)
           o.before.if2.false
           o.if3.false v.before.told.ensures.0 (c.before.again.ensures ended.0 ended.1) c.if4.false,

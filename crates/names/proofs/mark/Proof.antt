@@ -1,15 +1,15 @@
 use mathlib.Core.Path.{refl}
 use native.Mathlib.Omega.{arith}
 use borrow.Author.Rules.{rules}
-use Rattle.names.proofs.Marked.{mark-none, mark-inside, mark-is}
+use Rattle.names.proofs.Marked.{mark_none, mark_inside, mark_is}
 use Rattle.names.proofs.mark.Statement.{statement}
 use Rattle.names.proofs.mark.Tie as tie
 
 returns : tie.Need-returns
-returns c = (omega arith, λ e. mark-none _ _ e c.if1.true)
+returns c = (omega arith, λ e. mark_none _ _ e c.if1.true)
 
 returns-2 : tie.Need-returns-2
-returns-2 c = (omega arith, λ e. absurd (mark-inside _ _ e c.before.if1.false c.if2.true))
+returns-2 c = (omega arith, λ e. absurd (mark_inside _ _ e c.before.if1.false c.if2.true))
 
 mixed-requires : tie.Need-mixed-requires
 mixed-requires c κs =
@@ -24,7 +24,7 @@ returns-3 c =
     let a = m.before.before in (
       c.mixed.ensures.1,
       λ e.
-          mark-is _ _ e a.before.before.if1.false refl w.wide.ensures.0 c.before.wide2.ensures.0 a.from_end.ensures.0
+          mark_is _ _ e a.before.before.if1.false refl w.wide.ensures.0 c.before.wide2.ensures.0 a.from_end.ensures.0
           m.before.from-end2.ensures.0
           m.from-end3.ensures.0 c.mixed.ensures.0,
     )

@@ -4,26 +4,26 @@ use mathlib.Core.Bool.{true}
 use Prim.Native.Nat.{◌+◌, ◌-◌, ◌≤◌, ◌<◌}
 use native.Mathlib.Omega.{arith}
 use borrow.Author.Rules.{rules}
-use Rattle.rules.specs.Kept.{names-kept}
+use Rattle.rules.specs.Kept.{names_kept}
 use Rattle.names.specs.code.Told.{Told}
-use Rattle.names.specs.code.Marks.{titled-at}
-use Rattle.names.proofs.Searched.{Searched, search-start, search-end}
-use Rattle.names.proofs.Named.{Linkable, linkable-start, linkable-none, linkable-next, Linking, linking-start, linking-none, linking-next, its-mark, found-by-links, name-twice, name-next, name-none}
+use Rattle.names.specs.code.Marks.{titled_at}
+use Rattle.names.proofs.Searched.{Searched, search_start, search_end}
+use Rattle.names.proofs.Named.{Linkable, linkable_start, linkable_none, linkable_next, Linking, linking_start, linking_none, linking_next, its_mark, found_by_links, name_twice, name_next, name_none}
 use Rattle.names.proofs.names.Statement.{statement}
 use Rattle.names.proofs.names.Tie as tie
 
 abbrev invariant-loop : tie.invariant-loop
 invariant-loop text rows count heads₀ links₀ i₀ heads links i =
-    (i ≤ count) × Linkable heads links i × ((t : Told text rows count) → Linking text rows heads links i × Searched names-kept t.hs i)
+    (i ≤ count) × Linkable heads links i × ((t : Told text rows count) → Linking text rows heads links i × Searched names_kept t.hs i)
 
 abbrev decreases-loop : tie.decreases-loop
 decreases-loop text rows count heads₀ links₀ i₀ heads links i = count - i
 
 loop-holds : tie.Need-loop-init invariant-loop decreases-loop
-loop-holds c = (omega arith, linkable-start, λ t. (linking-start _ _, search-start names-kept t.hs))
+loop-holds c = (omega arith, linkable_start, λ t. (linking_start _ _, search_start names_kept t.hs))
 
 title : (z : tie.Then1 invariant-loop decreases-loop)
-    → titled-at z.before.before.before.before.before.before.args.rows.now z.before.before.before.before.loop.i ≡ true
+    → titled_at z.before.before.before.before.before.before.args.rows.now z.before.before.before.before.loop.i ≡ true
 title z = rw z.before.before.told.ensures.0 at (sym z.before.titled.ensures ∙ z.if1.true)
 
 taken-requires : tie.Need-taken-requires invariant-loop decreases-loop
@@ -44,9 +44,9 @@ returns c =
       (
         λ some. rw back (title z),
         λ t.
-            let mark = its-mark t l.loop.i h (title z) p.told2.ensures.0 m.before.told3.ensures.0 m.mark.ensures.1 in
-            let found = found-by-links (l.loop.invariant.2 t).0 p.told2.ensures.0 mark m.mark.ensures.0 c.before.before.wide_short.ensures.0 in
-            name-twice t h (l.loop.invariant.2 t).1 (title z) (found c.before.taken.ensures) c.if2.true,
+            let mark = its_mark t l.loop.i h (title z) p.told2.ensures.0 m.before.told3.ensures.0 m.mark.ensures.1 in
+            let found = found_by_links (l.loop.invariant.2 t).0 p.told2.ensures.0 mark m.mark.ensures.0 c.before.before.wide_short.ensures.0 in
+            name_twice t h (l.loop.invariant.2 t).1 (title z) (found c.before.taken.ensures) c.if2.true,
       ),
     )
 
@@ -59,12 +59,12 @@ loop-again c =
     let h = z.before.before.before.loop-test.true in
     let small : l.loop.i < 256 = omega (arith, l.before.before.requires) in (
       omega arith,
-      linkable-next l.loop.invariant.1 m.mark.ensures.0 small,
+      linkable_next l.loop.invariant.1 m.mark.ensures.0 small,
       λ t.
-          let mark = its-mark t l.loop.i h (title z) p.told2.ensures.0 m.before.told3.ensures.0 m.mark.ensures.1 in
-          let found = found-by-links (l.loop.invariant.2 t).0 p.told2.ensures.0 mark m.mark.ensures.0 c.before.before.wide_short.ensures.0 in (
-            linking-next (l.loop.invariant.2 t).0 l.loop.invariant.1 (title z) small mark m.mark.ensures.0,
-            name-next t h (l.loop.invariant.2 t).1 (title z) (found c.before.taken.ensures) c.if2.false,
+          let mark = its_mark t l.loop.i h (title z) p.told2.ensures.0 m.before.told3.ensures.0 m.mark.ensures.1 in
+          let found = found_by_links (l.loop.invariant.2 t).0 p.told2.ensures.0 mark m.mark.ensures.0 c.before.before.wide_short.ensures.0 in (
+            linking_next (l.loop.invariant.2 t).0 l.loop.invariant.1 (title z) small mark m.mark.ensures.0,
+            name_next t h (l.loop.invariant.2 t).1 (title z) (found c.before.taken.ensures) c.if2.false,
           ),
     )
 
@@ -73,10 +73,10 @@ loop-again-2 c =
     let l = c.before.before.before.before in
     let e = rw c.before.before.told.ensures.0 at (sym c.before.titled.ensures ∙ c.if1.false) in
     let h = c.before.before.before.loop-test.true in
-    (omega arith, linkable-none l.loop.invariant.1, λ t. (linking-none (l.loop.invariant.2 t).0 e, name-none t h (l.loop.invariant.2 t).1 e))
+    (omega arith, linkable_none l.loop.invariant.1, λ t. (linking_none (l.loop.invariant.2 t).0 e, name_none t h (l.loop.invariant.2 t).1 e))
 
 returns-2 : tie.Need-returns-2 invariant-loop decreases-loop
-returns-2 c = (omega arith, (λ h. let z : ⊥ = omega arith in absurd z, λ t. search-end (c.before.loop.invariant.2 t).1 (rw t.many c.loop-test.false)))
+returns-2 c = (omega arith, (λ h. let z : ⊥ = omega arith in absurd z, λ t. search_end (c.before.loop.invariant.2 t).1 (rw t.many c.loop-test.false)))
 
 pub names-spec : {M : Type 1} → statement M
 names-spec =

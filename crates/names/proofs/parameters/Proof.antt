@@ -5,22 +5,22 @@ use native.Mathlib.Omega.{arith}
 use lib.ListN.{get_or}
 use borrow.Author.Rules.{rules}
 use borrow.Author.Tests.{not-false}
-use Rattle.rules.specs.Kept.{parameters-kept}
+use Rattle.rules.specs.Kept.{parameters_kept}
 use Rattle.names.specs.code.Told.{Told}
-use Rattle.names.proofs.Searched.{Searched, search-start, search-broken, search-kept, search-end}
-use Rattle.names.proofs.Surrounded.{Roomy, roomy-start, roomy-next, Surrounded, around-start, around_here, around-next}
+use Rattle.names.proofs.Searched.{Searched, search_start, search_broken, search_kept, search_end}
+use Rattle.names.proofs.Surrounded.{Roomy, roomy_start, roomy_next, Surrounded, around_start, around_here, around_next}
 use Rattle.names.proofs.parameters.Statement.{statement}
 use Rattle.names.proofs.parameters.Tie as tie
 
 abbrev invariant-loop : tie.invariant-loop
 invariant-loop text rows count lexicon pars₀ many₀ i₀ pars many i =
-    (i ≤ count) × Roomy pars many × ((t : Told text rows count) → Surrounded text rows pars many t.hs i × Searched parameters-kept t.hs i)
+    (i ≤ count) × Roomy pars many × ((t : Told text rows count) → Surrounded text rows pars many t.hs i × Searched parameters_kept t.hs i)
 
 abbrev decreases-loop : tie.decreases-loop
 decreases-loop text rows count lexicon pars₀ many₀ i₀ pars many i = count - i
 
 loop-holds : tie.Need-loop-init invariant-loop decreases-loop
-loop-holds c = (omega arith, roomy-start, λ t. (around-start _ _ t.hs, search-start parameters-kept t.hs))
+loop-holds c = (omega arith, roomy_start, λ t. (around_start _ _ t.hs, search_start parameters_kept t.hs))
 
 kept-requires : tie.Need-kept-requires invariant-loop decreases-loop
 kept-requires c κs =
@@ -34,7 +34,7 @@ returns c =
     let l = d.before.before.loop in
     let h = d.before.loop-test.true in (
       omega arith,
-      λ t. search-broken (l.invariant.2 t).1 (omega (arith, t.many))
+      λ t. search_broken (l.invariant.2 t).1 (omega (arith, t.many))
           (c.before.kept.ensures.1 _ t h (around_here t h l.invariant.1 (l.invariant.2 t).0 d.depth.ensures.1 refl)) c.if1.true,
     )
 
@@ -70,17 +70,17 @@ loop-again c =
     let h = d.before.loop-test.true in
     let f = few e in (
       omega arith,
-      roomy-next l.invariant.1 _ _ _ _ (omega arith) (omega (arith, d.before.before.before.before.requires.0)) (omega (arith, deep e))
+      roomy_next l.invariant.1 _ _ _ _ (omega arith) (omega (arith, d.before.before.before.before.requires.0)) (omega (arith, deep e))
           (omega (arith, f, c.replicator.ensures.1)),
       λ t. (
-        around-next t h l.invariant.1 (l.invariant.2 t).0 d.depth.ensures.1 refl f c.replicator.ensures.0,
-        search-kept (l.invariant.2 t).1 (omega (arith, t.many))
+        around_next t h l.invariant.1 (l.invariant.2 t).0 d.depth.ensures.1 refl f c.replicator.ensures.0,
+        search_kept (l.invariant.2 t).1 (omega (arith, t.many))
             (e.before.kept.ensures.1 _ t h (around_here t h l.invariant.1 (l.invariant.2 t).0 d.depth.ensures.1 refl)) e.if1.false,
       ),
     )
 
 returns-2 : tie.Need-returns-2 invariant-loop decreases-loop
-returns-2 c = (omega arith, λ t. search-end (c.before.loop.invariant.2 t).1 (rw t.many c.loop-test.false))
+returns-2 c = (omega arith, λ t. search_end (c.before.loop.invariant.2 t).1 (rw t.many c.loop-test.false))
 
 pub parameters-spec : {M : Type 1} → statement M
 parameters-spec =

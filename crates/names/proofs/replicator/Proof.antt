@@ -1,14 +1,14 @@
 use native.Mathlib.Omega.{arith}
 use borrow.Author.Rules.{rules}
-use Rattle.tokens.proofs.Between.{between_in, between-low, between-high}
+use Rattle.tokens.proofs.Between.{between_in, between_low, between_high}
 use Rattle.names.proofs.replicator.Statement.{statement}
 use Rattle.names.proofs.replicator.Tie as tie
 
 returns : tie.Need-returns
-returns c = (rw (← c.before.told.ensures.0, between-low 12 14 c.before.told.result c.if1.true), omega arith)
+returns c = (rw (← c.before.told.ensures.0, between_low 12 14 c.before.told.result c.if1.true), omega arith)
 
 returns-2 : tie.Need-returns-2
-returns-2 c = (rw (← c.before.before.told.ensures.0, between-high 12 14 c.before.before.told.result c.if2.true), omega arith)
+returns-2 c = (rw (← c.before.before.told.ensures.0, between_high 12 14 c.before.before.told.result c.if2.true), omega arith)
 
 returns-3 : tie.Need-returns-3
 returns-3 c = (

@@ -5,7 +5,7 @@ use native.Mathlib.Omega.{arith}
 use borrow.Author.Rules.{rules}
 use Rattle.tokens.specs.Words.{word_at}
 use Rattle.names.specs.code.Marks.{mark_of, latest, Linked}
-use Rattle.names.proofs.Chained.{Chain, chain-start, chain-end, chain-found, chain_next}
+use Rattle.names.proofs.Chained.{Chain, chain_start, chain_end, chain_found, chain_next}
 use Rattle.names.proofs.taken.Statement.{statement}
 use Rattle.names.proofs.taken.Tie as tie
 
@@ -17,12 +17,12 @@ abbrev decreases-loop : tie.decreases-loop
 decreases-loop text rows links from at j₀ j = j
 
 loop-holds : tie.Need-loop-init invariant-loop decreases-loop
-loop-holds c = (omega arith, λ i l e. chain-start _ _ _ i _ e)
+loop-holds c = (omega arith, λ i l e. chain_start _ _ _ i _ e)
 
 returns : tie.Need-returns invariant-loop decreases-loop
 returns c = λ i l e.
     let d = c.before.before in
-    chain-found (d.before.before.loop.invariant.1 i l e) d.before.loop-test.true d.told.ensures.0 c.before.same.ensures c.if1.true
+    chain_found (d.before.before.loop.invariant.1 i l e) d.before.loop-test.true d.told.ensures.0 c.before.same.ensures c.if1.true
 
 loop-less : tie.Need-loop-smaller invariant-loop decreases-loop
 loop-less c =
@@ -42,7 +42,7 @@ loop-again c =
     )
 
 returns-2 : tie.Need-returns-2 invariant-loop decreases-loop
-returns-2 c = λ i l e. chain-end (c.before.loop.invariant.1 i l e) c.loop-test.false
+returns-2 c = λ i l e. chain_end (c.before.loop.invariant.1 i l e) c.loop-test.false
 
 pub taken-spec : {M : Type 1} → statement M
 taken-spec =

@@ -2,20 +2,20 @@
 use Rattle.std.specs.Prelude.{Bool, ◌||◌, ℕ, eqb}
 use Rattle.tokens.specs.Classes.{between}
 
-abbrev pub flow-code : ℕ → Bool
-flow-code c = eqb c 7
+abbrev pub flow_code : ℕ → Bool
+flow_code c = eqb c 7
 
-abbrev pub leaf-code : ℕ → Bool
-leaf-code c = eqb c 8
+abbrev pub leaf_code : ℕ → Bool
+leaf_code c = eqb c 8
 
-abbrev pub loop-code : ℕ → Bool
-loop-code c = eqb c 15
+abbrev pub loop_code : ℕ → Bool
+loop_code c = eqb c 15
 
-abbrev pub titled-code : ℕ → Bool
-titled-code c = flow-code c || leaf-code c
+abbrev pub titled_code : ℕ → Bool
+titled_code c = flow_code c || leaf_code c
 
-abbrev pub copying-code : ℕ → Bool
-copying-code c = between 12 14 c
+abbrev pub copying_code : ℕ → Bool
+copying_code c = between 12 14 c
 
-abbrev pub solid-code : ℕ → Bool
-solid-code c = titled-code c || (eqb c 11 || eqb c 14)
+abbrev pub solid_code : ℕ → Bool
+solid_code c = titled_code c || (eqb c 11 || eqb c 14)

@@ -8,7 +8,7 @@ use borrow.Author.Tests.{ltb-true, ltb-false}
 use borrow.Fn.Kinds.{In}
 use borrow.Fn.PlainCycle.{Measures, is, falls, and}
 use Rattle.output.specs.Buffer.{buffer}
-use Rattle.output.proofs.Decimals.{digits-none, digits-few, digits_more, only-digit, last-digit}
+use Rattle.output.proofs.Decimals.{digits_none, digits_few, digits_more, only_digit, last_digit}
 use Rattle.output.proofs.digits.Reads as digits
 use Rattle.output.proofs.digits.Kinds as digits-kinds
 use Rattle.output.proofs.+digits.Lts-digits as digits-lts
@@ -50,8 +50,8 @@ module _ (t : ℕ) where
       let v = a.v in
       let s = buffer a.at a.out.now in
       c.before.before.last.ensures
-      ∙ ⊎_elim (λ w. last-digit n v s (digits_more n v w.0.taken (ltb-true 9 v w.1.taken)) (rw (w.6, w.7) w.3.ensures))
-      (λ w. rw (w.1, w.2) (only-digit n v s (⊎_elim (λ u. digits-few n v (ltb-false 9 v u.1.left)) (λ u. digits-none n v u.left) w.0.came)))
+      ∙ ⊎_elim (λ w. last_digit n v s (digits_more n v w.0.taken (ltb-true 9 v w.1.taken)) (rw (w.6, w.7) w.3.ensures))
+      (λ w. rw (w.1, w.2) (only_digit n v s (⊎_elim (λ u. digits_few n v (ltb-false 9 v u.1.left)) (λ u. digits_none n v u.left) w.0.came)))
       j.if1.branch
 
 pub +digits-spec : {M : Type 1} → statement M

@@ -1,15 +1,15 @@
 -- `packing::written_number` meets its contract, answer by answer.
-use Rattle.modelling.specs.Reports.{report as written-report}
-use Rattle.packing.proofs.Packs.{by-case, one, refused}
+use Rattle.modelling.specs.Reports.{report as written_report}
+use Rattle.packing.proofs.Packs.{by_case, one, refused}
 use borrow.Author.Rules.{rules}
 use Rattle.packing.proofs.written_number.Statement.{statement}
 use Rattle.packing.proofs.written_number.Tie as tie
 
 returns : tie.Need-returns
-returns c = by-case 32 written-report c.before.w.given.1 (one _)
+returns c = by_case 32 written_report c.before.w.given.1 (one _)
 
 returns-2 : tie.Need-returns-2
-returns-2 c = by-case 32 written-report c.before.before.w2.given.1 (refused 32 _ _ c.refusal.ensures)
+returns-2 c = by_case 32 written_report c.before.before.w2.given.1 (refused 32 _ _ c.refusal.ensures)
 
 pub written-number-spec : {M : Type 1} → statement M
 written-number-spec =

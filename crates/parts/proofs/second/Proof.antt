@@ -5,13 +5,13 @@ use native.Mathlib.Omega.{arith}
 use mathlib.Core.List.{reverse}
 use lib.ListN.{length, get_or, take}
 use borrow.Author.Rules.{rules}
-use Rattle.parts.specs.code.Cuts.{left_over, second-begins}
-use Rattle.parts.proofs.Cut.{from_end, wanted-few, one-back, all_there, at-begin}
+use Rattle.parts.specs.code.Cuts.{left_over, second_begins}
+use Rattle.parts.proofs.Cut.{from_end, wanted_few, one_back, all_there, at_begin}
 use Rattle.parts.proofs.second.Statement.{statement}
 use Rattle.parts.proofs.second.Tie as tie
 
 abbrev invariant-loop : tie.invariant-loop
-invariant-loop codes i₀ n₀ i n = (second-begins codes ≡ left_over (reverse (take i codes)) n) × (i ≤ length codes) × (n + i ≤ length codes + 1)
+invariant-loop codes i₀ n₀ i n = (second_begins codes ≡ left_over (reverse (take i codes)) n) × (i ≤ length codes) × (n + i ≤ length codes + 1)
 
 abbrev decreases-loop : tie.decreases-loop
 decreases-loop codes i₀ n₀ i n = i
@@ -26,7 +26,7 @@ second_spec =
     (λ c.
     let l = c.before.before.loop in
     let cs = c.before.before.before.before.args.codes.now in
-    (sym (l.invariant.0 ∙ at-begin cs l.i l.n c.if1.true), l.invariant.1))
+    (sym (l.invariant.0 ∙ at_begin cs l.i l.n c.if1.true), l.invariant.1))
     (λ c. search rules)
     (λ c.
     let c3 = c.before.before.before in
@@ -41,10 +41,10 @@ second_spec =
     let cs = c.before.before.before.before.before.before.args.codes.now in
     let w = c.wanted.ensures in
     let some : 0 < l.i = omega (arith, c.before.before.if1.false) in
-    let back = one-back cs l.i l.n some l.invariant.1 c.before.before.before.loop-test.true in (
+    let back = one_back cs l.i l.n some l.invariant.1 c.before.before.before.loop-test.true in (
       rw w (l.invariant.0 ∙ back),
       omega (arith, l.invariant),
-      omega (arith, l.invariant, w, wanted-few (get_or cs (l.i - 1) 0) l.n, some),
+      omega (arith, l.invariant, w, wanted_few (get_or cs (l.i - 1) 0) l.n, some),
     ))
     (λ c.
     let l = c.before.loop in

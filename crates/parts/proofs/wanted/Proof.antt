@@ -1,7 +1,7 @@
 -- A number's own case of the definition.
 use native.Mathlib.Omega.{arith}
 use borrow.Author.Rules.{rules}
-use Rattle.parts.proofs.Cut.{event-wants, reset-wants, other-wants}
+use Rattle.parts.proofs.Cut.{event_wants, reset_wants, other_wants}
 use Rattle.parts.proofs.wanted.Statement.{statement}
 use Rattle.parts.proofs.wanted.Tie as tie
 
@@ -10,7 +10,7 @@ wanted-spec =
     tie.close
     (tie.spec
     (λ c. search rules)
-    (λ c. event-wants _ _ c.if1.true)
-    (λ c. reset-wants _ _ c.if2.true)
+    (λ c. event_wants _ _ c.if1.true)
+    (λ c. reset_wants _ _ c.if2.true)
     (λ c. search rules)
-    (λ c. other-wants _ _ (omega (arith, c.before.if1.false)) c.if2.false))
+    (λ c. other_wants _ _ (omega (arith, c.before.if1.false)) c.if2.false))

@@ -11,9 +11,9 @@ unfoldable pub left_over : List ℕ → ℕ → ℕ
 left_over [] n = 0
 left_over (c ∷ cs) n = cond (eqb n 0) (length (c ∷ cs)) (left_over cs (wanted c n))
 
-unfoldable pub second-begins : List ℕ → ℕ
-second-begins cs = left_over (reverse cs) 1
+unfoldable pub second_begins : List ℕ → ℕ
+second_begins cs = left_over (reverse cs) 1
 
-unfoldable pub event-count : List ℕ → ℕ
-event-count [] = 0
-event-count (c ∷ cs) = cond (leb c 2) (suc (event-count cs)) (event-count cs)
+unfoldable pub event_count : List ℕ → ℕ
+event_count [] = 0
+event_count (c ∷ cs) = cond (leb c 2) (suc (event_count cs)) (event_count cs)

@@ -3,7 +3,7 @@ use mathlib.Core.Path.{refl, sym, ◌∙◌}
 use Prim.Native.Nat.{◌-◌}
 use native.Mathlib.Omega.{arith}
 use lib.ListN.{length-set}
-use Rattle.printer.proofs.Copied.{Partly, over-more, over_none}
+use Rattle.printer.proofs.Copied.{Partly, over_more, over_none}
 use borrow.Author.Rules.{rules}
 use Rattle.printer.proofs.copy_part.Statement.{statement}
 use Rattle.printer.proofs.copy_part.Tie as tie
@@ -27,7 +27,7 @@ loop-again c =
       begun = omega (arith, l.invariant.begun);
       inside = omega (arith, t.loop-test.true);
       count = omega (arith, l.invariant.count);
-      bytes = over-more s.args.text.now l.i s.args.e l.out _ l.m t.loop-test.true s.requires.1 refl ∙ l.invariant.bytes;
+      bytes = over_more s.args.text.now l.i s.args.e l.out _ l.m t.loop-test.true s.requires.1 refl ∙ l.invariant.bytes;
     }
 
 same_length : tie.Need-same-length invariant-loop decreases-loop

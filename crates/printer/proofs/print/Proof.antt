@@ -1,4 +1,4 @@
-use Rattle.printer.proofs.Answered.{short-answers, read_fits, long-answers}
+use Rattle.printer.proofs.Answered.{short_answers, read_fits, long_answers}
 use borrow.Author.Rules.{rules}
 use Rattle.printer.proofs.print.Statement.{statement}
 use Rattle.printer.proofs.print.Tie as tie
@@ -6,7 +6,7 @@ use Rattle.printer.proofs.print.Tie as tie
 returns : tie.Need-returns
 returns c =
     let a = c.before.before.before.args in
-    short-answers a.text.now a.out.now c.if1.true
+    short_answers a.text.now a.out.now c.if1.true
 
 print-read-requires : tie.Need-print-read-requires
 print-read-requires c κs =
@@ -19,7 +19,7 @@ returns-2 c =
     let p = c.before.before.print-read in
     let r = c.before.before.before.before.before.before in
     let a = r.before.before.before.before.args in
-    long-answers a.text.now a.out.now p.new.1.0 _ p.result r.before.if1.false r.read.ensures p.ensures
+    long_answers a.text.now a.out.now p.new.1.0 _ p.result r.before.if1.false r.read.ensures p.ensures
 
 pub print-spec : {M : Type 1} → statement M
 print-spec =

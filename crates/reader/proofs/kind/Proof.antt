@@ -1,11 +1,11 @@
 use borrow.Author.Tests.{ne_eqb}
-use Rattle.walked.specs.Rows.{kind-of}
+use Rattle.walked.specs.Rows.{kind_of}
 use Rattle.reader.proofs.kind.Statement.{statement}
 use Rattle.reader.proofs.kind.Tie as tie
 
 -- No other keyword.
 other : tie.Need-returns-9
-unfolding kind-of
+unfolding kind_of
 other c =
     let x = c.before.args.c in
     let r = c.match.rest in
@@ -21,7 +21,7 @@ other c =
     )
 
 pub kind-spec : {M : Type 1} → statement M
-unfolding kind-of
+unfolding kind_of
 kind-spec =
     tie.close
     (tie.spec (λ c. rw c.match.keys1) (λ c. rw c.match.keys2) (λ c. rw c.match.keys3) (λ c. rw c.match.keys4)

@@ -3,12 +3,12 @@ use mathlib.Core.Path.{refl, sym}
 use borrow.Author.Rules.{rules}
 use borrow.Author.Tests.{lt-ltb}
 use Rattle.record.specs.Bits.{bit_at}
-use Rattle.record.proofs.Bits.{bit-out}
+use Rattle.record.proofs.Bits.{bit_out}
 use Rattle.record.proofs.bit.Statement.{statement}
 use Rattle.record.proofs.bit.Tie as tie
 
 returns : tie.Need-returns
-returns c = sym (bit-out _ _ c.if1.true)
+returns c = sym (bit_out _ _ c.if1.true)
 
 returns-2 : tie.Need-returns-2
 unfolding bit_at

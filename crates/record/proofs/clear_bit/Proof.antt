@@ -2,15 +2,15 @@
 use mathlib.Core.Path.{sym}
 use borrow.Author.Rules.{rules}
 use Rattle.record.specs.Bits.{without}
-use Rattle.record.proofs.Bits.{change-by, change-out}
+use Rattle.record.proofs.Bits.{change_by, change_out}
 use Rattle.record.proofs.clear_bit.Statement.{statement}
 use Rattle.record.proofs.clear_bit.Tie as tie
 
 returns : tie.Need-returns
-returns c = sym (change-out without _ _ c.if1.true)
+returns c = sym (change_out without _ _ c.if1.true)
 
 returns-2 : tie.Need-returns-2
-returns-2 c = change-by without _ _ _ c.before.if1.false c.mask.ensures
+returns-2 c = change_by without _ _ _ c.before.if1.false c.mask.ensures
 
 pub clear-bit-spec : {M : Type 1} → statement M
 clear-bit-spec = tie.close (tie.spec returns (λ c κs. search rules) (λ c. search rules) (λ c. search rules) (λ c. search rules) (λ c. search rules) returns-2)

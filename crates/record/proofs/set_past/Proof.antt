@@ -3,19 +3,19 @@ use mathlib.Core.Path.{◌≡◌}
 use Prim.Native.Nat.{◌≤◌, ◌-◌, ◌*◌}
 use native.Mathlib.Omega.{arith}
 use borrow.Author.Rules.{rules}
-use Rattle.record.specs.Bits.{clear-between}
-use Rattle.record.proofs.PastEvents.{past-start, past_more, past_end}
+use Rattle.record.specs.Bits.{clear_between}
+use Rattle.record.proofs.PastEvents.{past_start, past_more, past_end}
 use Rattle.record.proofs.set_past.Statement.{statement}
 use Rattle.record.proofs.set_past.Tie as tie
 
 abbrev invariant-loop : tie.invariant-loop
-invariant-loop bits first none₀ i₀ none i = (i ≤ 8) × (none ≡ clear-between bits first (64 * i))
+invariant-loop bits first none₀ i₀ none i = (i ≤ 8) × (none ≡ clear_between bits first (64 * i))
 
 abbrev decreases-loop : tie.decreases-loop
 decreases-loop bits first none₀ i₀ none i = 8 - i
 
 loop-holds : tie.Need-loop-init invariant-loop decreases-loop
-loop-holds c = (omega arith, past-start c.args.bits.now c.args.first)
+loop-holds c = (omega arith, past_start c.args.bits.now c.args.first)
 
 loop-again : tie.Need-loop-preserved invariant-loop decreases-loop
 loop-again c =

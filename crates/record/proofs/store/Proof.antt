@@ -3,9 +3,9 @@ use mathlib.Core.Path.{◌≡◌, sym, ap, ◌∙◌}
 use Prim.Native.Nat.{◌≤◌, ◌-◌}
 use lib.ListN.{take, length}
 use Rattle.base.specs.Fill.{fill}
-use Rattle.base.proofs.Filled.{fill-length, fill_none}
+use Rattle.base.proofs.Filled.{fill_length, fill_none}
 use Rattle.record.specs.Bytes.{bytes_of}
-use Rattle.record.proofs.Bytes.{store-more, store-end}
+use Rattle.record.proofs.Bytes.{store_more, store_end}
 use borrow.Author.Rules.{rules}
 use native.Mathlib.Omega.{arith}
 use Rattle.record.proofs.store.Statement.{statement}
@@ -25,18 +25,18 @@ loop-again c =
     let a = c.before.before.before.before.before.before.before.args in
     let l = c.before.before.before.before.before.loop in (
       search rules,
-      store-more a.t2 a.out.now l.out c.before.before.put_byte.new.0 l.i (omega (arith, c.before.before.before.before.loop-test.true)) l.invariant.1
+      store_more a.t2 a.out.now l.out c.before.before.put_byte.new.0 l.i (omega (arith, c.before.before.before.before.loop-test.true)) l.invariant.1
           c.before.before.put_byte.ensures,
     )
 
 same_length : tie.Need-same-length invariant-loop decreases-loop
-same_length c = ap length c.before.loop.invariant.1 ∙ fill-length _ _
+same_length c = ap length c.before.loop.invariant.1 ∙ fill_length _ _
 
 returns : tie.Need-returns invariant-loop decreases-loop
 returns c =
     let a = c.before.before.before.args in
     let l = c.before.loop in
-    store-end a.t2 a.out.now l.out l.i c.loop-test.false l.invariant.1
+    store_end a.t2 a.out.now l.out l.i c.loop-test.false l.invariant.1
 
 pub store_spec : {M : Type 1} → statement M
 store_spec =

@@ -6,7 +6,7 @@ use Rattle.rows.proofs.record_of.Statement.{statement}
 use Rattle.rows.proofs.record_of.Tie as tie
 
 returns : tie.Need-returns
-returns c = rw (eq-eqb _ _ c.before.if1.true) c.event-record.ensures
+returns c = rw (eq-eqb _ _ c.before.if1.true) c.event_record.ensures
 
 returns-2 : tie.Need-returns-2
 returns-2 c = rw (ne_eqb _ _ c.before.before.if1.false, eq-eqb _ _ c.before.if2.true) c.event-record2.ensures

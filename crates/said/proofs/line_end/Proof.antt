@@ -1,11 +1,11 @@
 -- `said::line_end` meets its contract. Assumes nothing.
-use Rattle.said.proofs.Lines.{ends, ends-past}
+use Rattle.said.proofs.Lines.{ends, ends_past}
 use borrow.Author.Rules.{rules}
 use Rattle.said.proofs.line_end.Statement.{statement}
 use Rattle.said.proofs.line_end.Tie as tie
 
 returns : tie.Need-returns
-returns c = ends-past _ _ c.if1.true
+returns c = ends_past _ _ c.if1.true
 
 returns-2 : tie.Need-returns-2
 returns-2 c = ends _ _ c.find.result c.find.ensures.0 c.find.ensures.1

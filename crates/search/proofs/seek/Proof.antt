@@ -3,8 +3,8 @@
 use mathlib.Core.Path.{◌≡◌, ◌∙◌}
 use Prim.Native.Nat.{◌-◌, ◌≤◌}
 use Rattle.labels.specs.Seeks.{next, seek, begin}
-use Rattle.search.specs.code.Columns.{lent, nodes-from}
-use Rattle.search.proofs.Searched.{seek_found, seek-on, seek-end}
+use Rattle.search.specs.code.Columns.{lent, nodes_from}
+use Rattle.search.proofs.Searched.{seek_found, seek_on, seek_end}
 use borrow.Author.Rules.{rules}
 use native.Mathlib.Omega.{arith}
 use Rattle.search.proofs.seek.Statement.{statement}
@@ -12,8 +12,8 @@ use Rattle.search.proofs.seek.Tie as tie
 
 abbrev invariant-loop : tie.invariant-loop
 invariant-loop kinds sizes depths names weights count event none s₀ r₀ i₀ s r i =
-    (i ≤ count) × (r ≡ next (nodes-from (lent kinds sizes depths names count) weights i (count - i)))
-    × (seek (nodes-from (lent kinds sizes depths names count) weights i (count - i)) s ≡ seek (nodes-from (lent kinds sizes depths names count) weights 0 count) (begin event))
+    (i ≤ count) × (r ≡ next (nodes_from (lent kinds sizes depths names count) weights i (count - i)))
+    × (seek (nodes_from (lent kinds sizes depths names count) weights i (count - i)) s ≡ seek (nodes_from (lent kinds sizes depths names count) weights 0 count) (begin event))
 
 abbrev decreases-loop : tie.decreases-loop
 decreases-loop kinds sizes depths names weights count event none s₀ r₀ i₀ s r i = count - i
@@ -22,7 +22,7 @@ loop-holds : tie.Need-loop-init invariant-loop decreases-loop
 loop-holds c =
     let a = c.before.before.before.before.before.before.before.args in
     let z : a.count - 0 ≡ a.count = omega arith in
-    (omega arith, c.node.ensures, rw (z, c.before.no-values.ensures))
+    (omega arith, c.node.ensures, rw (z, c.before.no_values.ensures))
 
 returns : tie.Need-returns invariant-loop decreases-loop
 returns c =
@@ -38,13 +38,13 @@ loop-again c =
     let next = c.before.t2.given in (
       omega arith,
       t.before.node2.ensures,
-      seek-on _ _ l.i _ l.s t.before.before.loop-test.true l.invariant.1 t.before.node2.ensures t.turn.ensures next.0.0 next.1 ∙ l.invariant.2,
+      seek_on _ _ l.i _ l.s t.before.before.loop-test.true l.invariant.1 t.before.node2.ensures t.turn.ensures next.0.0 next.1 ∙ l.invariant.2,
     )
 
 returns-2 : tie.Need-returns-2 invariant-loop decreases-loop
 returns-2 c =
     let l = c.before.loop in
-    rw c.before.before.before.no-values.ensures (seek-end _ _ l.i _ l.s c.loop-test.false ∙ l.invariant.2)
+    rw c.before.before.before.no_values.ensures (seek_end _ _ l.i _ l.s c.loop-test.false ∙ l.invariant.2)
 
 pub seek-spec : {M : Type 1} → statement M
 seek-spec =

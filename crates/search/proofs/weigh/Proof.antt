@@ -4,7 +4,7 @@ use mathlib.Core.Path.{◌≡◌, refl, ◌∙◌}
 use Prim.Native.Nat.{ℕ, ◌≤◌}
 use lib.ListN.{length, replicate, length-replicate}
 use Rattle.search.specs.code.Columns.{weighed}
-use Rattle.search.proofs.Searched.{weighed-more, weighed-done}
+use Rattle.search.proofs.Searched.{weighed_more, weighed_done}
 use borrow.Author.Rules.{rules}
 use native.Mathlib.Omega.{arith}
 use Rattle.search.proofs.weigh.Statement.{statement}
@@ -31,12 +31,12 @@ loop-again c =
       omega arith,
       c.before.put-number.auto.0 ∙ l.invariant.1,
       rw c.before.put-number.ensures
-          (weighed-more g l.i l.weights t.loop-test.true k.byte.ensures w.before.byte2.ensures (n.parts.ensures.0 g refl)
+          (weighed_more g l.i l.weights t.loop-test.true k.byte.ensures w.before.byte2.ensures (n.parts.ensures.0 g refl)
           (reset.resets.ensures g l.weights refl) w.weight.ensures ∙ l.invariant.2),
     )
 
 returns : tie.Need-returns invariant-loop decreases-loop
-returns c = let l = c.before.loop in weighed-done c.before.before.args.t1 l.i l.weights c.loop-test.false ∙ l.invariant.2
+returns c = let l = c.before.loop in weighed_done c.before.before.args.t1 l.i l.weights c.loop-test.false ∙ l.invariant.2
 
 pub weigh-spec : {M : Type 1} → statement M
 weigh-spec =

@@ -18,11 +18,11 @@ node_at c ws i = record {
 }
 
 -- The n nodes from node i on.
-unfoldable pub nodes-from : Nodes → List ℕ → ℕ → ℕ → List SearchNode
-nodes-from c ws i zero = []
-nodes-from c ws i (suc n) = node_at c ws i ∷ nodes-from c ws (suc i) n
+unfoldable pub nodes_from : Nodes → List ℕ → ℕ → ℕ → List SearchNode
+nodes_from c ws i zero = []
+nodes_from c ws i (suc n) = node_at c ws i ∷ nodes_from c ws (suc i) n
 
 -- The column of the events, of which those of the first i nodes are still to be worked out.
 unfoldable pub weighed : Nodes → ℕ → List ℕ → List ℕ
 weighed c zero ws = ws
-weighed c (suc i) ws = weighed c i (set ws i (weight (node_at c ws i) (nodes-from c ws (suc i) (c.count - suc i))))
+weighed c (suc i) ws = weighed c i (set ws i (weight (node_at c ws i) (nodes_from c ws (suc i) (c.count - suc i))))

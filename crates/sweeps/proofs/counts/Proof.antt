@@ -4,33 +4,33 @@ use mathlib.Core.List.{List}
 use Prim.Native.Nat.{ℕ, ◌-◌, ◌≤◌}
 use native.Mathlib.Omega.{arith}
 use borrow.Author.Rules.{rules}
-use Rattle.rules.specs.Kept.{strongs-kept}
+use Rattle.rules.specs.Kept.{strongs_kept}
 use Rattle.names.specs.code.Told.{Told}
-use Rattle.names.proofs.Searched.{Searched, search-start, search-end}
+use Rattle.names.proofs.Searched.{Searched, search_start, search_end}
 use Rattle.sweeps.proofs.Capped.{small_product}
-use Rattle.sweeps.proofs.Switches.{strong-broken, strong-next}
-use Rattle.sweeps.proofs.Counting.{Small, Counting, count-start, count_next, small-next, small-start, copies-all, events-all}
-use Rattle.sweeps.proofs.Ruled.{refused-key}
+use Rattle.sweeps.proofs.Switches.{strong_broken, strong_next}
+use Rattle.sweeps.proofs.Counting.{Small, Counting, count_start, count_next, small_next, small_start, copies_all, events_all}
+use Rattle.sweeps.proofs.Ruled.{refused_key}
 use Rattle.sweeps.proofs.counts.Statement.{statement}
 use Rattle.sweeps.proofs.counts.Tie as tie
 
 abbrev invariant-loop : tie.invariant-loop
 invariant-loop rows count around₀ copies₀ events₀ i₀ around copies events i =
     (i ≤ count) × (copies ≤ 769) × (events ≤ 769) × Small around
-    × ((text : List ℕ) (t : Told text rows count) → Searched strongs-kept t.hs i × Counting t.hs around copies events i)
+    × ((text : List ℕ) (t : Told text rows count) → Searched strongs_kept t.hs i × Counting t.hs around copies events i)
 
 abbrev decreases-loop : tie.decreases-loop
 decreases-loop rows count around₀ copies₀ events₀ i₀ around copies events i = count - i
 
 loop-holds : tie.Need-loop-init invariant-loop decreases-loop
-loop-holds c = (omega arith, omega arith, omega arith, small-start, λ text t. (search-start strongs-kept t.hs, count-start t.hs))
+loop-holds c = (omega arith, omega arith, omega arith, small_start, λ text t. (search_start strongs_kept t.hs, count_start t.hs))
 
 returns : tie.Need-returns invariant-loop decreases-loop
 returns c = λ text t.
     let w = c.before.before in
     let l = w.before.before.loop in
     let h = w.before.loop-test.true in
-    refused-key t l.i (strong-broken t (l.invariant.4 text t).0 h w.weak.ensures c.before.if1.true) h _ 10 c.told.ensures.0
+    refused_key t l.i (strong_broken t (l.invariant.4 text t).0 h w.weak.ensures c.before.if1.true) h _ 10 c.told.ensures.0
 
 mul-n : tie.Need-overflow-mul-n invariant-loop decreases-loop
 mul-n c = omega arith
@@ -67,9 +67,9 @@ loop-again c =
       omega arith,
       c.before.before.before.before.cap.ensures.1,
       c.before.before.cap2.ensures.1,
-      small-next l.invariant.3 _ _ (omega (arith, d.depth.ensures.0)) c.cap3.ensures.1,
+      small_next l.invariant.3 _ _ (omega (arith, d.depth.ensures.0)) c.cap3.ensures.1,
       λ text t. (
-        strong-next t (l.invariant.4 text t).0 h w.weak.ensures d.before.if1.false,
+        strong_next t (l.invariant.4 text t).0 h w.weak.ensures d.before.if1.false,
         count_next t (l.invariant.4 text t).1 h d.depth.ensures.1 refl (c.before.before.before.happening.ensures.1 text t)
             c.before.factor.ensures.0
             l.invariant.3.long c.before.before.before.before.cap.ensures.0 c.before.before.cap2.ensures.0 c.cap3.ensures.0,
@@ -81,7 +81,7 @@ returns-2 c = λ text t.
     let l = c.before.before.loop.invariant in
     let h = c.before.loop-test.false in
     let s = l.4 text t in
-    rw (search-end s.0 (rw t.many h), ← copies-all t s.1 l.1 h, ← events-all t s.1 l.2 h) c.limits.ensures
+    rw (search_end s.0 (rw t.many h), ← copies_all t s.1 l.1 h, ← events_all t s.1 l.2 h) c.limits.ensures
 
 pub counts-spec : {M : Type 1} → statement M
 counts-spec =

@@ -8,7 +8,7 @@ use lib.ListN.{take}
 use borrow.Author.Rules.{rules}
 use Rattle.layout.specs.Fields.{events, rows}
 use Rattle.table.specs.Steps.{offered}
-use Rattle.table.proofs.Answered.{guard-within, gathered}
+use Rattle.table.proofs.Answered.{guard_within, gathered}
 use Rattle.table.proofs.gather.Statement.{statement}
 use Rattle.table.proofs.gather.Tie as tie
 
@@ -29,7 +29,7 @@ below c h = rw c.before.half.ensures.0 at h
 element-copy-out-if1 : tie.Need-element-copy-out-if1 invariant-loop decreases-loop
 element-copy-out-if1 c =
     let l = c.before.before in
-    guard-within _ l.before.before.before.requires _ _ (below l c.before.loop-test.true) c.word.ensures.0
+    guard_within _ l.before.before.before.requires _ _ (below l c.before.loop-test.true) c.word.ensures.0
 
 loop-again : tie.Need-loop-preserved invariant-loop decreases-loop
 loop-again c =

@@ -1,7 +1,7 @@
 use mathlib.Core.Path.{refl}
 use native.Mathlib.Omega.{arith}
 use Rattle.translator.specs.Translates.{short}
-use Rattle.translator.proofs.Cases.{is_read, translated, refused-answer}
+use Rattle.translator.proofs.Cases.{is_read, translated, refused_answer}
 use borrow.Author.Rules.{rules}
 use Rattle.translator.proofs.translate.Statement.{statement}
 use Rattle.translator.proofs.translate.Tie as tie
@@ -14,7 +14,7 @@ returns-2 c =
     let a = c.before.before.before.before.before.before.before.args in
     let r = c.before.before.before.read in
     let k = c.before.enum-told2.given in
-    refused-answer a.text.now r.result r.ensures a.out.now a.out.now _ k.0.0 k.0.1.0 (omega (arith, c.before.before.before.before.if1.false)) k.1
+    refused_answer a.text.now r.result r.ensures a.out.now a.out.now _ k.0.0 k.0.1.0 (omega (arith, c.before.before.before.before.if1.false)) k.1
     c.passed_on.ensures refl
 
 write-requires : tie.Need-write-requires

@@ -1,4 +1,4 @@
-use Rattle.translator.proofs.Cases.{table-written, numbers_fit, numbers-there}
+use Rattle.translator.proofs.Cases.{table_written, numbers_fit, numbers_there}
 use borrow.Author.Rules.{rules}
 use Rattle.translator.proofs.write.Statement.{statement}
 use Rattle.translator.proofs.write.Tie as tie
@@ -13,14 +13,14 @@ slice-aggregate-write-table : tie.Need-slice-aggregate-write-table
 slice-aggregate-write-table c =
     let b = c.before.before.before.before.before in
     let e = c.before.before.expand in
-    numbers-there b.args.d b.requires.0 e.result e.new.1.0 e.ensures.0 e.ensures.1
+    numbers_there b.args.d b.requires.0 e.result e.new.1.0 e.ensures.0 e.ensures.1
 
 returns : tie.Need-returns
 returns c =
     let b = c.before.before.before.before.before.before.before.before.before in
     let e = c.before.before.before.before.before.before.expand in
     let l = c.before.before.write-table in
-    table-written b.args.d b.args.out.now b.requires.1 e.result l.result e.new.1.0 l.new.1.1.0 e.ensures.0 e.ensures.1 l.ensures
+    table_written b.args.d b.args.out.now b.requires.1 e.result l.result e.new.1.0 l.new.1.1.0 e.ensures.0 e.ensures.1 l.ensures
 
 pub write_spec : {M : Type 1} → statement M
 write_spec =

@@ -1,7 +1,7 @@
 -- The measure is how many variables come after the first.
 use Prim.Native.Nat.{ℕ, ◌<◌}
-use Rattle.output.proofs.Buffers.{before, same-put}
-use Rattle.variables.proofs.Over.{over-one, over-more}
+use Rattle.output.proofs.Buffers.{before, same_put}
+use Rattle.variables.proofs.Over.{over_one, over_more}
 use native.Mathlib.Omega.{arith}
 use borrow.Author.Rules.{rules}
 use borrow.Fn.Kinds.{In}
@@ -31,7 +31,7 @@ module _ (t : ℕ) where
   returns : range-lts.Need-returns (claims t) (range_at t) range.Post
   returns c =
       let c4 = c.before.before.before.before in
-      λ h. same-put _ _ _ c.before.before.is.ensures (over-one _ _ _ _ c4.if1.true)
+      λ h. same_put _ _ _ c.before.before.is.ensures (over_one _ _ _ _ c4.if1.true)
 
   returns-2 : range-lts.Need-returns-2 (claims t) (range_at t) range.Post
   returns-2 c =
@@ -43,7 +43,7 @@ module _ (t : ℕ) where
       let c7 = c.before.before.before.before.before.before.before in
       let c11 = c7.before.before.before.before in
       let c14 = c11.before.before.before in
-      λ h. same-put _ _ _ (before _ _ _ c11.lead.ensures (before _ _ _ (c7.range.ensures (omega (arith, h, c14.if1.false))) c.before.before.bytes.ensures)) (over-more _ _ _ _ c14.if1.false)
+      λ h. same_put _ _ _ (before _ _ _ c11.lead.ensures (before _ _ _ (c7.range.ensures (omega (arith, h, c14.if1.false))) c.before.before.bytes.ensures)) (over_more _ _ _ _ c14.if1.false)
 
 pub +range-spec : {M : Type 1} → statement M
 +range-spec = close μ-range λ t. range-lts.spec (claims t)

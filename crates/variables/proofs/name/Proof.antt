@@ -1,5 +1,5 @@
 -- The mark, and then the word at the place of the name.
-use Rattle.output.proofs.Buffers.{before, same-put}
+use Rattle.output.proofs.Buffers.{before, same_put}
 use Rattle.variables.specs.code.Spelled.{spelled}
 use mathlib.Core.Path.{◌∙◌}
 use borrow.Author.Rules.{rules}
@@ -13,7 +13,7 @@ returns c =
     let m = c11 in
     let w = c.before.before in
     before _ _ _ (rw m.before.before.byte.ensures at m.mark.ensures)
-    (same-put _ _ _ w.bytes.ensures (w.before.word.ensures.its-word ∙ rw w.before.before.number.ensures))
+    (same_put _ _ _ w.bytes.ensures (w.before.word.ensures.its_word ∙ rw w.before.before.number.ensures))
 
 pub name-spec : {M : Type 1} → statement M
 name-spec =

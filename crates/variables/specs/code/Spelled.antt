@@ -4,7 +4,7 @@ use Rattle.base.specs.Text.{bytes}
 use Rattle.tokens.specs.Words.{word_at}
 use Rattle.formulas.specs.Formulas.{Formula, is}
 use Rattle.formulas.specs.Lines.{Naming, formula}
-use Rattle.formulas.specs.Conditions.{some-true, all-false}
+use Rattle.formulas.specs.Conditions.{some_true, all_false}
 use Rattle.variables.specs.declared.Variables.{Variables}
 
 abbrev pub mark : ℕ → List ℕ
@@ -23,4 +23,4 @@ lead v n value = bytes "(" ++ (formula v (is n value) ++ connective value)
 
 -- Some variable is TRUE, or each is FALSE.
 abbrev pub over : Bool → ℕ → ℕ → Formula
-over value from after = cond value (some-true from after) (all-false from after)
+over value from after = cond value (some_true from after) (all_false from after)

@@ -11,7 +11,7 @@ use lib.ListN.{length}
 use Rattle.tokens.specs.Token.{opening, closing}
 use Rattle.grammar.specs.Machine.{member, child, node, more, others, ref}
 use Rattle.walked.specs.Walk.{state}
-use Rattle.walked.proofs.Laws.{Leads, starts, stands, halts, goes, ends, node-refused, node-read, another-child, another-member, flow-ends, group-ends, flow-follows, leaf-follows, group-follows, replicator-follows, loop-follows}
+use Rattle.walked.proofs.Laws.{Leads, starts, stands, halts, goes, ends, node_refused, node_read, another_child, another_member, flow_ends, group_ends, flow_follows, leaf_follows, group_follows, replicator_follows, loop_follows}
 use Rattle.walk.proofs.read_body.Reads as read-body
 use Rattle.walk.proofs.read_body.Kinds as read-body-kinds
 use Rattle.walk.proofs.+read_body_read_child_read_constructor_read_flow_read_group_read_member.Lts-read_body as read-body-lts
@@ -135,7 +135,7 @@ module _ (t : ℕ) where
   read-child-returns : read-child-lts.Need-returns (read-child-claims t) (read-child-at t) read-child.Post
   read-child-returns c =
       let b = c.before.before in
-      node-refused b.begin-node.ensures child refl b.before.before.next.ensures c.enum_told.given.1
+      node_refused b.begin-node.ensures child refl b.before.before.next.ensures c.enum_told.given.1
 
   read-child-sub-d : read-child-lts.Need-overflow-sub-d (read-child-claims t) (read-child-at t) read-child.Post
   read-child-sub-d c = let g = c.before in let o = g.before.before.begin-node.ensures.taken _ _ g.s.given.1 in omega arith
@@ -144,7 +144,7 @@ module _ (t : ℕ) where
   read-child-returns-2 c =
       let g = c.before.before.before.before in
       let b = g.before.before in
-      node-read b.begin-node.ensures child refl b.before.before.next.ensures g.s.given.1 (leaf-follows _ _ c.before.before.if1.true)
+      node_read b.begin-node.ensures child refl b.before.before.next.ensures g.s.given.1 (leaf_follows _ _ c.before.before.if1.true)
       c.read-leaf.ensures
 
   read-child-read-constructor-requires : read-child-lts.Need-read-constructor-requires (read-child-claims t) (read-child-at t) read-child.Post
@@ -157,7 +157,7 @@ module _ (t : ℕ) where
   read-child-returns-3 c =
       let g = c.before.before.before.before.before in
       let b = g.before.before in
-      node-read b.begin-node.ensures child refl b.before.before.next.ensures g.s.given.1 refl
+      node_read b.begin-node.ensures child refl b.before.before.next.ensures g.s.given.1 refl
       (c.read-constructor.ensures (omega arith))
 
   read-child-read-flow-requires : read-child-lts.Need-read-flow-requires (read-child-claims t) (read-child-at t) read-child.Post
@@ -171,28 +171,28 @@ module _ (t : ℕ) where
       let g = c.before.before.before.before.before in
       let b = g.before.before in
       let o = b.begin-node.ensures.taken _ _ g.s.given.1 in
-      node-read b.begin-node.ensures child refl b.before.before.next.ensures g.s.given.1
-      (flow-follows _ _ (omega (arith, c.before.before.before.if1.false))) c.read-flow.ensures
+      node_read b.begin-node.ensures child refl b.before.before.next.ensures g.s.given.1
+      (flow_follows _ _ (omega (arith, c.before.before.before.if1.false))) c.read-flow.ensures
 
 abbrev read-constructor-claims : ℕ → read-constructor-lts.Claims
 read-constructor-claims t = (read-group-below t, read-group.Post, read-copies-reads.Asked, read-copies-reads.Learnt, read-body-below t, read-body.Post)
 
 module _ (t : ℕ) where
   read-constructor-returns : read-constructor-lts.Need-returns (read-constructor-claims t) (read-constructor-at t) read-constructor.Post
-  read-constructor-returns c e s = ends (c.read-group.ensures s) (stands (group-follows _ _ e (omega arith)))
+  read-constructor-returns c e s = ends (c.read-group.ensures s) (stands (group_follows _ _ e (omega arith)))
 
   read-constructor-returns-2 : read-constructor-lts.Need-returns-2 (read-constructor-claims t) (read-constructor-at t) read-constructor.Post
   read-constructor-returns-2 c e s =
-      halts (c.before.before.read-copies.ensures s) c.enum_told.given.1 _ (stands (replicator-follows _ _ (omega arith) (omega arith)))
+      halts (c.before.before.read-copies.ensures s) c.enum_told.given.1 _ (stands (replicator_follows _ _ (omega arith) (omega arith)))
 
   read-constructor-returns-3 : read-constructor-lts.Need-returns-3 (read-constructor-claims t) (read-constructor-at t) read-constructor.Post
   read-constructor-returns-3 c e s =
       let g = c.before.before.before in
       ends (c.read-body.ensures s)
-      (goes (g.before.before.read-copies.ensures s) g.s.given.1 _ (stands (replicator-follows _ _ (omega arith) (omega arith))))
+      (goes (g.before.before.read-copies.ensures s) g.s.given.1 _ (stands (replicator_follows _ _ (omega arith) (omega arith))))
 
   read-constructor-returns-4 : read-constructor-lts.Need-returns-4 (read-constructor-claims t) (read-constructor-at t) read-constructor.Post
-  read-constructor-returns-4 c e s = ends (c.read-body2.ensures s) (stands (loop-follows _ _ (omega arith)))
+  read-constructor-returns-4 c e s = ends (c.read-body2.ensures s) (stands (loop_follows _ _ (omega arith)))
 
 abbrev read-flow-claims : ℕ → read-flow-lts.Claims
 read-flow-claims t = (
@@ -242,7 +242,7 @@ module _ (t : ℕ) where
       let l = k.before.before.before.before in
       let h = l.before.before in
       ends
-      (flow-ends (c.before.closing.ensures.shut c.if1.true)
+      (flow_ends (c.before.closing.ensures.shut c.if1.true)
       (goes (r.before.before.read-ref.ensures s) r.s3.given.1 _
       (goes (k.before.before.read-child.ensures s) k.s2.given.1 _ (l.loop.invariant s))) refl)
       (goes (h.before.before.read-flow-head.ensures s) h.s.given.1 _ starts)
@@ -261,7 +261,7 @@ module _ (t : ℕ) where
       let r = c.before.before.before in
       let k = r.before.before.before.before.before in
       let l = k.before.before.before.before in
-      another-child z.1.0
+      another_child z.1.0
       (goes (r.before.before.read-ref.ensures s) r.s3.given.1 _
       (goes (k.before.before.read-child.ensures s) k.s2.given.1 _ (l.loop.invariant s))) z.1.1
 
@@ -303,7 +303,7 @@ module _ (t : ℕ) where
       let f = l.before.before in
       let h = f.before.before.before.before.before in
       ends
-      (group-ends (c.before.closing.ensures.shut c.if1.true)
+      (group_ends (c.before.closing.ensures.shut c.if1.true)
       (goes (k.before.before.read-member2.ensures s) k.s3.given.1 _ (l.loop.invariant s)) refl)
       (goes (f.before.before.read-member.ensures s) f.s2.given.1 _
       (goes (h.before.before.sign.ensures opening refl _) h.s.given.1 _ starts))
@@ -318,7 +318,7 @@ module _ (t : ℕ) where
   read-group-loop-again c s =
       let z = c.before.closing.ensures.another (omega arith) in
       let k = c.before.before.before in
-      another-member z.1.0
+      another_member z.1.0
       (goes (k.before.before.read-member2.ensures s) k.s3.given.1 _ (k.before.before.before.before.loop.invariant s)) z.1.1
 
 abbrev read-member-claims : ℕ → read-member-lts.Claims
@@ -337,7 +337,7 @@ module _ (t : ℕ) where
   read-member-returns : read-member-lts.Need-returns (read-member-claims t) (read-member-at t) read-member.Post
   read-member-returns c =
       let b = c.before.before in
-      node-refused b.begin-node.ensures member refl b.before.before.next.ensures c.enum_told.given.1
+      node_refused b.begin-node.ensures member refl b.before.before.next.ensures c.enum_told.given.1
 
   read-member-sub-d : read-member-lts.Need-overflow-sub-d (read-member-claims t) (read-member-at t) read-member.Post
   read-member-sub-d c = let g = c.before in let o = g.before.before.begin-node.ensures.taken _ _ g.s.given.1 in omega arith
@@ -346,7 +346,7 @@ module _ (t : ℕ) where
   read-member-returns-2 c =
       let g = c.before.before.before.before in
       let b = g.before.before in
-      node-read b.begin-node.ensures member refl b.before.before.next.ensures g.s.given.1 (leaf-follows _ _ c.before.before.if1.true)
+      node_read b.begin-node.ensures member refl b.before.before.next.ensures g.s.given.1 (leaf_follows _ _ c.before.before.if1.true)
       c.read-leaf.ensures
 
   read-member-read-flow-requires : read-member-lts.Need-read-flow-requires (read-member-claims t) (read-member-at t) read-member.Post
@@ -360,8 +360,8 @@ module _ (t : ℕ) where
       let g = c.before.before.before.before in
       let b = g.before.before in
       let o = b.begin-node.ensures.taken _ _ g.s.given.1 in
-      node-read b.begin-node.ensures member refl b.before.before.next.ensures g.s.given.1
-      (flow-follows _ _ (omega (arith, c.before.before.if1.false))) c.read-flow.ensures
+      node_read b.begin-node.ensures member refl b.before.before.next.ensures g.s.given.1
+      (flow_follows _ _ (omega (arith, c.before.before.if1.false))) c.read-flow.ensures
 
 pub +read-body-read-child-read-constructor-read-flow-read-group-read-member-spec : {M : Type 1} → statement M
 +read-body-read-child-read-constructor-read-flow-read-group-read-member-spec =

@@ -3,7 +3,7 @@ use Rattle.std.specs.Prelude.{◌≡◌, List, [], ◌∷◌, ◌++◌, ℕ, ◌
 use Rattle.tokens.specs.Rest.{Next}
 use Rattle.tokens.specs.declared.Lexeme.{Lexeme}
 use Rattle.grammar.specs.Machine.{Place, Want, node, ref}
-use Rattle.grammar.specs.code.Coded.{top, coded-parts}
+use Rattle.grammar.specs.code.Coded.{top, coded_parts}
 use Rattle.walked.specs.Walk.{State, state, waiting, End, whole, stop, from}
 use Rattle.walked.specs.declared.Step.{Step}
 use Rattle.walked.specs.declared.Step.TheVariants.{Go, Stop}
@@ -49,7 +49,7 @@ Marks text i n at rows r rows' = (s : List ℕ) → Writes text ref n at (state 
 pub record Begins (t : Lexeme) (last d n : ℕ) (rows : List ℕ) (r : Step) (rows' : List ℕ) : Type 0 where
   pub taken : (j m : ℕ) → r ≡ Go j m → (7 ≤ t.code) × (t.code ≤ last) × (0 < d)
   pub turns : {text : List ℕ} {at : ℕ} (place : Place) → top place ≡ last → Next text at t → (s : List ℕ)
-      → Turns text (node place d ∷ []) n at (state rows s) r (coded-parts t.code (d - 1)) (state rows' (waiting place n s))
+      → Turns text (node place d ∷ []) n at (state rows s) r (coded_parts t.code (d - 1)) (state rows' (waiting place n s))
 
 -- What the answer for a whole text and the rows after it say of the end.
 abbrev pub told : Walk → List ℕ → End

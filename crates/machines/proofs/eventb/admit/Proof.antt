@@ -1,6 +1,6 @@
 -- By what reading answers, and the profile.
 use mathlib.Core.Path.{refl, sym, ◌∙◌}
-use Rattle.machines.proofs.Answers.{unread-admission, outside-admission, inside-admission}
+use Rattle.machines.proofs.Answers.{unread_admission, outside_admission, inside_admission}
 use borrow.Author.Rules.{rules}
 use Rattle.machines.proofs.eventb.admit.Statement.{statement}
 use Rattle.machines.proofs.eventb.admit.Tie as tie
@@ -10,19 +10,19 @@ returns c =
     let c4 = c.before.before.before.before in
     let r = c4.read in
     let k = c.before.enum-told2.given in
-    unread-admission _ r.result r.ensures _ k.0.0 k.0.1.0 k.1 c.passed_on.ensures
+    unread_admission _ r.result r.ensures _ k.0.0 k.0.1.0 k.1 c.passed_on.ensures
 
 returns-2 : tie.Need-returns-2
 returns-2 c =
     let c5 = c.before.before.before.before.before in
     let r = c5.read in
-    outside-admission _ r.result r.ensures _ c.before.before.enum_told.given.1 (sym c.if1.true ∙ c.before.outside.ensures) refl
+    outside_admission _ r.result r.ensures _ c.before.before.enum_told.given.1 (sym c.if1.true ∙ c.before.outside.ensures) refl
 
 returns-3 : tie.Need-returns-3
 returns-3 c =
     let c5 = c.before.before.before.before.before in
     let r = c5.read in
-    inside-admission _ r.result r.ensures _ c.before.before.enum_told.given.1 (sym c.if1.false ∙ c.before.outside.ensures) refl refl
+    inside_admission _ r.result r.ensures _ c.before.before.enum_told.given.1 (sym c.if1.false ∙ c.before.outside.ensures) refl refl
 
 pub admit-spec : {M : Type 1} → statement M
 admit-spec =

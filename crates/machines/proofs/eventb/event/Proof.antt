@@ -2,7 +2,7 @@
 use mathlib.Core.Path.{refl}
 use native.Mathlib.Omega.{arith}
 use Rattle.modelling.specs.Answers.{short}
-use Rattle.machines.proofs.Answers.{drawn-by, turned-away, past-answer, event-answer}
+use Rattle.machines.proofs.Answers.{drawn_by, turned_away, past_answer, event_answer}
 use borrow.Author.Rules.{rules}
 use Rattle.machines.proofs.eventb.event.Statement.{statement}
 use Rattle.machines.proofs.eventb.event.Tie as tie
@@ -17,7 +17,7 @@ returns-2 c =
     let s = c6.args in
     let a = c.before.before.admit in
     let k = c.enum-told2.given in
-    turned-away s.text.now s.out.now s.out.now (omega (arith, c3.if1.false)) _ a.result k.0.0 k.0.1.0 a.ensures k.1 refl
+    turned_away s.text.now s.out.now s.out.now (omega (arith, c3.if1.false)) _ a.result k.0.0 k.0.1.0 a.ensures k.1 refl
 
 returns-3 : tie.Need-returns-3
 returns-3 c =
@@ -26,8 +26,8 @@ returns-3 c =
     let c8 = c5.before.before.before in
     let s = c8.args in
     let a = c4.admit in
-    let k = drawn-by s.text.now a.result _ a.ensures c.before.before.enum_told.given.1 in
-    past-answer s.text.now s.out.now s.out.now (omega (arith, c5.if1.false)) _ k s.event (omega (arith, c.if2.true)) refl
+    let k = drawn_by s.text.now a.result _ a.ensures c.before.before.enum_told.given.1 in
+    past_answer s.text.now s.out.now s.out.now (omega (arith, c5.if1.false)) _ k s.event (omega (arith, c.if2.true)) refl
 
 write-requires : tie.Need-write-requires
 write-requires c κs =
@@ -36,7 +36,7 @@ write-requires c κs =
     let c9 = c5.before.before.before.before in
     let s = c9.args in
     let a = c5.admit in
-    (drawn-by s.text.now a.result _ a.ensures c3.enum_told.given.1, omega (arith, c.before.if2.false))
+    (drawn_by s.text.now a.result _ a.ensures c3.enum_told.given.1, omega (arith, c.before.if2.false))
 
 returns-4 : tie.Need-returns-4
 returns-4 c =
@@ -48,8 +48,8 @@ returns-4 c =
     let s = c12.args in
     let a = c8.admit in
     let w = c.before.before.write in
-    let k = drawn-by s.text.now a.result _ a.ensures c6.enum_told.given.1 in
-    event-answer s.text.now s.out.now _ (omega (arith, c9.if1.false)) _ k s.event w.result (omega (arith, c4.if2.false)) w.ensures
+    let k = drawn_by s.text.now a.result _ a.ensures c6.enum_told.given.1 in
+    event_answer s.text.now s.out.now _ (omega (arith, c9.if1.false)) _ k s.event w.result (omega (arith, c4.if2.false)) w.ensures
 
 pub event-spec : {M : Type 1} → statement M
 event-spec =

@@ -2,7 +2,7 @@
 use mathlib.Core.Path.{refl}
 use native.Mathlib.Omega.{arith}
 use Rattle.modelling.specs.Answers.{short}
-use Rattle.machines.proofs.Answers.{drawn-by, turned-away, opening-answer}
+use Rattle.machines.proofs.Answers.{drawn_by, turned_away, opening_answer}
 use borrow.Author.Rules.{rules}
 use Rattle.machines.proofs.eventb.opening.Statement.{statement}
 use Rattle.machines.proofs.eventb.opening.Tie as tie
@@ -17,7 +17,7 @@ returns-2 c =
     let s = c6.args in
     let a = c.before.before.admit in
     let k = c.enum-told2.given in
-    turned-away s.text.now s.out.now s.out.now (omega (arith, c3.if1.false)) _ a.result k.0.0 k.0.1.0 a.ensures k.1 refl
+    turned_away s.text.now s.out.now s.out.now (omega (arith, c3.if1.false)) _ a.result k.0.0 k.0.1.0 a.ensures k.1 refl
 
 open-requires : tie.Need-open-requires
 open-requires c κs =
@@ -25,7 +25,7 @@ open-requires c κs =
     let c8 = c4.before.before.before.before in
     let s = c8.args in
     let a = c4.admit in
-    drawn-by s.text.now a.result _ a.ensures c.before.before.enum_told.given.1
+    drawn_by s.text.now a.result _ a.ensures c.before.before.enum_told.given.1
 
 returns-3 : tie.Need-returns-3
 returns-3 c =
@@ -36,8 +36,8 @@ returns-3 c =
     let s = c11.args in
     let a = c7.admit in
     let w = c.before.before.«open» in
-    let k = drawn-by s.text.now a.result _ a.ensures c5.enum_told.given.1 in
-    opening-answer s.text.now s.out.now _ (omega (arith, c8.if1.false)) _ k w.result w.ensures
+    let k = drawn_by s.text.now a.result _ a.ensures c5.enum_told.given.1 in
+    opening_answer s.text.now s.out.now _ (omega (arith, c8.if1.false)) _ k w.result w.ensures
 
 pub opening-spec : {M : Type 1} → statement M
 opening-spec =

@@ -1,8 +1,8 @@
 -- The numbers of the process stand in their column; then one part of the text after the other.
 use native.Mathlib.Omega.{arith}
-use Rattle.translator.proofs.Cases.{numbers_fit, numbers-there}
-use Rattle.machines.proofs.Drawn.{as_read, its-shown}
-use Rattle.machines.proofs.Written.{event-written}
+use Rattle.translator.proofs.Cases.{numbers_fit, numbers_there}
+use Rattle.machines.proofs.Drawn.{as_read, its_shown}
+use Rattle.machines.proofs.Written.{event_written}
 use borrow.Author.Rules.{rules}
 use Rattle.machines.proofs.eventb.write.Statement.{statement}
 use Rattle.machines.proofs.eventb.write.Tie as tie
@@ -21,7 +21,7 @@ slice-aggregate-write c =
     let c11 = c7.before.before.before.before in
     let s = c11 in
     let e = c7.expand in
-    numbers-there s.args.d (as_read s.args.text.now s.args.d s.requires.0) e.result e.new.1.0 e.ensures.0 e.ensures.1
+    numbers_there s.args.d (as_read s.args.text.now s.args.d s.requires.0) e.result e.new.1.0 e.ensures.0 e.ensures.1
 
 returns : tie.Need-returns
 returns c k =
@@ -36,8 +36,8 @@ returns c k =
     let e = c25.expand in
     let v = c23.names in
     let g = c16.write in
-    event-written s.args.text.now s.args.d k v.result v.ensures e.result e.new.1.0 e.ensures.0 e.ensures.1 s.args.e
-    (omega (arith, s.requires.1, (its-shown s.args.text.now s.args.d k).events)) s.args.out.now _ _ _ _ _ _ _ _ _ g.result
+    event_written s.args.text.now s.args.d k v.result v.ensures e.result e.new.1.0 e.ensures.0 e.ensures.1 s.args.e
+    (omega (arith, s.requires.1, (its_shown s.args.text.now s.args.d k).events)) s.args.out.now _ _ _ _ _ _ _ _ _ g.result
     c21.head.ensures g.ensures c11.bytes.ensures
     c7.write2.ensures c.before.before.bytes2.ensures
 
