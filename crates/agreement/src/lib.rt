@@ -1,1 +1,2 @@
+#![tactic(auto)]
 // No code: what it is for a table to agree with a process.

@@ -1,10 +1,11 @@
+#![tactic(auto)]
 ghost use Rattle.std.specs.Prelude.{◌≡◌, get_or};
 ghost use Rattle.columns.specs.Columns.{kind_index, size_number, kind_number, columns as columns_of};
 
 use diagram::{Diagram, Kind};
 
 // The nodes of a diagram as columns of numbers, with zeros after them. Only the first `count` numbers of each count.
-#[derive(Drop)]
+#[derive(Clone, Copy)]
 pub struct Nodes {
     pub kinds: [u8; 256],
     pub sizes: [u8; 256],

@@ -1,3 +1,4 @@
+#![tactic(auto)]
 ghost use Rattle.std.specs.Prelude.{◌≡◌, cond, [], ◌+◌, ◌-◌, ◌≤◌, ◌<◌, length};
 ghost use Rattle.output.specs.Buffer.{buffer, put_all};
 ghost use Rattle.process.specs.Process.{Joint, Process, join};
@@ -10,7 +11,7 @@ use variables::Variables;
 
 // How the condition on a joint is put: where its second part begins, how many events the first part has and how many come after the first event of both, whether both
 // parts have a condition and whether either is enough; and what stands around them: nothing, 0; "or none begun", 1; only that a part has begun, 2; that and the parts, 3.
-#[derive(Drop)]
+#[derive(Clone, Copy)]
 pub struct Shape {
     pub second: usize,
     pub first: usize,

@@ -1,8 +1,9 @@
+#![tactic(auto)]
 ghost use Rattle.std.specs.Prelude.{◌≡◌};
 ghost use Rattle.diagram.specs.Stored.{blank_diagram};
 
 // What a node is. A replicator has its size.
-#[derive(Drop)]
+#[derive(Clone, Copy)]
 pub enum Kind {
     Flow,
     Leaf,
@@ -17,7 +18,7 @@ pub enum Kind {
 
 // A node as it stands in the text: `solid` says whether it is a solid child; `strong` whether a flow's sw is 1, and is false for a node that is no
 // flow; `at` is the place of its keyword; `name` is the place of a leaf's or flow's name or of a replicator's par, and 0 for any other node.
-#[derive(Drop)]
+#[derive(Clone, Copy)]
 pub struct Node {
     pub kind: Kind,
     pub solid: bool,
@@ -28,7 +29,7 @@ pub struct Node {
 }
 
 // The nodes of a text in its order, and how many node copies and events they have. Only the first `count` nodes count.
-#[derive(Drop)]
+#[derive(Clone, Copy)]
 pub struct Diagram {
     pub nodes: [Node; 256],
     pub count: usize,

@@ -1,3 +1,4 @@
+#![tactic(auto)]
 // Reads the text of a drawing on standard input and prints its machine, as Rodin's text editors read it: what stands before the first event, each event, and `end`. Of a
 // text that is turned away it prints one line: `refused`, the number and the place.
 use libc::{STDIN_FILENO, STDOUT_FILENO};

@@ -1,3 +1,4 @@
+#![tactic(auto)]
 ghost use Rattle.std.specs.Prelude.{◌≡◌};
 ghost use Rattle.output.specs.Buffer.{buffer, put_all};
 ghost use Rattle.events.specs.Names.{Named};
@@ -10,7 +11,7 @@ use labels::Values;
 use reading::Answer;
 
 // What an event is, with the values of the replicators around it, outermost first; or the refusal with its number and place.
-#[derive(Drop)]
+#[derive(Clone, Copy)]
 pub enum Label {
     Leaf(Values),
     Reset(Values),

@@ -1,10 +1,11 @@
+#![tactic(auto)]
 ghost use Rattle.std.specs.Prelude.{◌≡◌, ◌<◌};
 ghost use Rattle.expansion.specs.Walks.{Columns, columns, add as added, further as further_of, more as more_of, looped as looped_of, part as part_of, expanded};
 
 use diagram::Diagram;
 
 // Where a walk over the nodes stands: the next node, and how many numbers are written.
-#[derive(Drop)]
+#[derive(Clone, Copy)]
 pub struct Walk {
     pub node: usize,
     pub count: usize,

@@ -1,3 +1,4 @@
+#![tactic(auto)]
 ghost use Rattle.std.specs.Prelude.{◌≡◌, eqb, length};
 ghost use Rattle.firmware.specs.Calls.{number, left_bytes, check_number, step_number, step_bytes, finished_number, offer_number, offer_bytes};
 

@@ -1,3 +1,4 @@
+#![tactic(auto)]
 ghost use Rattle.std.specs.Prelude.{◌≡◌, true, false, [], ◌∷◌, ◌+◌, ◌≤◌, ◌<◌, length, take};
 ghost use Rattle.output.specs.Buffer.{buffer, put_all};
 ghost use Rattle.process.specs.Process.{Process, owns};
@@ -10,14 +11,14 @@ ghost use Rattle.guarding.specs.code.Asked.{label as label_of, own_guard, second
 use variables::Variables;
 
 // How many bytes are written, and the number of the next guard.
-#[derive(Drop)]
+#[derive(Clone, Copy)]
 pub struct Lines {
     pub at: usize,
     pub next: usize,
 }
 
 // How many bytes are written, and the first event that is cleared: the event itself where none is.
-#[derive(Drop)]
+#[derive(Clone, Copy)]
 pub struct Guards {
     pub at: usize,
     pub clears: usize,

@@ -1,3 +1,4 @@
+#![tactic(auto)]
 ghost use Rattle.std.specs.Prelude.{◌≡◌, ◌+◌, ◌-◌, ◌*◌, ◌≤◌, ◌<◌, length};
 ghost use Rattle.plan.specs.Pieces.{leaf_piece, rounds_piece, pair_piece, some_piece};
 ghost use Rattle.rows.specs.code.Words.{listed, event_count as event_count_of, record_of};
@@ -10,7 +11,7 @@ use plan::{Needs, PartRows};
 use rows::Words;
 
 // What a part adds to its own parts: rows, the rows that speak of it, and what the second pass needs.
-#[derive(Drop)]
+#[derive(Clone, Copy)]
 pub struct Added {
     pub words: Words,
     pub part: PartRows,
@@ -18,7 +19,7 @@ pub struct Added {
 }
 
 // Where the first pass ends: the next row, the next event, the row that the whole is complete, and what the second pass needs of each number.
-#[derive(Drop)]
+#[derive(Clone, Copy)]
 pub struct FirstResult {
     pub rows: u16,
     pub event: u16,

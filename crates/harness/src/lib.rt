@@ -1,3 +1,4 @@
+#![tactic(auto)]
 // What the Rust tests and the benchmarks call: numbers and lent bytes only.
 
 ghost use Rattle.std.specs.Prelude.{◌≡◌, ◌<◌, length, get_or};
@@ -90,7 +91,7 @@ pub extern "C" fn adl_test_values(text: &[u8], event: u64) -> u64
 }
 
 // A node of a text, or the refusal with its number and place.
-#[derive(Drop)]
+#[derive(Clone, Copy)]
 enum Found {
     At(Node),
     Refused(u8, usize),

@@ -1,5 +1,6 @@
+#![tactic(auto)]
 // The values of the replicators around an event, outermost first. There are at most three.
-#[derive(Drop)]
+#[derive(Clone, Copy)]
 pub struct Values {
     pub count: usize,
     pub first: usize,
@@ -8,7 +9,7 @@ pub struct Values {
 }
 
 // What an event number stands for: a leaf copy or a reset, the place in the text of the leaf's name, or of the flow's that is reset, and the values.
-#[derive(Drop)]
+#[derive(Clone, Copy)]
 pub struct Spot {
     pub reset: bool,
     pub place: usize,
@@ -17,7 +18,7 @@ pub struct Spot {
 
 // A node as the search reads it: its number among the kinds and its size, as in the columns of a diagram, its depth, the place of its name, and how many events one
 // copy of it has.
-#[derive(Drop)]
+#[derive(Clone, Copy)]
 pub struct SearchNode {
     pub kind: u8,
     pub size: u8,
@@ -27,7 +28,7 @@ pub struct SearchNode {
 }
 
 // A search for an event below a node: the depth of that node, how many of its events come before the one looked for, and the values so far.
-#[derive(Drop)]
+#[derive(Clone, Copy)]
 pub struct Search {
     pub above: usize,
     pub rest: usize,
@@ -35,7 +36,7 @@ pub struct Search {
 }
 
 // Where the search has got to: on below a node, or the event is found.
-#[derive(Drop)]
+#[derive(Clone, Copy)]
 pub enum Step {
     Go(Search),
     Found(Spot),

@@ -1,3 +1,4 @@
+#![tactic(auto)]
 ghost use Rattle.std.specs.Prelude.{◌≡◌, ◌+◌, ◌<◌, length};
 ghost use Rattle.output.specs.Buffer.{buffer, put_all};
 ghost use Rattle.lines.specs.code.Written.{line_head, spaced_value, spaced_values, line_at};
@@ -8,7 +9,7 @@ use labels::Values;
 
 // Where the walk over the nodes stands: the number of the next event, the next node, and how many bytes are written. In this order each is read by itself where
 // it is handed on; two that stand side by side are read as one, which has to wait until both are written.
-#[derive(Drop)]
+#[derive(Clone, Copy)]
 struct Walk {
     event: usize,
     node: usize,

@@ -1,3 +1,4 @@
+#![tactic(auto)]
 // Reads the text of a drawing on standard input and prints its listing.
 use libc::{STDIN_FILENO, STDOUT_FILENO};
 

@@ -21,7 +21,7 @@ fn passed_on(answer: Answer) -> Written
 }
 
 // The diagram of a text that has a machine, with no byte written yet; or the refusal.
-#[derive(Drop)]
+#[derive(Clone, Copy)]
 struct Admitted {
     answer: Written,
     diagram: Diagram,

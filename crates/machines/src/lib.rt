@@ -1,2 +1,3 @@
+#![tactic(auto)]
 // Machines of drawings, as text.
 pub mod eventb;

@@ -1,3 +1,4 @@
+#![tactic(auto)]
 // Answers packed into one number, for callers that know numbers only: a refusal is its number times 2^32 and its place, a result is below 2^32. The parts of a number
 // are cut to their width, so that nothing has to be known of them here.
 

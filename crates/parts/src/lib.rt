@@ -1,3 +1,4 @@
+#![tactic(auto)]
 // Parts of a process in postfix order: the numbers of a process are those of its parts and then its own.
 
 ghost use Rattle.std.specs.Prelude.{◌≡◌, [], ◌∷◌, ◌-◌, ◌^◌, ◌≤◌, ◌<◌, length};

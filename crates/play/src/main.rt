@@ -1,3 +1,4 @@
+#![tactic(auto)]
 // Plays a run of a drawing: reads its text on standard input up to an empty line, and then events, one to a line, each said by its number or by what the listing
 // calls it. Prints the answer to each, the control bits that are set and what may come next, and at the end whether the run is finished.
 ghost use Rattle.std.specs.Prelude.{◌≤◌, length};
@@ -13,14 +14,14 @@ const MOST: u64 = 1152921504606846976;
 const SHOWN: usize = 262144;
 
 // How many bytes there are with those of a line, and whether the input ended with it.
-#[derive(Drop)]
+#[derive(Clone, Copy)]
 struct Line {
     count: usize,
     last: bool,
 }
 
 // Whether there may be more events, and the record after this one.
-#[derive(Drop)]
+#[derive(Clone, Copy)]
 struct Step {
     more: bool,
     after: Record,

@@ -1,3 +1,4 @@
+#![tactic(auto)]
 ghost use Rattle.std.specs.Prelude.{◌≡◌};
 ghost use Rattle.output.specs.Buffer.{buffer, put_all};
 ghost use Rattle.player.specs.Shown.{item as item_of, events_line as events_line_of, next_bits as next_bits_of, state_text, answer_line as answer_line_of, stepped_text, said_step, opening_text, closing_text};
@@ -6,7 +7,7 @@ use record::Record;
 use table::{Answer, Finish};
 
 // How many bytes are shown, and the record after the event.
-#[derive(Drop)]
+#[derive(Clone, Copy)]
 pub struct Played {
     pub count: usize,
     pub after: Record,

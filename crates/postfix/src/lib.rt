@@ -1,3 +1,4 @@
+#![tactic(auto)]
 // The numbers of a process in postfix order: a leaf copy, a loop over a leaf, a loop over the flow before it, and the joints of the two parts before them.
 pub const LEAF: u8 = 0;
 

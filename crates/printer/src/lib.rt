@@ -1,3 +1,4 @@
+#![tactic(auto)]
 ghost use Rattle.std.specs.Prelude.{◌≡◌, ◌+◌, ◌-◌, ◌≤◌, length, take, drop};
 ghost use Rattle.base.specs.Fill.{fill};
 ghost use Rattle.lexer.specs.Lexicon.{Lexicon};
@@ -10,7 +11,7 @@ ghost use Rattle.printer.specs.code.PassedOn.{passed_on};
 use reading::Answer;
 
 // How many bytes were written, or the refusal with its number and place.
-#[derive(Drop)]
+#[derive(Clone, Copy)]
 pub enum Printed {
     Bytes(usize),
     Refused(u8, usize),

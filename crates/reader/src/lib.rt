@@ -1,3 +1,4 @@
+#![tactic(auto)]
 ghost use Rattle.std.specs.Prelude.{◌≡◌, List, ℕ, ◌≤◌, ◌<◌, length, get_or};
 ghost use Rattle.lexer.specs.Lexicon.{Lexicon};
 ghost use Rattle.diagram.specs.TreeNodes.{TextNode};

@@ -1,3 +1,4 @@
+#![tactic(auto)]
 ghost use Rattle.std.specs.Prelude.{◌≡◌, ◌+◌, ◌-◌, ◌<◌, ◌%◌, ◌^◌};
 ghost use Rattle.base.specs.Fill.{fill};
 ghost use Rattle.record.specs.Bits.{bit_at, set_bit, clear_bit, clear_bits, set_past};
@@ -6,7 +7,7 @@ ghost use Rattle.record.specs.Blank.{blank_record};
 
 // The run record: a control bit for each event, bit 0 the top bit of the first word. Laid out as in C, so that a caller outside can lend one.
 #[repr(C)]
-#[derive(Drop)]
+#[derive(Clone, Copy)]
 pub struct Record {
     pub bits: [u64; 8],
 }

@@ -1,3 +1,4 @@
+#![tactic(auto)]
 ghost use Rattle.std.specs.Prelude.{◌≡◌, [], ◌∷◌, ◌++◌, ◌-◌, ◌≤◌, length};
 ghost use Rattle.layout.specs.Fields.{bit_row, not_row, both_row, either_row, event_record};
 ghost use Rattle.plan.specs.Pieces.{constants as constants_of, settling, settled_row};
@@ -7,7 +8,7 @@ ghost use Rattle.rows.specs.code.Words.{second_words as second_words_of, gate_ro
 use plan::{Needs, PartRows};
 
 // Up to six rows, one after the other.
-#[derive(Drop)]
+#[derive(Clone, Copy)]
 pub struct Words {
     pub words: [usize; 6],
     pub count: u16,

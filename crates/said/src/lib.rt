@@ -1,3 +1,4 @@
+#![tactic(auto)]
 // Which event of a drawing is said, by its listing.
 ghost use Rattle.std.specs.Prelude.{◌≡◌};
 ghost use Rattle.said.specs.Lines.{LineEnds};

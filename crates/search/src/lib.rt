@@ -1,3 +1,4 @@
+#![tactic(auto)]
 ghost use Rattle.std.specs.Prelude.{◌≡◌, List, ℕ, ◌+◌, ◌-◌, ◌<◌, get_or, replicate};
 ghost use Rattle.columns.specs.declared.Nodes.{Nodes};
 ghost use Rattle.labels.specs.Values.{values as values_of, push as pushed};

@@ -1,1 +1,2 @@
+#![tactic(auto)]
 // No code: the drawings worked through, by their texts.

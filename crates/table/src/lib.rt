@@ -1,3 +1,4 @@
+#![tactic(auto)]
 ghost use Rattle.std.specs.Prelude.{◌≡◌, true, take};
 ghost use Rattle.layout.specs.Fields.{events, rows};
 ghost use Rattle.layout.specs.Sound.{sound};
@@ -8,21 +9,21 @@ ghost use Rattle.table.specs.Steps.{check_of, admit_of, step_of, finished_of, of
 use record::Record;
 
 // Sound, done or offered; or the refusal with its number and place.
-#[derive(Drop)]
+#[derive(Clone, Copy)]
 pub enum Answer {
     Done,
     Refused(u8, usize),
 }
 
 // A step's answer, and the record after it: where the answer is a refusal, the record before it.
-#[derive(Drop)]
+#[derive(Clone, Copy)]
 pub struct Stepped {
     pub answer: Answer,
     pub after: Record,
 }
 
 // Whether a run is finished; or the refusal with its number and place.
-#[derive(Drop)]
+#[derive(Clone, Copy)]
 pub enum Finish {
     No,
     Yes,

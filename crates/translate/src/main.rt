@@ -1,3 +1,4 @@
+#![tactic(auto)]
 // Reads the text of a drawing on standard input and writes its table. A text that is turned away writes nothing there, and on standard error `refused`, the number and
 // the place.
 use libc::{STDERR_FILENO, STDIN_FILENO, STDOUT_FILENO};

@@ -1,3 +1,4 @@
+#![tactic(auto)]
 ghost use Rattle.std.specs.Prelude.{◌≡◌, ◌≤◌, length};
 ghost use Rattle.translator.specs.Translates.{Translation, passed_on, Read, Writes};
 
@@ -5,7 +6,7 @@ use diagram::Diagram;
 use reading::Answer;
 
 // How many bytes were written, or the refusal with its number and place.
-#[derive(Drop)]
+#[derive(Clone, Copy)]
 pub enum Translated {
     Bytes(usize),
     Refused(u8, usize),

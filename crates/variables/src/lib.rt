@@ -1,3 +1,4 @@
+#![tactic(auto)]
 ghost use Rattle.std.specs.Prelude.{◌≡◌, cond, ◌+◌, ◌<◌};
 ghost use Rattle.output.specs.Buffer.{buffer, put_all};
 ghost use Rattle.formulas.specs.Formulas.{is as is_of};
@@ -5,7 +6,7 @@ ghost use Rattle.formulas.specs.Lines.{truth as truth_of, formula};
 ghost use Rattle.variables.specs.code.Spelled.{mark as mark_of, spelled, connective as connective_of, lead as lead_of, over};
 
 // Where the name of each of the first 32 events stands in the text, and whether it is a reset, 1, or a leaf, 0.
-#[derive(Drop)]
+#[derive(Clone, Copy)]
 pub struct Variables {
     pub places: [usize; 32],
     pub resets: [u8; 32],

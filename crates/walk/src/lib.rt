@@ -1,3 +1,4 @@
+#![tactic(auto)]
 ghost use Rattle.std.specs.Prelude.{◌≡◌, ◌<◌};
 ghost use Rattle.grammar.specs.Machine.{root, member, child, flow_parts, group_parts, loop_parts};
 ghost use Rattle.grammar.specs.code.Coded.{coded_parts};

@@ -1,0 +1,10 @@
+-- `eventb::refuse` is safe: it writes bytes of its buffer. Assumes nothing.
+use Rattle.std.proofs.Common.{rules}
+use Rattle.output.proofs.Buffers.{written}
+use Rattle.eventb.proofs.refuse.Goals as goal
+
+pub slice_bounds-line-end : goal.slice_bounds-line-end
+slice_bounds-line-end c = (written _ _ _ _ c.refused-n.ensures).0
+
+pub slice_bounds-write_all-end : goal.slice_bounds-write_all-end
+slice_bounds-write_all-end c = (written _ _ _ _ c.refused-n.ensures).1

@@ -1,7 +1,0 @@
--- `firmware::number_of` meets its contract, answer by answer.
-use borrow.Author.Rules.{rules}
-use Rattle.firmware.proofs.number_of.Statement.{statement}
-use Rattle.firmware.proofs.number_of.Tie as tie
-
-pub number-of-spec : {M : Type 1} → statement M
-number-of-spec = tie.close (tie.spec (λ c. search rules) (λ c. search rules) (λ c. search rules) (λ c. search rules))

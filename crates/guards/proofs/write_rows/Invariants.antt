@@ -1,0 +1,14 @@
+-- `write_rows` meets its contract: after i turns the first i rows are written.
+use mathlib.Core.Path.{◌≡◌, refl, sym, ◌∙◌}
+use Prim.Native.Nat.{◌-◌, ◌≤◌}
+use native.Mathlib.Omega.{arith}
+use lib.ListN.{length, take, length-map}
+use Rattle.guards.specs.code.Rows.{put_rows}
+use Rattle.guards.proofs.RowsWritten.{none_put, row_put, rows_all}
+use Rattle.guards.proofs.write_rows.Given as goal
+
+abbrev pub invariant-loop-i : goal.invariant-loop-i
+invariant-loop-i l = (l.i ≤ l.count) × (l.out ≡ put_rows l.base l.k (take l.i l.words) l.initial.out) × (length l.out ≡ length l.initial.out)
+
+abbrev pub decreases-loop-i : goal.decreases-loop-i
+decreases-loop-i l = l.count - l.i

@@ -1,0 +1,10 @@
+-- `adl_test_print` meets its contract: what printing answers is packed.
+use Rattle.std.proofs.Common.{rules}
+use mathlib.Core.Path.{ap, ◌∙◌}
+use Rattle.printer.specs.declared.Printed.{Printed}
+use Rattle.printer.specs.Reports.{report as print_report}
+use Rattle.packing.specs.Packed.{packed}
+use Rattle.harness.proofs.adl_test_print.Goals as goal
+
+pub returns : goal.returns
+returns c = let print = c.print-p in (c.print_number.ensures ∙ ap (λ (p : Printed). packed 32 (print_report p)) print.ensures.0, print.ensures.1)

@@ -1,0 +1,11 @@
+-- `harness::step_number` meets its contract, answer by answer.
+use Rattle.std.proofs.Common.{rules}
+use Rattle.table.specs.Reports.{report as step_report}
+use Rattle.packing.proofs.Packs.{by_case, none, refused}
+use Rattle.harness.proofs.step_number.Goals as goal
+
+pub returns-in-Done : goal.returns-in-Done
+returns-in-Done c = by_case 32 step_report c.enum_told-1.given.1 none
+
+pub returns-in-Refused : goal.returns-in-Refused
+returns-in-Refused c = by_case 32 step_report c.answer-1.given.1 (refused 32 _ _ c.refusal.ensures)

@@ -1,0 +1,8 @@
+-- `harness::unread` meets its contract, answer by answer.
+use Rattle.std.proofs.Common.{rules}
+use mathlib.Core.Path.{ap, sym}
+use Rattle.harness.specs.Nodes.{unread}
+use Rattle.harness.proofs.unread.Goals as goal
+
+pub returns-in-Refused : goal.returns-in-Refused
+returns-in-Refused c = ap unread (sym c.answer-1.given.1)

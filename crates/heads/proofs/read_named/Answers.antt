@@ -1,0 +1,13 @@
+-- `heads::read_named` meets its contract: a sign and a name.
+use Rattle.std.proofs.Common.{rules}
+use mathlib.Core.Path.{refl}
+use Rattle.tokens.specs.Token.{opening}
+use Rattle.walked.proofs.Laws.{starts, halts, goes, ends}
+use Rattle.heads.proofs.read_named.Goals as goal
+
+pub returns-in_default : goal.returns-in_default
+returns-in_default c s = halts (c.sign-s.ensures opening refl _) c.enum_told-1.given.1 _ starts
+
+pub returns : goal.returns
+returns c s =
+    ends (c.read_name.ensures s) (goes (c.sign-s.ensures opening refl _) c.s-1.given.1 _ starts)

@@ -1,0 +1,8 @@
+-- The tests are those of the definition, on the numbers that were read.
+use Rattle.std.proofs.Common.{rules}
+use Rattle.layout.specs.Sound.{sized}
+use Rattle.layout.proofs.sized.Goals as goal
+
+pub returns : goal.returns
+unfolding sized
+returns c = rw (c.half-n.ensures.0, c.half-m.ensures.0)

@@ -1,0 +1,7 @@
+-- `lexer::class` meets its contract by the rule of the table.
+use Rattle.std.proofs.Common.{rules}
+use Rattle.lexer.proofs.Rows.{class_in}
+use Rattle.lexer.proofs.class.Goals as goal
+
+pub returns : goal.returns
+returns c = class_in c.requires c.wide.ensures

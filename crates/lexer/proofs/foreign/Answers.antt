@@ -1,0 +1,24 @@
+-- `lexer::foreign` meets its contract. The loop's invariant: no token before `place` is a foreign byte.
+use Rattle.std.proofs.Common.{rules}
+use Prim.Native.Nat.{◌-◌}
+use lib.ListN.{length}
+use Rattle.lexer.proofs.Ways.{less_left}
+use Rattle.lexer.proofs.Along.{SoFar, foreign_of, usual_start, foreign_here, usual_again, usual_all}
+use Rattle.lexer.proofs.foreign.Goals as goal
+
+pub loop-place-init : goal.loop-place-init
+loop-place-init c = usual_start _ _ c.gap-place.ensures
+
+pub returns-then-c-eq0 : goal.returns-then-c-eq0
+returns-then-c-eq0 c =
+    foreign_here _ _ _ c.loop-place.invariant c.loop-place-test.true c.class-c.ensures c.if-c-eq0.true
+
+pub loop-place-smaller : goal.loop-place-smaller
+loop-place-smaller c = less_left _ _ _ _ c.loop-place-test.true c.token_end-e.ensures c.gap-place-in-loop-place.ensures
+
+pub loop-place-preserved : goal.loop-place-preserved
+loop-place-preserved c =
+    usual_again _ _ _ c.loop-place.invariant c.loop-place-test.true c.class-c.ensures _ _ c.if-c-eq0.false c.token_end-e.ensures c.gap-place-in-loop-place.ensures
+
+pub returns : goal.returns
+returns c = usual_all _ _ c.loop-place.invariant c.loop-place-test.false

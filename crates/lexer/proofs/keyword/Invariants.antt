@@ -1,0 +1,13 @@
+-- `lexer::keyword` meets its contract. The loop's invariant: the rows from `row` on are left to look at.
+use Prim.Native.Nat.{◌-◌}
+use native.Mathlib.Omega.{arith}
+use lib.ListN.{take, drop}
+use Rattle.tokens.proofs.WordCodes.{part_length}
+use Rattle.lexer.proofs.Rows.{Left, all_left, fits, found, onward, none_left, too_long}
+use Rattle.lexer.proofs.keyword.Given as goal
+
+abbrev pub invariant-loop-row : goal.invariant-loop-row
+invariant-loop-row l = Left l.lexicon (take (l.e - l.a) (drop l.a l.text)) l.row l.c
+
+abbrev pub decreases-loop-row : goal.decreases-loop-row
+decreases-loop-row l = 400 - l.row

@@ -1,0 +1,18 @@
+-- `lexer::word` meets its contract: up to the end of the word, or nothing.
+use Rattle.std.proofs.Common.{rules}
+use mathlib.Core.Path.{refl}
+use native.Mathlib.Omega.{arith}
+use Rattle.tokens.proofs.WordAt.{word_inside, word_none, word_some}
+use Rattle.lexer.proofs.word.Goals as goal
+
+pub returns-then-text-at : goal.returns-then-text-at
+returns-then-text-at c = let a = c.args in word_none a.text _ a.at refl (omega (arith, c.if-text-at.true)) (omega arith) refl
+
+-- LEFT: no goal slice-bounds-result-end
+part-result-end : tie.Need-slice-bounds-result-end
+part-result-end c = let a = c.before.before.before.args in word_inside a.text.now a.at c.before.if1.false c.word-end.ensures
+
+pub returns : goal.returns
+returns c =
+    let a = c.args in
+    word_some a.text _ a.at refl c.word_end-end.result c.if-text-at.false c.word_end-end.ensures (omega arith) refl

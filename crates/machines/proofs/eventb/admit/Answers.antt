@@ -1,0 +1,21 @@
+-- By what reading answers, and the profile.
+use Rattle.std.proofs.Common.{rules}
+use mathlib.Core.Path.{refl, sym, ◌∙◌}
+use Rattle.machines.proofs.Answers.{unread_admission, outside_admission, inside_admission}
+use Rattle.machines.proofs.eventb.admit.Goals as goal
+
+pub returns-in_default : goal.returns-in_default
+returns-in_default c =
+    let r = c.read-o in
+    let k = c.enum_told-in_default-1.given in
+    unread_admission _ r.result r.ensures _ k.0.0 k.0.1.0 k.1 c.passed_on.ensures
+
+pub returns-then-outside : goal.returns-then-outside
+returns-then-outside c =
+    let r = c.read-o in
+    outside_admission _ r.result r.ensures _ c.enum_told-1.given.1 (sym c.if-outside.true ∙ c.outside.ensures) refl
+
+pub returns : goal.returns
+returns c =
+    let r = c.read-o in
+    inside_admission _ r.result r.ensures _ c.enum_told-1.given.1 (sym c.if-outside.false ∙ c.outside.ensures) refl refl

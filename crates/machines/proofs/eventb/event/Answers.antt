@@ -1,0 +1,38 @@
+-- By what the text is, and the event's number.
+use Rattle.std.proofs.Common.{rules}
+use mathlib.Core.Path.{refl}
+use native.Mathlib.Omega.{arith}
+use Rattle.modelling.specs.Answers.{short}
+use Rattle.machines.proofs.Answers.{drawn_by, turned_away, past_answer, event_answer}
+use Rattle.machines.proofs.eventb.event.Goals as goal
+
+pub returns-then-out-lt65536 : goal.returns-then-out-lt65536
+returns-then-out-lt65536 c = short (omega (arith, c.if-out-lt65536.true)) refl refl
+
+pub returns-in_default : goal.returns-in_default
+returns-in_default c =
+    let s = c.args in
+    let a = c.admit-a in
+    let k = c.enum_told-in_default-1.given in
+    turned_away s.text.now s.out.now s.out.now (omega (arith, c.if-out-lt65536.false)) _ a.result k.0.0 k.0.1.0 a.ensures k.1 refl
+
+pub returns-then-d-event : goal.returns-then-d-event
+returns-then-d-event c =
+    let s = c.args in
+    let a = c.admit-a in
+    let k = drawn_by s.text.now a.result _ a.ensures c.enum_told-1.given.1 in
+    past_answer s.text.now s.out.now s.out.now (omega (arith, c.if-out-lt65536.false)) _ k s.event (omega (arith, c.if-d-event.true)) refl
+
+pub write-n-requires : goal.write-n-requires
+write-n-requires c =
+    let s = c.args in
+    let a = c.admit-a in
+    (drawn_by s.text.now a.result _ a.ensures c.enum_told-1.given.1, omega (arith, c.if-d-event.false))
+
+pub returns : goal.returns
+returns c =
+    let s = c.args in
+    let a = c.admit-a in
+    let w = c.write-n in
+    let k = drawn_by s.text.now a.result _ a.ensures c.enum_told-1.given.1 in
+    event_answer s.text.now s.out-1.now _ (omega (arith, c.if-out-lt65536.false)) _ k s.event w.result (omega (arith, c.if-d-event.false)) w.ensures

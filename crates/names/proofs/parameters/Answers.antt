@@ -1,0 +1,70 @@
+-- The nodes passed keep the rule, and the pars around a node are known at each depth at which the next one may be.
+use Rattle.std.proofs.Common.{rules}
+use mathlib.Core.Path.{refl}
+use Prim.Native.Nat.{◌-◌, ◌≤◌}
+use native.Mathlib.Omega.{arith}
+use lib.ListN.{get_or}
+use borrow.Author.Tests.{not-false}
+use Rattle.rules.specs.Kept.{parameters_kept}
+use Rattle.names.specs.code.Told.{Told}
+use Rattle.names.proofs.Searched.{Searched, search_start, search_broken, search_kept, search_end}
+use Rattle.names.proofs.Surrounded.{Roomy, roomy_start, roomy_next, Surrounded, around_start, around_here, around_next}
+use Rattle.names.proofs.parameters.Goals as goal
+
+pub loop-i-init : goal.loop-i-init
+loop-i-init c = (omega arith, roomy_start, λ t. (around_start _ _ t.hs, search_start parameters_kept t.hs))
+
+pub kept-requires : goal.kept-requires
+kept-requires c =
+    (omega (arith, c.requires.0), c.loop-i.invariant.1.each c.depth-d.result, c.loop-i.invariant.1.numbers, c.requires.1)
+
+pub returns-then-not-kept : goal.returns-then-not-kept
+returns-then-not-kept c =
+    let l = c.loop-i in
+    let h = c.loop-i-test.true in (
+      omega arith,
+      λ t. search_broken (l.invariant.2 t).1 (omega (arith, t.many))
+          (c.kept.ensures.by_index _ t h (around_here t h l.invariant.1 (l.invariant.2 t).0 c.depth-d.ensures.1 refl)) c.if-not-kept.true,
+    )
+
+few : (e : goal.Else-not-kept) → get_or e.loop-i.many e.depth-d.result 0 ≤ 3
+few e = e.kept.ensures.n_bound (not-false _ e.if-not-kept.false)
+
+pub offset_bounds-pars-n : goal.offset_bounds-pars-n
+offset_bounds-pars-n c = omega (arith, few c)
+
+pub bounds-pars-n : goal.bounds-pars-n
+bounds-pars-n c = omega (arith, few c)
+
+deep : (e : goal.Else-not-kept) → e.depth-d.result ≤ 12
+deep e = e.depth-d.ensures.0
+
+pub overflow_add-many : goal.overflow_add-many
+overflow_add-many c = omega (arith, few c, c.replicator.ensures.upper_bound)
+
+pub overflow_add-many-in-loop-i : goal.overflow_add-many-in-loop-i
+overflow_add-many-in-loop-i c = omega (arith, deep c)
+
+pub offset_bounds-many-d-in-loop-i : goal.offset_bounds-many-d-in-loop-i
+offset_bounds-many-d-in-loop-i c = omega (arith, deep c)
+
+pub bounds-many-d-in-loop-i : goal.bounds-many-d-in-loop-i
+bounds-many-d-in-loop-i c = omega (arith, deep c)
+
+pub loop-i-preserved : goal.loop-i-preserved
+loop-i-preserved c =
+    let l = c.loop-i in
+    let h = c.loop-i-test.true in
+    let f = few c in (
+      omega arith,
+      roomy_next l.invariant.1 _ _ _ _ (omega arith) (omega (arith, c.requires.0)) (omega (arith, deep c))
+          (omega (arith, f, c.replicator.ensures.upper_bound)),
+      λ t. (
+        around_next t h l.invariant.1 (l.invariant.2 t).0 c.depth-d.ensures.1 refl f c.replicator.ensures.value,
+        search_kept (l.invariant.2 t).1 (omega (arith, t.many))
+            (c.kept.ensures.by_index _ t h (around_here t h l.invariant.1 (l.invariant.2 t).0 c.depth-d.ensures.1 refl)) c.if-not-kept.false,
+      ),
+    )
+
+pub returns : goal.returns
+returns c = (omega arith, λ t. search_end (c.loop-i.invariant.2 t).1 (rw t.many c.loop-i-test.false))

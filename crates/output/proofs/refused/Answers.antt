@@ -1,0 +1,8 @@
+-- `output::refused` meets its contract. Assumes nothing.
+use Rattle.std.proofs.Common.{rules}
+use Rattle.output.specs.Lines.{refused_line}
+use Rattle.output.proofs.refused.Goals as goal
+
+pub returns : goal.returns
+unfolding refused_line
+returns c = c.numbers.ensures

@@ -1,0 +1,14 @@
+-- `packing::label_number` meets its contract, answer by answer.
+use Rattle.std.proofs.Common.{rules}
+use Rattle.events.specs.Reports.{report as label_report}
+use Rattle.packing.proofs.Packs.{by_case, refused}
+use Rattle.packing.proofs.label_number.Goals as goal
+
+pub returns-in-Leaf : goal.returns-in-Leaf
+returns-in-Leaf c = by_case 6 label_report c.l-1.given.1 c.marked.ensures
+
+pub returns-in-Reset : goal.returns-in-Reset
+returns-in-Reset c = by_case 6 label_report c.l-in-Reset-1.given.1 c.marked-in-Reset.ensures
+
+pub returns-in-Refused : goal.returns-in-Refused
+returns-in-Refused c = by_case 6 label_report c.l-in-Refused-1.given.1 (refused 6 _ _ c.refusal.ensures)

@@ -1,0 +1,11 @@
+-- `reader::judge` meets its contract: the verdict refuses, or the diagram is filled.
+use Rattle.std.proofs.Common.{rules}
+use Rattle.reader.proofs.Stages.{judged_refused, judged_kept}
+use mathlib.Core.Path.{◌∙◌}
+use Rattle.reader.proofs.judge.Goals as goal
+
+pub returns-in-Refused : goal.returns-in-Refused
+returns-in-Refused c w = c.no_diagram.ensures ∙ judged_refused w (c.verdict-v.ensures w.nodes w.count w.told w.deep) c.v-1.given.1
+
+pub returns-in-Kept : goal.returns-in-Kept
+returns-in-Kept c w = judged_kept w (c.verdict-v.ensures w.nodes w.count w.told w.deep) c.v-in-Kept-1.given.1 (c.store-diagram.ensures _ w.nodes w.count w.small w.told)

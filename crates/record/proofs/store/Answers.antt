@@ -1,0 +1,32 @@
+-- `record::store` meets its contract: after i turns the first i bytes are written, as far as there is room.
+use Rattle.std.proofs.Common.{rules}
+use mathlib.Core.Path.{◌≡◌, sym, ap, ◌∙◌}
+use Prim.Native.Nat.{◌≤◌, ◌-◌}
+use lib.ListN.{take, length}
+use Rattle.base.specs.Fill.{fill}
+use Rattle.base.proofs.Filled.{fill_length, fill_none}
+use Rattle.record.specs.Bytes.{bytes_of}
+use Rattle.record.proofs.Bytes.{store_more, store_end}
+use native.Mathlib.Omega.{arith}
+use Rattle.record.proofs.store.Goals as goal
+
+pub loop-i-init : goal.loop-i-init
+loop-i-init c = (omega arith, sym (fill_none c.args.out.now))
+
+pub loop-i-preserved : goal.loop-i-preserved
+loop-i-preserved c =
+    let a = c.args in
+    let l = c.loop-i in (
+      search rules,
+      store_more a.t2 a.out-1.now l.out-1 c.put_byte.new.0 l.i (omega (arith, c.loop-i-test.true)) l.invariant.1
+          c.put_byte.ensures,
+    )
+
+pub shape_of-out : goal.shape_of-out
+shape_of-out c = ap length c.loop-i.invariant.1 ∙ fill_length _ _
+
+pub returns : goal.returns
+returns c =
+    let a = c.args in
+    let l = c.loop-i in
+    store_end a.t2 a.out.now l.out l.i c.loop-i-test.false l.invariant.1

@@ -1,0 +1,22 @@
+-- `search::inside` meets its contract, by what the node is. Assumes nothing.
+use Rattle.std.proofs.Common.{rules}
+use mathlib.Core.Path.{sym, ap, ◌∙◌}
+use mathlib.Core.Logic.{⊎_elim}
+use Rattle.labels.specs.declared.Step.TheVariants.{Go}
+use Rattle.labels.proofs.Steps.{inside_leaf, inside_reset, inside_body, inside_parts}
+use Rattle.search.proofs.inside.Goals as goal
+
+pub returns-then-r-eq-LEAF : goal.returns-then-r-eq-LEAF
+returns-then-r-eq-LEAF c = sym (inside_leaf _ _ _ c.if-r-eq-LEAF.true)
+
+pub returns-then-q-s : goal.returns-then-q-s
+returns-then-q-s c = sym (inside_reset _ _ _ c.if-r-eq-LOOP.true c.if-q-s.true)
+
+pub returns : goal.returns
+returns c =
+    let a = c.args in
+    ap Go c.entered.ensures
+    ∙ sym (⊎_elim
+    (λ w. inside_body a.r a.q a.s w.0.taken w.3.left)
+    (λ w. inside_parts a.r a.q a.s c.if-r-eq-LEAF.false w.left)
+    c.if-r-eq-LOOP.branch)

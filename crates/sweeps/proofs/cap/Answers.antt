@@ -1,0 +1,10 @@
+use Rattle.std.proofs.Common.{rules}
+use native.Mathlib.Omega.{arith}
+use borrow.Author.Tests.{lt-ltb, le-ltb}
+use Rattle.sweeps.proofs.cap.Goals as goal
+
+pub returns-then-n-gt768 : goal.returns-then-n-gt768
+returns-then-n-gt768 c = (simp (lt-ltb _ _ c.if-n-gt768.true), omega arith)
+
+pub returns : goal.returns
+returns c = (simp (le-ltb _ _ c.if-n-gt768.false), omega arith)

@@ -1,0 +1,16 @@
+-- `walk::read_root` meets its contract: a keyword that only a flow has, and the flow.
+use Rattle.std.proofs.Common.{rules}
+use native.Mathlib.Omega.{arith}
+use mathlib.Core.Path.{refl}
+use Rattle.grammar.specs.Machine.{root}
+use Rattle.walked.proofs.Laws.{node_refused, node_read, flow_follows}
+use Rattle.walk.proofs.read_root.Goals as goal
+
+pub returns-in_default : goal.returns-in_default
+returns-in_default c =
+    node_refused c.begin_node-s.ensures root refl c.next-t.ensures c.enum_told-1.given.1
+
+pub returns : goal.returns
+returns c =
+    let o = c.begin_node-s.ensures.taken _ _ c.s-1.given.1 in
+    node_read c.begin_node-s.ensures root refl c.next-t.ensures c.s-1.given.1 (flow_follows _ _ (omega arith)) c.read_flow.ensures
