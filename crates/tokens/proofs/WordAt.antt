@@ -62,7 +62,7 @@ module _ (text r : Bor (List ℕ)) (at : ℕ) (b : r.ref_ptr.0 ≡ text.ref_ptr.
         past = λ l. record { its_block = b; its_offset = o; its_bytes = n };
       }
 
-  pub word_some : (e : ℕ) → at ≤ length text.now → e ≡ at + front worded (drop at text.now) → r.ptr.1 ≡ text.ref_ptr.1 + at
+  pub word_some : (e : ℕ) → at ≤ length text.now → e ≡ at + front worded (drop at text.now) → r.ref_ptr.1 ≡ text.ref_ptr.1 + at
       → r.now ≡ take (e - at) (drop at text.now) → Word text at r
   word_some e h E o n =
       let k : e - at ≡ front worded (drop at text.now) = omega arith in
