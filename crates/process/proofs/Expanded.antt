@@ -2,7 +2,7 @@
 use mathlib.Core.Path.{◌≡◌, refl, sym, ap}
 use mathlib.Core.Logic.{◌⊎◌, inl, inr}
 use mathlib.Core.Bool.{Bool, true, false, ◌&&◌, false≢true}
-use mathlib.Core.List.{List, nil≢cons}
+use mathlib.Core.List.{List, [], ◌∷◌, ◌++◌, nil≢cons}
 use Prim.Native.Nat.{ℕ, zero, suc, ◌+◌, ◌-◌, ◌*◌}
 use native.Mathlib.Nat.{suc-mul, zero-mul}
 use native.Mathlib.Omega.{arith}
@@ -79,7 +79,7 @@ mutual
   child_laid (replicator y par n m) h vs e =
       let g = leb-true 1 n (and_l (leb 1 n) (leb n 16) (and_l (leb 1 n && leb n 16) (member_sized m) h)) in
       let z : suc (n - 1) ≡ n = omega arith in
-      laid_to (copies_laid (joint y) _ e (member_events m) (λ v. member_laid m (and_r (leb 1 n && leb n 16) (member_sized m) h) _ _) (n - 1))
+      laid_to (copies_laid (joint y) _ e (member_events m) (λ v. member_laid m (and_r (leb 1 n && leb n 16) (member_sized m) h) (vs ++ (v ∷ [])) (e + v * member_events m)) (n - 1))
       (ap (λ (i : ℕ). e + i * member_events m) z)
 
   pub loop_laid : (m : Member) → member_sized m ≡ true → (vs : List ℕ) (e : ℕ) → Laid (loop_process m vs e) e (e + loop_events m)
@@ -163,7 +163,7 @@ mutual
       let A = member_fit a (and_l (member_flows a solid) (member_flows b solid && members_flows ms solid) h) vs e in
       let B = member_fit b (and_l (member_flows b solid) (members_flows ms solid) k) vs (e + member_events a) in
       as_child (members_fit ms (and_r (member_flows b solid) (members_flows ms solid) k) (joint y) vs _ _ (join_fit (joint y) _ _ A B))
-  child_fit (replicator y par n m) h vs e = as_child (copies_fit (joint y) _ (λ v. member_fit m h _ _) (n - 1))
+  child_fit (replicator y par n m) h vs e = as_child (copies_fit (joint y) _ (λ v. member_fit m h (vs ++ (v ∷ [])) (e + v * member_events m)) (n - 1))
 
   loop_choices : (m : Member) → member_flows m solid ≡ true → (vs : List ℕ) (e : ℕ) → Choices (loop_process m vs e)
   loop_choices (leaf n) h vs e = again_choices e (leaf_copy n vs)

@@ -1,9 +1,10 @@
 -- What a diagram's process says of its events: those that clear bits are its resets, and no others are.
 use mathlib.Core.Path.{◌≡◌, refl}
 use mathlib.Core.Bool.{true, false}
-use mathlib.Core.List.{List}
-use Prim.Native.Nat.{ℕ, zero, suc, ◌-◌}
+use mathlib.Core.List.{List, [], ◌∷◌, ◌++◌}
+use Prim.Native.Nat.{ℕ, zero, suc, ◌+◌, ◌-◌, ◌*◌}
 use Rattle.diagram.specs.Tree.{Name, Flow, flow, Children, none, next, Child, plain, loop, group, replicator, Member, leaf, inner, Members, end, also}
+use Rattle.diagram.specs.Count.{member_events}
 use Rattle.process.specs.Process.{Joint, seq, Process, event, join, again, rounds}
 use Rattle.process.specs.Expand.{leaf_copy, reset_of, joint, copies, flow_process, children_process, child_process, loop_process, member_process, members_process}
 
@@ -44,7 +45,7 @@ mutual
   child_marked (plain m) vs e = member_marked m vs e
   child_marked (loop m) vs e = loop_marked m vs e
   child_marked (group y a b ms) vs e = members_marked ms (joint y) vs _ _ (marked_join (joint y) _ _ (member_marked a vs _) (member_marked b vs _))
-  child_marked (replicator y par n m) vs e = copies_marked (joint y) _ (λ v. member_marked m _ _) (n - 1)
+  child_marked (replicator y par n m) vs e = copies_marked (joint y) _ (λ v. member_marked m (vs ++ (v ∷ [])) (e + v * member_events m)) (n - 1)
 
   loop_marked : (m : Member) (vs : List ℕ) (e : ℕ) → Marked (loop_process m vs e)
   loop_marked (leaf n) vs e = (marked_leaf e n vs).1

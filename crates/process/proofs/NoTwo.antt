@@ -3,7 +3,7 @@ use mathlib.Core.Path.{◌≡◌, refl, sym, ap, ◌∙◌, subst}
 use mathlib.Core.Logic.{◌⊎◌, inl, inr, ⊎_elim}
 use mathlib.Core.Bool.{true, not}
 use mathlib.Core.List.{List, [], ◌∷◌, ◌++◌, append-nil, append_assoc}
-use Prim.Native.Nat.{ℕ, zero, suc, ◌-◌, ◌<◌}
+use Prim.Native.Nat.{ℕ, zero, suc, ◌+◌, ◌-◌, ◌*◌, ◌<◌}
 use lib.ListN.{length, get_or}
 use lib.Seq.{get_or-append_seam}
 use borrow.Author.Tests.{eqb-true}
@@ -12,7 +12,7 @@ use Rattle.diagram.specs.Tree.{Name, Flow, flow, Children, none, next, Child, pl
 use Rattle.diagram.specs.Names.{same, new, differ, flow_names, children_names, child_names, member_names, members_names}
 use Rattle.base.proofs.Decided.{same_decides}
 use Rattle.diagram.specs.Sizes.{flow_sized}
-use Rattle.diagram.specs.Count.{flow_events}
+use Rattle.diagram.specs.Count.{flow_events, member_events}
 use Rattle.process.specs.Process.{Event, Joint, seq, Process, event, join, again, rounds, owns, event_of}
 use Rattle.process.specs.Expand.{leaf_copy, reset_of, joint, copies, expand, flow_process, children_process, child_process, loop_process, member_process, members_process}
 use Rattle.process.proofs.Events.{expand_events}
@@ -190,7 +190,7 @@ mutual
   child_distinct (group y a b ms) ns h vs e =
       let A = member_distinct a (member_names b (members_names ms ns)) h vs e in
       members_distinct ms ns (joint y) vs _ _ (distinct_join (joint y) A (member_distinct b (members_names ms ns) A.left vs _))
-  child_distinct (replicator y par size m) ns h vs e = distinct_copies (joint y) _ (λ v. member_distinct m ns h (vs ++ (v ∷ [])) _) (size - 1)
+  child_distinct (replicator y par size m) ns h vs e = distinct_copies (joint y) _ (λ v. member_distinct m ns h (vs ++ (v ∷ [])) (e + v * member_events m)) (size - 1)
 
   loop_distinct : (m : Member) (ns : List Name) → differ (member_names m ns) ≡ true → (vs : List ℕ) (e : ℕ) → Distinct (loop_process m vs e) vs ns (member_names m ns)
   loop_distinct (leaf n) ns h vs e = distinct_one ns (in_again e (leaf_copy n vs)) refl h
