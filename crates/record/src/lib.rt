@@ -1,4 +1,5 @@
 #![tactic(auto)]
+
 ghost use Rattle.std.specs.Prelude.{◌≡◌, ◌+◌, ◌-◌, ◌<◌, ◌%◌, ◌^◌};
 ghost use Rattle.base.specs.Fill.{fill};
 ghost use Rattle.record.specs.Bits.{bit_at, set_bit, clear_bit, clear_bits, set_past};

@@ -1,5 +1,4 @@
 -- `record::bit` meets its contract, which says what the code does.
-use Rattle.std.proofs.Common.{rules}
 use mathlib.Core.Path.{refl, sym}
 use borrow.Author.Tests.{lt-ltb}
 use Rattle.record.specs.Bits.{bit_at}

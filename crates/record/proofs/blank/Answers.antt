@@ -1,5 +1,4 @@
 -- `record::blank` meets its contract: eight zeros.
-use Rattle.std.proofs.Common.{rules}
 use mathlib.Core.Path.{refl}
 use Rattle.record.specs.Blank.{blank_record}
 use Rattle.record.proofs.blank.Goals as goal

@@ -1,7 +1,6 @@
 -- `record::clear` meets its contract: after i turns i bits are cleared, and from 512 on there is nothing to clear.
 use Rattle.std.proofs.Common.{rules}
 use mathlib.Core.Path.{◌≡◌, ap, ◌∙◌}
-use Prim.Native.Nat.{◌≤◌, ◌-◌, ◌+◌}
 use Rattle.record.specs.Bits.{clear_bits}
 use Rattle.record.proofs.Bits.{clear_bits_none, clear_bits_more, clear_bits_past}
 use native.Mathlib.Omega.{arith}

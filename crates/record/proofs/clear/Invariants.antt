@@ -1,9 +1,7 @@
 -- `record::clear` meets its contract: after i turns i bits are cleared, and from 512 on there is nothing to clear.
-use mathlib.Core.Path.{◌≡◌, ap, ◌∙◌}
+use mathlib.Core.Path.{◌≡◌}
 use Prim.Native.Nat.{◌≤◌, ◌-◌, ◌+◌}
 use Rattle.record.specs.Bits.{clear_bits}
-use Rattle.record.proofs.Bits.{clear_bits_none, clear_bits_more, clear_bits_past}
-use native.Mathlib.Omega.{arith}
 use Rattle.record.proofs.clear.Given as goal
 
 abbrev pub invariant-loop-i : goal.invariant-loop-i

@@ -1,5 +1,4 @@
 -- `record::clear_bit` meets its contract: the change is made at the mask, and past the end there is none.
-use Rattle.std.proofs.Common.{rules}
 use mathlib.Core.Path.{sym}
 use Rattle.record.specs.Bits.{without}
 use Rattle.record.proofs.Bits.{change_by, change_out}

@@ -1,5 +1,4 @@
 -- `record::load` meets its contract, word by word.
-use Rattle.std.proofs.Common.{rules}
 use Rattle.record.proofs.Bytes.{loaded}
 use Rattle.record.proofs.load.Goals as goal
 

@@ -1,5 +1,4 @@
 -- `record::mask` meets its contract: no bit is shifted out.
-use Rattle.std.proofs.Common.{rules}
 use native.Mathlib.Omega.{arith}
 use Rattle.record.proofs.Bits.{one_shl}
 use Rattle.record.proofs.mask.Goals as goal

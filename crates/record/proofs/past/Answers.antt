@@ -1,6 +1,5 @@
 -- `record::past` meets its contract: the remainder is the whole word where all of it counts, and 0 where none of it does.
-use Rattle.std.proofs.Common.{rules}
-use Rattle.record.proofs.PastEvents.{past_all, past_none, past_some, past_some_not_zero}
+use Rattle.record.proofs.PastEvents.{past_all, past_none, past_some}
 use native.Mathlib.Omega.{arith}
 use Rattle.record.proofs.past.Goals as goal
 
@@ -9,10 +8,6 @@ returns-then-first-start c = let a = c.args in (past_all a.word a.start a.first 
 
 pub returns-then-before-ge64 : goal.returns-then-before-ge64
 returns-then-before-ge64 c = let a = c.args in (past_none a.word a.start a.first (omega arith), c.ranges.word.fits)
-
--- LEFT: no goal nonzero-rem-result
-rem-result : tie.Need-nonzero-rem-result
-rem-result c = let a = c.before.before.args in past_some_not_zero a.start a.first (omega arith) (omega arith)
 
 pub returns : goal.returns
 returns c = let a = c.args in (past_some a.start a.first (omega arith) (omega arith) a.word, c.ranges.word.fits)

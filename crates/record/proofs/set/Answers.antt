@@ -1,5 +1,4 @@
 -- `record::set` meets its contract: the change is made at the mask, and past the end there is none.
-use Rattle.std.proofs.Common.{rules}
 use mathlib.Core.Path.{sym}
 use lib.Bits.{bit_or}
 use Rattle.record.proofs.Bits.{change_by, change_out}

@@ -1,9 +1,7 @@
 -- `record::set_past` meets its contract: after i words, no bit of theirs at or past `first` was set.
 use mathlib.Core.Path.{◌≡◌}
 use Prim.Native.Nat.{◌≤◌, ◌-◌, ◌*◌}
-use native.Mathlib.Omega.{arith}
 use Rattle.record.specs.Bits.{clear_between}
-use Rattle.record.proofs.PastEvents.{past_start, past_more, past_end}
 use Rattle.record.proofs.set_past.Given as goal
 
 abbrev pub invariant-loop-i : goal.invariant-loop-i

@@ -1,11 +1,8 @@
 -- `record::store` meets its contract: after i turns the first i bytes are written, as far as there is room.
 use Rattle.std.proofs.Common.{rules}
-use mathlib.Core.Path.{◌≡◌, sym, ap, ◌∙◌}
-use Prim.Native.Nat.{◌≤◌, ◌-◌}
-use lib.ListN.{take, length}
-use Rattle.base.specs.Fill.{fill}
+use mathlib.Core.Path.{sym, ap, ◌∙◌}
+use lib.ListN.{length}
 use Rattle.base.proofs.Filled.{fill_length, fill_none}
-use Rattle.record.specs.Bytes.{bytes_of}
 use Rattle.record.proofs.Bytes.{store_more, store_end}
 use native.Mathlib.Omega.{arith}
 use Rattle.record.proofs.store.Goals as goal
@@ -18,7 +15,7 @@ loop-i-preserved c =
     let a = c.args in
     let l = c.loop-i in (
       search rules,
-      store_more a.t2 a.out-1.now l.out-1 c.put_byte.new.0 l.i (omega (arith, c.loop-i-test.true)) l.invariant.1
+      store_more a.bits a.out.now l.out c.put_byte.new.bytes l.i (omega (arith, c.loop-i-test.true)) l.invariant.1
           c.put_byte.ensures,
     )
 
@@ -29,4 +26,4 @@ pub returns : goal.returns
 returns c =
     let a = c.args in
     let l = c.loop-i in
-    store_end a.t2 a.out.now l.out l.i c.loop-i-test.false l.invariant.1
+    store_end a.bits a.out.now l.out l.i c.loop-i-test.false l.invariant.1
