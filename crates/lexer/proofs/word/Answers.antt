@@ -8,9 +8,8 @@ use Rattle.lexer.proofs.word.Goals as goal
 pub returns-then-text-at : goal.returns-then-text-at
 returns-then-text-at c = let a = c.args in word_none a.text _ a.at refl (omega (arith, c.if-text-at.true)) (omega arith) refl
 
--- LEFT: no goal slice-bounds-result-end
-part-result-end : tie.Need-slice-bounds-result-end
-part-result-end c = let a = c.before.before.before.args in word_inside a.text.now a.at c.before.if1.false c.word-end.ensures
+pub slice_bounds-result-end-2 : goal.slice_bounds-result-end-2
+slice_bounds-result-end-2 c = word_inside c.args.text.now c.args.at c.if-text-at.false c.word_end-end.ensures
 
 pub returns : goal.returns
 returns c =

@@ -3,7 +3,6 @@ use Rattle.std.proofs.Common.{rules}
 use Prim.Native.Nat.{◌+◌, ◌-◌}
 use mathlib.Core.Path.{◌≡◌, refl, sym, ◌∙◌}
 use lib.ListN.{length, drop}
-use Rattle.base.proofs.Truth.{not_e, not_no}
 use Rattle.tokens.specs.Classes.{worded}
 use Rattle.tokens.specs.Words.{front}
 use Rattle.tokens.proofs.Front.{front_end, front_stop, front_more}
@@ -15,12 +14,12 @@ loop-i-init c = refl
 pub returns-then-not-worded : goal.returns-then-not-worded
 returns-then-not-worded c =
     let l = c.loop-i in
-    sym (l.invariant ∙ front_stop _ _ l.i c.loop-i-test.true (sym c.worded.ensures ∙ not_e _ c.if-not-worded.true))
+    sym (l.invariant ∙ front_stop _ _ l.i c.loop-i-test.true (sym c.worded.ensures ∙ c.if-not-worded.true))
 
 pub loop-i-preserved : goal.loop-i-preserved
 loop-i-preserved c =
     let l = c.loop-i in
-    l.invariant ∙ front_more _ _ l.i c.loop-i-test.true (sym c.worded.ensures ∙ not_no _ c.if-not-worded.false)
+    l.invariant ∙ front_more _ _ l.i c.loop-i-test.true (sym c.worded.ensures ∙ c.if-not-worded.false)
 
 pub returns : goal.returns
 returns c = sym (c.loop-i.invariant ∙ front_end _ _ c.loop-i.i c.loop-i-test.false)
