@@ -66,7 +66,7 @@ module _ (text : List ℕ) where
   pub closes : (ws : List Want) (n : ℕ) (st : State) (k : ℕ) (ts : List Token)
       → track (sign closing ∷ ws) n st k (Token.sign closing ∷ ts) ≡ track ws n st (suc k) ts
   unfolding track expand effect
-  closes ws n st k ts = rw (add-zero n)
+  closes ws n st k ts = ap (λ (m : ℕ). track ws m st (suc k) ts) (add-zero n)
 
   -- A ref, that of the child that has waited least.
   pub ref_step : (ws : List Want) (n i : ℕ) (rows s : List ℕ) (k : ℕ) (r : Bool) (ts : List Token)
@@ -117,11 +117,11 @@ module _ (text : List ℕ) where
   module _ (d : ℕ) (ws : List Want) (n : ℕ) (st : State) (k : ℕ) (ts : List Token) where
     pub more_closing : track (more d ∷ ws) n st k (Token.sign closing ∷ ts) ≡ track ws n st (suc k) ts
     unfolding track expand effect
-    more_closing = rw (add-zero n)
+    more_closing = ap (λ (m : ℕ). track ws m st (suc k) ts) (add-zero n)
 
     pub others_closing : track (others d ∷ ws) n st k (Token.sign closing ∷ ts) ≡ track ws n st (suc k) ts
     unfolding track expand effect
-    others_closing = rw (add-zero n)
+    others_closing = ap (λ (m : ℕ). track ws m st (suc k) ts) (add-zero n)
 
     pub more_node : (w : Keyword) → track (more d ∷ ws) n st k (key w ∷ ts) ≡ track (node child d ∷ ref ++ (more d ∷ ws)) n st k (key w ∷ ts)
     unfolding track expand effect
