@@ -6,7 +6,7 @@ use Rattle.events.specs.code.Spots.{refusal_line}
 use Rattle.events.proofs.write_refusal.Goals as goal
 
 pub returns-in-Done : goal.returns-in-Done
-returns-in-Done c = same_put _ _ _ (none_put _) (ap refusal_line (sym c.enum_told-1.given.1))
+returns-in-Done c = same_put _ _ _ (none_put _) (ap refusal_line (sym c.in-Done.is))
 
 pub returns-in-Refused : goal.returns-in-Refused
 returns-in-Refused c = same_put _ _ _ c.refused.ensures (ap refusal_line (sym c.answer-1.given.1))

@@ -10,7 +10,7 @@ returns-then-not-is_record c = finished_short _ _ (sym c.is_record.ensures ∙ n
 
 pub returns-in-No : goal.returns-in-No
 returns-in-No c =
-    finished_called _ _ (sym c.is_record.ensures ∙ not_no _ c.if-not-is_record.false) _ c.load-bits.ensures _ _ c.finished-finish.ensures c.enum_told-1.given.1
+    finished_called _ _ (sym c.is_record.ensures ∙ not_no _ c.if-not-is_record.false) _ c.load-bits.ensures _ _ c.finished-finish.ensures c.in-No.is
 
 pub returns-in-Yes : goal.returns-in-Yes
 returns-in-Yes c =

@@ -5,7 +5,7 @@ use Rattle.packing.proofs.Packs.{by_case, none, refused}
 use Rattle.harness.proofs.step_number.Goals as goal
 
 pub returns-in-Done : goal.returns-in-Done
-returns-in-Done c = by_case 32 step_report c.enum_told-1.given.1 none
+returns-in-Done c = by_case 32 step_report c.in-Done.is none
 
 pub returns-in-Refused : goal.returns-in-Refused
 returns-in-Refused c = by_case 32 step_report c.answer-1.given.1 (refused 32 _ _ c.refusal.ensures)

@@ -6,13 +6,13 @@ use Rattle.walked.proofs.Laws.{starts, halts, goes, ends}
 use Rattle.heads.proofs.read_flow_head.Goals as goal
 
 pub returns-in_default : goal.returns-in_default
-returns-in_default c s = halts (c.read_named-s.ensures s) c.enum_told-1.given.1 _ starts
+returns-in_default c s = halts (c.read_named-s.ensures s) c.in_default.is _ starts
 
 pub returns-in_default-s : goal.returns-in_default-s
 returns-in_default-s c s =
-    halts (c.read_params-s.ensures s) c.enum_told-in_default-s-1.given.1 _ (goes (c.read_named-s.ensures s) c.s-1.given.1 _ starts)
+    halts (c.read_params-s.ensures s) c.in_default-s.is _ (goes (c.read_named-s.ensures s) c.in-Go.is _ starts)
 
 pub returns : goal.returns
 returns c s =
     ends (c.sign.ensures opening refl _)
-    (goes (c.read_params-s.ensures s) c.s-in-Go-s-2-1.given.1 _ (goes (c.read_named-s.ensures s) c.s-1.given.1 _ starts))
+    (goes (c.read_params-s.ensures s) c.in-Go-s.is _ (goes (c.read_named-s.ensures s) c.in-Go.is _ starts))

@@ -6,8 +6,8 @@ use Rattle.walked.proofs.Laws.{starts, halts, goes, ends}
 use Rattle.heads.proofs.read_leaf.Goals as goal
 
 pub returns-in_default : goal.returns-in_default
-returns-in_default c s = halts (c.read_named-s.ensures s) c.enum_told-1.given.1 _ starts
+returns-in_default c s = halts (c.read_named-s.ensures s) c.in_default.is _ starts
 
 pub returns : goal.returns
 returns c s =
-    ends (c.sign.ensures closing refl _) (goes (c.read_named-s.ensures s) c.s-1.given.1 _ starts)
+    ends (c.sign.ensures closing refl _) (goes (c.read_named-s.ensures s) c.in-Go.is _ starts)

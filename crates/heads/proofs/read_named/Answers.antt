@@ -6,8 +6,8 @@ use Rattle.walked.proofs.Laws.{starts, halts, goes, ends}
 use Rattle.heads.proofs.read_named.Goals as goal
 
 pub returns-in_default : goal.returns-in_default
-returns-in_default c s = halts (c.sign-s.ensures opening refl _) c.enum_told-1.given.1 _ starts
+returns-in_default c s = halts (c.sign-s.ensures opening refl _) c.in_default.is _ starts
 
 pub returns : goal.returns
 returns c s =
-    ends (c.read_name.ensures s) (goes (c.sign-s.ensures opening refl _) c.s-1.given.1 _ starts)
+    ends (c.read_name.ensures s) (goes (c.sign-s.ensures opening refl _) c.in-Go.is _ starts)

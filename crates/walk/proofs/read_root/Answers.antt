@@ -8,9 +8,9 @@ use Rattle.walk.proofs.read_root.Goals as goal
 
 pub returns-in_default : goal.returns-in_default
 returns-in_default c =
-    node_refused c.begin_node-s.ensures root refl c.next-t.ensures c.enum_told-1.given.1
+    node_refused c.begin_node-s.ensures root refl c.next-t.ensures c.in_default.is
 
 pub returns : goal.returns
 returns c =
-    let o = c.begin_node-s.ensures.taken _ _ c.s-1.given.1 in
-    node_read c.begin_node-s.ensures root refl c.next-t.ensures c.s-1.given.1 (flow_follows _ _ (omega arith)) c.read_flow.ensures
+    let o = c.begin_node-s.ensures.taken _ _ c.in-Go.is in
+    node_read c.begin_node-s.ensures root refl c.next-t.ensures c.in-Go.is (flow_follows _ _ (omega arith)) c.read_flow.ensures
