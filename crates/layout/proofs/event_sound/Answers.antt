@@ -1,9 +1,11 @@
 -- The run of cleared bits ends at 0 where it is empty, and else at the event's own number.
-use Rattle.std.proofs.Common.{rules}
-use mathlib.Core.Logic.{⊎_elim}
 use Rattle.layout.proofs.Events.{end_none, end_own}
 use Rattle.layout.proofs.event_sound.Goals as goal
+use Rattle.layout.proofs.event_sound.Goals.{then-count-eq0, else-count-eq0}
 
 pub returns : goal.returns
 returns c =
-    ⊎_elim (λ z. rw z.1 (end_none _ _ _ z.0.taken)) (λ z. rw z.1 (end_own _ _ _ z.0.left)) c.if-count-eq0.branch
+    elim c.if-count-eq0.branch [
+      | then-count-eq0 w ↦ rw w.end-is (end_none _ _ _ w.if-count-eq0.true)
+      | else-count-eq0 w ↦ rw w.end-is (end_own _ _ _ w.if-count-eq0.false)
+    ]

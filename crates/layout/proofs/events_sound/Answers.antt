@@ -1,7 +1,5 @@
 -- The loop's invariant: `ok` says whether the records passed are sound.
-use Rattle.std.proofs.Common.{rules}
 use mathlib.Core.Path.{◌≡◌, refl, ap, ◌∙◌}
-use Prim.Native.Nat.{◌≤◌, ◌-◌}
 use native.Mathlib.Omega.{arith}
 use Rattle.layout.specs.Sound.{events_sound}
 use Rattle.layout.proofs.Sizes.{sized_says}

@@ -1,10 +1,7 @@
 -- The loop's invariant: `ok` says whether the records passed are sound.
-use mathlib.Core.Path.{◌≡◌, refl, ap, ◌∙◌}
+use mathlib.Core.Path.{◌≡◌}
 use Prim.Native.Nat.{◌≤◌, ◌-◌}
-use native.Mathlib.Omega.{arith}
 use Rattle.layout.specs.Sound.{events_sound}
-use Rattle.layout.proofs.Sizes.{sized_says}
-use Rattle.layout.proofs.Events.{events_more}
 use Rattle.layout.proofs.events_sound.Given as goal
 
 abbrev pub invariant-loop-i : goal.invariant-loop-i

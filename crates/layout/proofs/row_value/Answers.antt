@@ -1,5 +1,4 @@
 -- `layout::row_value` meets its contract, kind by kind; a sound row names only rows below it.
-use Rattle.std.proofs.Common.{rules}
 use Prim.Native.Nat.{◌≤◌}
 use native.Mathlib.Omega.{arith}
 use borrow.Author.Tests.{eq-eqb, ne_eqb}

@@ -1,17 +1,15 @@
 -- `layout::rows_worked` meets its contract: up to the first row that is not sound, the list has what the rows say.
-use Rattle.std.proofs.Common.{rules}
 use mathlib.Core.Path.{◌≡◌, refl, sym, ap, ◌∙◌}
-use mathlib.Core.Bool.{true}
-use mathlib.Core.Logic.{⊎_elim}
-use Prim.Native.Nat.{◌+◌, ◌≤◌, ◌<◌, ◌-◌}
+use Prim.Native.Nat.{◌+◌, ◌≤◌, ◌<◌}
 use native.Mathlib.Omega.{arith}
-use lib.ListN.{length, take, length-set}
+use lib.ListN.{length, length-set}
 use Rattle.base.proofs.Truth.{clash, and_r}
 use Rattle.layout.specs.Sound.{rows_sound}
 use Rattle.layout.specs.Values.{row_values}
 use Rattle.layout.proofs.Sizes.{sized_says}
 use Rattle.layout.proofs.NextRow.{row_read, rows_more, worked_more}
 use Rattle.layout.proofs.rows_worked.Goals as goal
+use Rattle.layout.proofs.rows_worked.Goals.{At-loop-i, then-ok, else-ok}
 
 pub loop-i-init : goal.loop-i-init
 unfolding rows_sound row_values
@@ -22,19 +20,18 @@ word-w-requires c =
     omega (arith, (sized_says _ c.requires.0).length_exact, c.half-n.ensures.0, c.half-m.ensures.0, c.loop-i-test.true)
 
 -- There is room for the row.
-room : (c : goal.At-loop-i) → c.loop-i.i < c.half-m.result → c.loop-i.i < length c.loop-i.values
+room : (c : At-loop-i) → c.loop-i.i < c.half-m.result → c.loop-i.i < length c.loop-i.values
 room c h =
     rw c.loop-i.invariant.1 (omega (arith, (sized_says _ c.requires.0).rows_most, c.half-m.ensures.0, h))
 
 pub row_value-v-requires : goal.row_value-v-requires
-row_value-v-requires c =
-    (
-      sym c.row_sound-this.ensures ∙ and_r c.loop-i.ok _ c.if-ok.true,
-      room c c.loop-i-test.true,
-    )
+row_value-v-requires c = (
+  sym c.row_sound-this.ensures ∙ and_r c.loop-i.ok _ c.if-ok.true,
+  room (goal.at.row_value-v-requires c).At-loop-i c.loop-i-test.true,
+)
 
 pub bounds-values-i : goal.bounds-values-i
-bounds-values-i c = room c c.loop-i-test.true
+bounds-values-i c = room (goal.at.bounds-values-i c).At-loop-i c.loop-i-test.true
 
 pub loop-i-preserved : goal.loop-i-preserved
 loop-i-preserved c =
@@ -43,15 +40,15 @@ loop-i-preserved c =
     let s = c.row_sound-this.ensures in
     let more = rows_more _ _ _ _ _ _ n w s c.loop-i.invariant.2 in
     let on : c.loop-i.i + 1 ≤ c.half-m.result = omega arith in
-    ⊎_elim
-    (λ y. (
-      on,
-      ap length y.3 ∙ length-set c.loop-i.values c.loop-i.i y.2.result ∙ c.loop-i.invariant.1,
-      more,
-      worked_more _ _ _ _ _ _ n w s _ _ _ _ (room c c.loop-i-test.true) c.loop-i.invariant.3 y.2.ensures y.3,
-    ))
-    (λ x. (on, ap length x.1 ∙ c.loop-i.invariant.1, more, λ yes. absurd (clash yes x.0.left)))
-    c.if-ok.branch
+    elim c.if-ok.branch [
+      | then-ok y ↦ (
+        on,
+        ap length y.values-is ∙ length-set c.loop-i.values c.loop-i.i y.row_value-v.result ∙ c.loop-i.invariant.1,
+        more,
+        worked_more _ _ _ _ _ _ n w s _ _ _ _ (room (goal.at.loop-i-preserved c).At-loop-i c.loop-i-test.true) c.loop-i.invariant.3 y.row_value-v.ensures y.values-is,
+      )
+      | else-ok x ↦ (on, ap length x.values-is ∙ c.loop-i.invariant.1, more, λ yes. absurd (clash yes x.if-ok.false))
+    ]
 
 pub shape_of-values : goal.shape_of-values
 shape_of-values c = c.loop-i.invariant.1 ∙ sym c.requires.1
@@ -60,4 +57,4 @@ pub returns : goal.returns
 returns c =
     let i : c.loop-i.i ≡ c.half-m.result = omega arith in
     let q = i ∙ c.half-m.ensures.0 in
-    rw (← q) (c.loop-i.invariant.2, c.loop-i.invariant.3)
+    rw (← q) (record { value = c.loop-i.invariant.2; values_after = c.loop-i.invariant.3 })

@@ -1,15 +1,10 @@
 -- `layout::rows_worked` meets its contract: up to the first row that is not sound, the list has what the rows say.
-use mathlib.Core.Path.{◌≡◌, refl, sym, ap, ◌∙◌}
+use mathlib.Core.Path.{◌≡◌}
 use mathlib.Core.Bool.{true}
-use mathlib.Core.Logic.{⊎_elim}
-use Prim.Native.Nat.{◌+◌, ◌≤◌, ◌<◌, ◌-◌}
-use native.Mathlib.Omega.{arith}
-use lib.ListN.{length, take, length-set}
-use Rattle.base.proofs.Truth.{clash, and_r}
+use Prim.Native.Nat.{◌≤◌, ◌-◌}
+use lib.ListN.{length, take}
 use Rattle.layout.specs.Sound.{rows_sound}
 use Rattle.layout.specs.Values.{row_values}
-use Rattle.layout.proofs.Sizes.{sized_says}
-use Rattle.layout.proofs.NextRow.{row_read, rows_more, worked_more}
 use Rattle.layout.proofs.rows_worked.Given as goal
 
 abbrev pub invariant-loop-i : goal.invariant-loop-i

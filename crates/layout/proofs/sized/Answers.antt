@@ -1,5 +1,4 @@
 -- The tests are those of the definition, on the numbers that were read.
-use Rattle.std.proofs.Common.{rules}
 use Rattle.layout.specs.Sound.{sized}
 use Rattle.layout.proofs.sized.Goals as goal
 
