@@ -1,4 +1,5 @@
 #![tactic(auto)]
+
 ghost use Rattle.std.specs.Prelude.{◌≡◌, get_or};
 ghost use Rattle.columns.specs.Columns.{kind_index, size_number, kind_number, columns as columns_of};
 

@@ -1,12 +1,7 @@
 -- `columns::columns` meets its contract. The loop's invariant: each array holds the numbers of the first n nodes, and zeros after them. Its measure
 -- is what is left of the arrays. Assumes nothing.
-use mathlib.Core.Path.{◌≡◌, refl, sym, ◌∙◌}
-use mathlib.Core.Logic.{inl, inr}
-use Prim.Native.Nat.{◌-◌, ◌<◌}
-use native.Mathlib.Omega.{arith}
-use lib.ListN.{length, length-map}
-use borrow.Author.Tests.{ltb-true, ltb-false}
-use Rattle.columns.proofs.Filled.{Filled, column_more, filled_whole}
+use Prim.Native.Nat.{◌-◌}
+use Rattle.columns.proofs.Filled.{Filled}
 use Rattle.columns.proofs.columns.Given as goal
 
 abbrev pub invariant-loop-n : goal.invariant-loop-n

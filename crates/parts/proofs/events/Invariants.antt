@@ -1,10 +1,8 @@
 -- The invariant: the events among the numbers before i are counted.
-use mathlib.Core.Path.{◌≡◌, sym, ap₂, ◌∙◌}
-use Prim.Native.Nat.{◌+◌, ◌-◌, ◌≤◌}
-use native.Mathlib.Omega.{arith}
+use mathlib.Core.Path.{◌≡◌}
+use Prim.Native.Nat.{◌-◌, ◌≤◌}
 use lib.ListN.{length, take}
 use Rattle.parts.specs.code.Cuts.{event_count}
-use Rattle.parts.proofs.Cut.{none_counted, one_more, count_all}
 use Rattle.parts.proofs.events.Given as goal
 
 abbrev pub invariant-loop-i : goal.invariant-loop-i

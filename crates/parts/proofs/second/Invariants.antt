@@ -1,11 +1,9 @@
 -- The invariant: from number i on, with n parts wanted before it, the same is left over. The measure is i.
-use mathlib.Core.Path.{◌≡◌, sym, ◌∙◌}
-use Prim.Native.Nat.{◌+◌, ◌-◌, ◌≤◌, ◌<◌}
-use native.Mathlib.Omega.{arith}
+use mathlib.Core.Path.{◌≡◌}
+use Prim.Native.Nat.{◌+◌, ◌≤◌}
 use mathlib.Core.List.{reverse}
-use lib.ListN.{length, get_or, take}
+use lib.ListN.{length, take}
 use Rattle.parts.specs.code.Cuts.{left_over, second_begins}
-use Rattle.parts.proofs.Cut.{from_end, wanted_few, one_back, all_there, at_begin}
 use Rattle.parts.proofs.second.Given as goal
 
 abbrev pub invariant-loop-n : goal.invariant-loop-n
