@@ -21,11 +21,8 @@ kept-requires c =
 pub returns-then-not-kept : goal.returns-then-not-kept
 returns-then-not-kept c =
     let l = c.loop-i in
-    let h = c.loop-i-test.true in (
-      omega arith,
-      λ t. search_broken (l.invariant.2 t).1 (omega (arith, t.many))
-          (c.kept.ensures.by_index _ t h (around_here t h l.invariant.1 (l.invariant.2 t).0 c.depth-d.ensures.1 refl)) c.if-not-kept.true,
-    )
+    let h = c.loop-i-test.true in record { upper_bound = omega arith; hs_value = λ t. search_broken (l.invariant.2 t).1 (omega (arith, t.many))
+          (c.kept.ensures.by_index _ t h (around_here t h l.invariant.1 (l.invariant.2 t).0 c.depth-d.ensures.1 refl)) c.if-not-kept.true }
 
 few : (e : goal.Else-not-kept) → get_or e.loop-i.many e.depth-d.result 0 ≤ 3
 few e = e.kept.ensures.n_bound (not-false _ e.if-not-kept.false)
@@ -67,4 +64,4 @@ loop-i-preserved c =
     )
 
 pub returns : goal.returns
-returns c = (omega arith, λ t. search_end (c.loop-i.invariant.2 t).1 (rw t.many c.loop-i-test.false))
+returns c = record { upper_bound = omega arith; hs_value = λ t. search_end (c.loop-i.invariant.2 t).1 (rw t.many c.loop-i-test.false) }
