@@ -1,4 +1,5 @@
 #![tactic(auto)]
+
 ghost use Rattle.std.specs.Prelude.{◌≡◌, [], ◌∷◌, ◌++◌, ◌-◌, ◌≤◌, length};
 ghost use Rattle.layout.specs.Fields.{bit_row, not_row, both_row, either_row, event_record};
 ghost use Rattle.plan.specs.Pieces.{constants as constants_of, settling, settled_row};

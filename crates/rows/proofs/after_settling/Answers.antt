@@ -1,5 +1,4 @@
 -- `after_settling` meets its contract, by which of the two rows it takes.
-use Rattle.std.proofs.Common.{rules}
 use mathlib.Core.Path.{refl}
 use native.Mathlib.Omega.{arith}
 use borrow.Author.Tests.{ne_eqb}

@@ -1,5 +1,4 @@
 -- `event_count` meets its contract.
-use Rattle.std.proofs.Common.{rules}
 use native.Mathlib.Omega.{arith}
 use borrow.Author.Tests.{lt-ltb, le-ltb}
 use Rattle.rows.proofs.event_count.Goals as goal

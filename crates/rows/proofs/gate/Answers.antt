@@ -1,5 +1,4 @@
 -- `gate` meets its contract.
-use Rattle.std.proofs.Common.{rules}
 use mathlib.Core.Path.{sym, ◌∙◌}
 use Rattle.rows.proofs.gate.Goals as goal
 

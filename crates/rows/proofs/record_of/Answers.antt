@@ -1,5 +1,4 @@
 -- `record_of` meets its contract: a leaf and a loop over a leaf clear nothing, a reset clears the events from the first of its body on.
-use Rattle.std.proofs.Common.{rules}
 use native.Mathlib.Omega.{arith}
 use borrow.Author.Tests.{eq-eqb, ne_eqb}
 use Rattle.rows.proofs.record_of.Goals as goal

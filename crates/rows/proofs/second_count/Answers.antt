@@ -1,5 +1,4 @@
 -- `second_count` meets its contract.
-use Rattle.std.proofs.Common.{rules}
 use mathlib.Core.Path.{refl, sym, ◌∙◌}
 use native.Mathlib.Omega.{arith}
 use Rattle.rows.proofs.second_count.Goals as goal

@@ -1,5 +1,4 @@
 -- `second_words` meets its contract: as many of the two rows as the number has.
-use Rattle.std.proofs.Common.{rules}
 use mathlib.Core.Path.{refl}
 use Rattle.rows.proofs.Listed.{listed_first}
 use Rattle.rows.proofs.second_words.Goals as goal

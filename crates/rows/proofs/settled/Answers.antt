@@ -1,5 +1,4 @@
 -- `settled` meets its contract.
-use Rattle.std.proofs.Common.{rules}
 use borrow.Author.Tests.{eq-eqb, ne_eqb}
 use Rattle.rows.proofs.settled.Goals as goal
 

@@ -1,5 +1,4 @@
 -- `then_settling` meets its contract, by whether it takes the row.
-use Rattle.std.proofs.Common.{rules}
 use mathlib.Core.Path.{refl}
 use native.Mathlib.Omega.{arith}
 use borrow.Author.Tests.{ne_eqb}
