@@ -14,10 +14,6 @@ use Rattle.names.proofs.names.Goals as goal
 pub loop-i-init : goal.loop-i-init
 loop-i-init c = (omega arith, linkable_start, λ t. (linking_start _ _, search_start names_kept t.hs))
 
-title : (z : goal.Then-titled)
-    → titled_at z.args.rows.now z.loop-i.i ≡ true
-title z = rw z.told.ensures.0 at (sym z.titled.ensures ∙ z.if-titled.true)
-
 pub taken-requires : goal.taken-requires
 taken-requires c =
     (omega (arith, c.wide_short.ensures.0, c.loop-i.invariant.1.low c.mark-s.result, c.loop-i.invariant.0, c.requires), c.loop-i.invariant.1.falling)
@@ -25,28 +21,29 @@ taken-requires c =
 pub returns-then-taken : goal.returns-then-taken
 returns-then-taken c =
     let h = c.loop-i-test.true in
-    let back : c.loop-i.i + 1 - 1 ≡ c.loop-i.i = omega arith in (
-      omega arith,
-      (
-        λ some. rw back (title c),
-        λ t.
-            let mark = its_mark t c.loop-i.i h (title c) c.told-at.ensures.0 c.told-then-titled.ensures.0 c.mark-s.ensures.value in
+    let title : titled_at c.args.rows.now c.loop-i.i ≡ true = rw c.told.ensures.0 at (sym c.titled.ensures ∙ c.if-titled.true) in
+    let back : c.loop-i.i + 1 - 1 ≡ c.loop-i.i = omega arith in
+    record {
+        upper_bound = omega arith;
+        result_value = λ some. rw back title;
+        hs_value = λ t.
+            let mark = its_mark t c.loop-i.i h title c.told-at.ensures.0 c.told-then-titled.ensures.0 c.mark-s.ensures.value in
             let found = found_by_links (c.loop-i.invariant.2 t).0 c.told-at.ensures.0 mark c.mark-s.ensures.upper_bound c.wide_short.ensures.0 in
-            name_twice t h (c.loop-i.invariant.2 t).1 (title c) (found c.taken.ensures) c.if-taken.true,
-      ),
-    )
+            name_twice t h (c.loop-i.invariant.2 t).1 title (found c.taken.ensures) c.if-taken.true;
+    }
 
 pub loop-i-preserved-then-titled : goal.loop-i-preserved-then-titled
 loop-i-preserved-then-titled c =
     let h = c.loop-i-test.true in
+    let title : titled_at c.args.rows.now c.loop-i.i ≡ true = rw c.told.ensures.0 at (sym c.titled.ensures ∙ c.if-titled.true) in
     let small : c.loop-i.i < 256 = omega (arith, c.requires) in (
       omega arith,
       linkable_next c.loop-i.invariant.1 c.mark-s.ensures.upper_bound small,
       λ t.
-          let mark = its_mark t c.loop-i.i h (title c) c.told-at.ensures.0 c.told-then-titled.ensures.0 c.mark-s.ensures.value in
+          let mark = its_mark t c.loop-i.i h title c.told-at.ensures.0 c.told-then-titled.ensures.0 c.mark-s.ensures.value in
           let found = found_by_links (c.loop-i.invariant.2 t).0 c.told-at.ensures.0 mark c.mark-s.ensures.upper_bound c.wide_short.ensures.0 in (
-            linking_next (c.loop-i.invariant.2 t).0 c.loop-i.invariant.1 (title c) small mark c.mark-s.ensures.upper_bound,
-            name_next t h (c.loop-i.invariant.2 t).1 (title c) (found c.taken.ensures) c.if-taken.false,
+            linking_next (c.loop-i.invariant.2 t).0 c.loop-i.invariant.1 title small mark c.mark-s.ensures.upper_bound,
+            name_next t h (c.loop-i.invariant.2 t).1 title (found c.taken.ensures) c.if-taken.false,
           ),
     )
 
@@ -57,4 +54,8 @@ loop-i-preserved c =
     (omega arith, linkable_none c.loop-i.invariant.1, λ t. (linking_none (c.loop-i.invariant.2 t).0 e, name_none t h (c.loop-i.invariant.2 t).1 e))
 
 pub returns : goal.returns
-returns c = (omega arith, (λ h. let z : ⊥ = omega arith in absurd z, λ t. search_end (c.loop-i.invariant.2 t).1 (rw t.many c.loop-i-test.false)))
+returns c = record {
+  upper_bound = omega arith;
+  result_value = λ h. let z : ⊥ = omega arith in absurd z;
+  hs_value = λ t. search_end (c.loop-i.invariant.2 t).1 (rw t.many c.loop-i-test.false);
+}

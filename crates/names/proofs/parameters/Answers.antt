@@ -1,10 +1,10 @@
 -- The nodes passed keep the rule, and the pars around a node are known at each depth at which the next one may be.
 use Rattle.std.proofs.Common.{rules}
-use mathlib.Core.Path.{refl}
+use mathlib.Core.Path.{refl, ap}
+use mathlib.Core.Bool.{not}
 use Prim.Native.Nat.{◌-◌, ◌≤◌}
 use native.Mathlib.Omega.{arith}
 use lib.ListN.{get_or}
-use borrow.Author.Tests.{not-false}
 use Rattle.rules.specs.Kept.{parameters_kept}
 use Rattle.names.specs.code.Told.{Told}
 use Rattle.names.proofs.Searched.{Searched, search_start, search_broken, search_kept, search_end}
@@ -22,44 +22,38 @@ pub returns-then-not-kept : goal.returns-then-not-kept
 returns-then-not-kept c =
     let l = c.loop-i in
     let h = c.loop-i-test.true in record { upper_bound = omega arith; hs_value = λ t. search_broken (l.invariant.2 t).1 (omega (arith, t.many))
-          (c.kept.ensures.by_index _ t h (around_here t h l.invariant.1 (l.invariant.2 t).0 c.depth-d.ensures.1 refl)) c.if-not-kept.true }
-
-few : (e : goal.Else-not-kept) → get_or e.loop-i.many e.depth-d.result 0 ≤ 3
-few e = e.kept.ensures.n_bound (not-false _ e.if-not-kept.false)
+          (c.kept.ensures.by_index _ t h (around_here t h l.invariant.1 (l.invariant.2 t).0 c.depth-d.ensures.1 refl)) (ap not c.if-not-kept.true) }
 
 pub offset_bounds-pars-n : goal.offset_bounds-pars-n
-offset_bounds-pars-n c = omega (arith, few c)
+offset_bounds-pars-n c = omega (arith, c.kept.ensures.n_bound c.if-not-kept.false)
 
 pub bounds-pars-n : goal.bounds-pars-n
-bounds-pars-n c = omega (arith, few c)
-
-deep : (e : goal.Else-not-kept) → e.depth-d.result ≤ 12
-deep e = e.depth-d.ensures.0
+bounds-pars-n c = omega (arith, c.kept.ensures.n_bound c.if-not-kept.false)
 
 pub overflow_add-many : goal.overflow_add-many
-overflow_add-many c = omega (arith, few c, c.replicator.ensures.upper_bound)
+overflow_add-many c = omega (arith, c.kept.ensures.n_bound c.if-not-kept.false, c.replicator.ensures.upper_bound)
 
 pub overflow_add-many-in-loop-i : goal.overflow_add-many-in-loop-i
-overflow_add-many-in-loop-i c = omega (arith, deep c)
+overflow_add-many-in-loop-i c = omega (arith, c.depth-d.ensures.0)
 
 pub offset_bounds-many-d-in-loop-i : goal.offset_bounds-many-d-in-loop-i
-offset_bounds-many-d-in-loop-i c = omega (arith, deep c)
+offset_bounds-many-d-in-loop-i c = omega (arith, c.depth-d.ensures.0)
 
 pub bounds-many-d-in-loop-i : goal.bounds-many-d-in-loop-i
-bounds-many-d-in-loop-i c = omega (arith, deep c)
+bounds-many-d-in-loop-i c = omega (arith, c.depth-d.ensures.0)
 
 pub loop-i-preserved : goal.loop-i-preserved
 loop-i-preserved c =
     let l = c.loop-i in
     let h = c.loop-i-test.true in
-    let f = few c in (
+    let f = c.kept.ensures.n_bound c.if-not-kept.false in (
       omega arith,
-      roomy_next l.invariant.1 _ _ _ _ (omega arith) (omega (arith, c.requires.0)) (omega (arith, deep c))
+      roomy_next l.invariant.1 _ _ _ _ (omega arith) (omega (arith, c.requires.0)) (omega (arith, c.depth-d.ensures.0))
           (omega (arith, f, c.replicator.ensures.upper_bound)),
       λ t. (
         around_next t h l.invariant.1 (l.invariant.2 t).0 c.depth-d.ensures.1 refl f c.replicator.ensures.value,
         search_kept (l.invariant.2 t).1 (omega (arith, t.many))
-            (c.kept.ensures.by_index _ t h (around_here t h l.invariant.1 (l.invariant.2 t).0 c.depth-d.ensures.1 refl)) c.if-not-kept.false,
+            (c.kept.ensures.by_index _ t h (around_here t h l.invariant.1 (l.invariant.2 t).0 c.depth-d.ensures.1 refl)) (ap not c.if-not-kept.false),
       ),
     )
 
