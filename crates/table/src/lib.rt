@@ -1,4 +1,5 @@
 #![tactic(auto)]
+
 ghost use Rattle.std.specs.Prelude.{◌≡◌, true, take};
 ghost use Rattle.layout.specs.Fields.{events, rows};
 ghost use Rattle.layout.specs.Sound.{sound};

@@ -1,5 +1,4 @@
 -- `table::check` meets its contract.
-use Rattle.std.proofs.Common.{rules}
 use mathlib.Core.Path.{sym, ◌∙◌}
 use mathlib.Core.Bool.{true, false}
 use Rattle.table.proofs.Answered.{checked}

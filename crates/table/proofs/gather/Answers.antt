@@ -1,36 +1,36 @@
 -- `table::gather` meets its contract: after e turns the bits are those of the events below e.
-use Rattle.std.proofs.Common.{rules}
 use mathlib.Core.Path.{◌≡◌, refl, ap, ◌∙◌}
 use mathlib.Core.Bool.{true, false}
-use mathlib.Core.Logic.{⊎_elim}
-use Prim.Native.Nat.{◌≤◌, ◌<◌, ◌-◌}
+use Prim.Native.Nat.{◌<◌}
 use native.Mathlib.Omega.{arith}
-use lib.ListN.{take}
-use Rattle.layout.specs.Fields.{events, rows}
+use Rattle.layout.specs.Fields.{events}
 use Rattle.table.specs.Steps.{offered}
 use Rattle.table.proofs.Answered.{guard_within, gathered}
 use Rattle.table.proofs.gather.Goals as goal
+use Rattle.table.proofs.gather.Goals.{then-values-guard, else-values-guard, At-loop-e}
 
 pub loop-e-init : goal.loop-e-init
 unfolding offered
 loop-e-init c = (omega arith, refl)
 
 -- There is such an event.
-below : (c : goal.At-loop-e) → c.loop-e.e < c.half-n.result → c.loop-e.e < events c.args.t.now
+below : (c : At-loop-e) → c.loop-e.e < c.half-n.result → c.loop-e.e < events c.args.t.now
 below c h = rw c.half-n.ensures.0 at h
 
 pub bounds-values-guard : goal.bounds-values-guard
 bounds-values-guard c =
-    guard_within _ c.requires _ _ (below c c.loop-e-test.true) c.word-w.ensures.0
+    guard_within _ c.requires _ _ (below (goal.at.bounds-values-guard c).At-loop-e c.loop-e-test.true) c.word-w.ensures.0
 
 pub loop-e-preserved : goal.loop-e-preserved
 loop-e-preserved c =
     let ok = c.requires in
-    let h = below c c.loop-e-test.true in
+    let h = below (goal.at.loop-e-preserved c).At-loop-e c.loop-e-test.true in
     let W = c.word-w.ensures.0 in (
       omega arith,
-      ⊎_elim (λ y. y.2 ∙ y.1.ensures ∙ gathered _ _ _ _ _ true ok h W c.loop-e.invariant.1 y.0.taken) (λ x. x.1 ∙ gathered _ _ _ _ _ false ok h W c.loop-e.invariant.1 x.0.left)
-          c.if-values-guard.branch,
+      elim c.if-values-guard.branch [
+        | then-values-guard y ↦ y.o-is ∙ (y.set-p.ensures ∙ gathered _ _ _ _ _ true ok h W c.loop-e.invariant.1 y.if-values-guard.true)
+        | else-values-guard x ↦ x.o-is ∙ gathered _ _ _ _ _ false ok h W c.loop-e.invariant.1 x.if-values-guard.false
+      ],
     )
 
 pub returns : goal.returns

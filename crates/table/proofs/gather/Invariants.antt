@@ -1,13 +1,9 @@
 -- `table::gather` meets its contract: after e turns the bits are those of the events below e.
-use mathlib.Core.Path.{◌≡◌, refl, ap, ◌∙◌}
-use mathlib.Core.Bool.{true, false}
-use mathlib.Core.Logic.{⊎_elim}
-use Prim.Native.Nat.{◌≤◌, ◌<◌, ◌-◌}
-use native.Mathlib.Omega.{arith}
+use mathlib.Core.Path.{◌≡◌}
+use Prim.Native.Nat.{◌≤◌, ◌-◌}
 use lib.ListN.{take}
-use Rattle.layout.specs.Fields.{events, rows}
+use Rattle.layout.specs.Fields.{rows}
 use Rattle.table.specs.Steps.{offered}
-use Rattle.table.proofs.Answered.{guard_within, gathered}
 use Rattle.table.proofs.gather.Given as goal
 
 abbrev pub invariant-loop-e : goal.invariant-loop-e

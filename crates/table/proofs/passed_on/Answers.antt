@@ -1,8 +1,7 @@
 -- `table::passed_on` meets its contract, answer by answer.
-use Rattle.std.proofs.Common.{rules}
 use mathlib.Core.Path.{sym, ap}
 use Rattle.table.specs.code.PassedOn.{passed_on}
 use Rattle.table.proofs.passed_on.Goals as goal
 
 pub returns-in-Refused : goal.returns-in-Refused
-returns-in-Refused c = sym (ap passed_on c.answer-1.given.1)
+returns-in-Refused c = sym (ap passed_on c.in-Refused.is)
