@@ -1,49 +1,51 @@
 #![tactic(auto)]
 // Reads the text of a drawing on standard input and prints its machine, as Rodin's text editors read it: what stands before the first event, each event, and `end`. Of a
 // text that is turned away it prints one line: `refused`, the number and the place.
-use libc::{STDIN_FILENO, STDOUT_FILENO};
 use machines::eventb;
 use modelling::Written;
+use std::io;
+use std::io::Write;
 
 // No event of a machine has more bytes, and nor has what stands before the first.
 const ROOM: usize = 65536;
 
-fn refuse(number: u8, place: usize) {
+fn refuse<W: Write>(to: &mut W, number: u8, place: usize) -> io::Result<()> {
     let mut line = [0u8; 64];
     let n = output::refused(&mut line, 0, number, place);
-    io::write_all(STDOUT_FILENO, &line[..n]);
+    to.write_all(&line[..n])
 }
 
 // The events, one after the other, up to the first number that is none. A machine has at most 32.
-fn events(text: &[u8]) {
+fn events<W: Write>(to: &mut W, text: &[u8]) -> io::Result<()> {
     let mut e = 0;
     while e < 32 {
         let mut out = [0u8; ROOM];
         let w = eventb::event(text, e, &mut out);
         let Written::Bytes(n) = w else {
-            return;
+            return Ok(());
         };
-        io::write_all(STDOUT_FILENO, &out[..n]);
+        to.write_all(&out[..n])?;
         e += 1;
     }
+    Ok(())
 }
 
-fn machine(text: &[u8]) {
+fn machine<W: Write>(to: &mut W, text: &[u8]) -> io::Result<()> {
     let mut out = [0u8; ROOM];
     let w = eventb::opening(text, &mut out);
     match w {
         Written::Bytes(n) => {
-            io::write_all(STDOUT_FILENO, &out[..n]);
-            events(text);
-            io::write_all(STDOUT_FILENO, b"end\n");
+            to.write_all(&out[..n])?;
+            events(to, text)?;
+            to.write_all(b"end\n")
         }
-        Written::Refused(number, place) => refuse(number, place),
+        Written::Refused(number, place) => refuse(to, number, place),
     }
 }
 
-fn main() {
+fn main(rt: HostRuntime) -> io::Result<()> {
     // One byte more than a text may have: a longer text is refused, and not cut.
     let mut text = [0u8; 16385];
-    let n = io::read_full(STDIN_FILENO, &mut text);
-    machine(&text[..n]);
+    let n = input::read_full(&mut rt.stdin(), &mut text)?;
+    machine(&mut rt.stdout(), &text[..n])
 }

@@ -1,10 +1,11 @@
 #![tactic(auto)]
 // Plays a run of a drawing: reads its text on standard input up to an empty line, and then events, one to a line, each said by its number or by what the listing
 // calls it. Prints the answer to each, the control bits that are set and what may come next, and at the end whether the run is finished.
-ghost use Rattle.std.specs.Prelude.{◌≤◌, length};
+ghost use Rattle.std.specs.Prelude.{◌≤◌, IfOk, length};
 
-use libc::{STDIN_FILENO, STDOUT_FILENO};
 use record::Record;
+use std::io;
+use std::io::{Read, Write};
 use translator::Translated;
 
 // How many bytes, and how many lines, are read at the most: more than any input has.
@@ -28,132 +29,150 @@ struct Step {
 }
 
 // The next byte of the input, or 256 at its end. One at a time, so that each line is answered when it is there.
-fn read_byte() -> usize {
+fn read_byte<R: Read>(input: &mut R) -> io::Result<usize> {
     let mut one = [0u8; 1];
-    if io::read_full(STDIN_FILENO, &mut one) == 0 {
-        return 256;
+    if input::read_full(input, &mut one)? == 0 {
+        return Ok(256);
     }
-    base::wide(one[0])
+    Ok(base::wide(one[0]))
 }
 
 // Reads a line to the `at` bytes that are there; what there is no room for is left out.
-fn read_line(bytes: &mut [u8], at: usize) -> Line
+fn read_line<R: Read>(input: &mut R, bytes: &mut [u8], at: usize) -> io::Result<Line>
     requires { at ≤ length bytes.old }
-    ensures { result.count ≤ length bytes.new }
+    ensures { IfOk result (λ line. line.count ≤ length bytes.new) }
 {
     let mut n = at;
     let mut left = MOST;
     while left > 0 {
-        let b = read_byte();
+        let b = read_byte(input)?;
         if (b == 10) | (b == 256) {
-            return Line {
+            return Ok(Line {
                 count: n,
                 last: b == 256,
-            };
+            });
         }
         n = output::byte(bytes, n, (b % 256) as u8);
         left -= 1;
     }
-    Line {
+    Ok(Line {
         count: n,
         last: true,
-    }
+    })
 }
 
 // Reads up to an empty line after the first.
-fn read_drawing(text: &mut [u8; 16385]) -> usize
-    ensures { result ≤ length text.new }
+fn read_drawing<R: Read>(input: &mut R, text: &mut [u8; 16385]) -> io::Result<usize>
+    ensures { IfOk result (λ n. n ≤ length text.new) }
 {
     let mut n = 0;
     let mut left = MOST;
     while left > 0 {
-        let l = read_line(text, n);
+        let l = read_line(input, text, n)?;
         let empty = (n > 0) & (l.count == n);
         if l.last | empty {
-            return l.count;
+            return Ok(l.count);
         }
         n = output::byte(text, l.count, b'\n');
         left -= 1;
     }
-    n
+    Ok(n)
 }
 
 // The first `count` bytes of what was written.
-fn show(out: &[u8], count: usize) {
+fn show<W: Write>(to: &mut W, out: &[u8], count: usize) -> io::Result<()> {
     if out.len() < count {
-        return;
+        return Ok(());
     }
-    io::write_all(STDOUT_FILENO, &out[..count]);
+    to.write_all(&out[..count])
 }
 
-fn begin(listing: &[u8], table: &[u8], out: &mut [u8; SHOWN]) {
+fn begin<W: Write>(
+    to: &mut W,
+    listing: &[u8],
+    table: &[u8],
+    out: &mut [u8; SHOWN],
+) -> io::Result<()> {
     let n = player::opening(listing, table, out);
-    show(out, n);
+    show(to, out, n)
 }
 
-fn answer(
+fn answer<W: Write>(
+    to: &mut W,
     listing: &[u8],
     table: &[u8],
     before: Record,
     said: &[u8],
     out: &mut [u8; SHOWN],
-) -> Record {
+) -> io::Result<Record> {
     let p = player::turn(listing, table, before, said, out);
-    show(out, p.count);
-    p.after
+    show(to, out, p.count)?;
+    Ok(p.after)
 }
 
-fn end(table: &[u8], r: Record, out: &mut [u8; SHOWN]) {
+fn end<W: Write>(to: &mut W, table: &[u8], r: Record, out: &mut [u8; SHOWN]) -> io::Result<()> {
     let n = player::closing(table, r, out);
-    show(out, n);
+    show(to, out, n)
 }
 
 // The next line. No event has a name of 64 bytes with its values, so a longer line is none; an empty one is passed over.
-fn next(listing: &[u8], table: &[u8], before: Record, out: &mut [u8; SHOWN]) -> Step {
+fn next<R: Read, W: Write>(
+    input: &mut R,
+    to: &mut W,
+    listing: &[u8],
+    table: &[u8],
+    before: Record,
+    out: &mut [u8; SHOWN],
+) -> io::Result<Step> {
     let mut line = [0u8; 64];
-    let l = read_line(&mut line, 0);
+    let l = read_line(input, &mut line, 0)?;
     let n = l.count;
     let more = !l.last;
     if n == 0 {
-        return Step {
+        return Ok(Step {
             more,
             after: before,
-        };
+        });
     }
-    let after = answer(listing, table, before, &line[..n], out);
-    Step { more, after }
+    let after = answer(to, listing, table, before, &line[..n], out)?;
+    Ok(Step { more, after })
 }
 
-fn run(listing: &[u8], table: &[u8]) {
+fn run<R: Read, W: Write>(
+    input: &mut R,
+    to: &mut W,
+    listing: &[u8],
+    table: &[u8],
+) -> io::Result<()> {
     let mut out = [0u8; SHOWN];
-    begin(listing, table, &mut out);
+    begin(to, listing, table, &mut out)?;
     let mut r = record::blank();
     let mut left = MOST;
     while left > 0 {
-        let t = next(listing, table, r, &mut out);
+        let t = next(input, to, listing, table, r, &mut out)?;
         let after = t.after;
         r = after;
         left = if t.more { left - 1 } else { 0 };
     }
-    end(table, r, &mut out);
+    end(to, table, r, &mut out)
 }
 
 // Lists and translates a drawing, and plays its run; of a text that is turned away there is its refusal to show.
-fn play(text: &[u8]) {
+fn play<R: Read, W: Write>(input: &mut R, to: &mut W, text: &[u8]) -> io::Result<()> {
     let mut listing = [0u8; 32768];
     let count = events::list(text, &mut listing);
     let mut table = [0u8; 51204];
     let t = translator::translate(text, &mut table);
     let Translated::Bytes(length) = t else {
-        show(&listing, count);
-        return;
+        return show(to, &listing, count);
     };
-    run(&listing[..count], &table[..length]);
+    run(input, to, &listing[..count], &table[..length])
 }
 
-fn main() {
+fn main(rt: HostRuntime) -> io::Result<()> {
+    let mut input = rt.stdin();
     // One byte more than a text may have: a longer text is refused, and not cut.
     let mut text = [0u8; 16385];
-    let n = read_drawing(&mut text);
-    play(&text[..n]);
+    let n = read_drawing(&mut input, &mut text)?;
+    play(&mut input, &mut rt.stdout(), &text[..n])
 }

@@ -9,7 +9,6 @@ use lib.Dec.{eqb}
 use lib.ListN.{length, get_or}
 use Rattle.base.specs.Text.{bytes}
 use Rattle.base.proofs.Truth.{by_cases, clash, is_false, and_l, and_r, or_r, or_e}
-use Rattle.bytes.specs.Bytes.{index_of, index_after}
 use Rattle.diagram.specs.Tree.{Flow}
 use Rattle.base.specs.Equal.{same}
 use Rattle.base.proofs.Decided.{same_decides}
@@ -27,6 +26,7 @@ use Rattle.events.specs.Listing.{drawing_listing}
 use Rattle.events.proofs.Short.{Each, each_append, each_at, Short, events_short}
 use Rattle.events.proofs.Called.{Without, without, decimal_without, word_without, blanks_no_words, letter_high, digit_low, decimal_one, called_one}
 use Rattle.events.proofs.Answers.{short_at}
+use Rattle.said.specs.Search.{index_of}
 use Rattle.said.specs.Lines.{lines, rest, event_lines}
 use Rattle.said.specs.Said.{number_part, label_part, says, before_saying, event_said}
 use Rattle.said.specs.Meant.{label, before_meant}
@@ -107,7 +107,7 @@ lines_listed d s =
 
 -- What stands before the first space, and after it.
 parted : (bs on : List ℕ) → Without 32 bs → (number_part (bs ++ (32 ∷ on)) ≡ bs) × (label_part (bs ++ (32 ∷ on)) ≡ on)
-unfolding number_part label_part index_of index_after
+unfolding number_part label_part index_of
 parted [] on h = (refl, refl)
 parted (b ∷ bs) on h = let p = parted bs on h.1 in (rw h.0 (ap (λ (x : List ℕ). b ∷ x) p.0), rw h.0 p.1)
 

@@ -8,17 +8,17 @@ use native.Mathlib.Numerals.{add-one}
 use native.Mathlib.Omega.{arith}
 use lib.Dec.{eqb}
 use lib.ListN.{length, take, drop, drop_of_length-le}
-use Rattle.bytes.specs.Bytes.{index_of, slice}
 use Rattle.base.specs.Equal.{same}
 use borrow.Author.Tests.{ne_eqb}
+use Rattle.said.specs.Search.{index_of}
 use Rattle.said.specs.Lines.{lines, LineEnds}
 use Rattle.said.specs.Said.{number_part, label_part, says, before_saying}
-use Rattle.said.proofs.Lines.{all_from, line_at, none_at}
+use Rattle.said.proofs.Lines.{line_at, none_at}
 
 -- By what stands before the first space, and after it.
-module _ (line said : List ℕ) (space : ℕ) (q : space ≡ 0 + index_of 32 (slice 0 (length line) line)) where
+module _ (line said : List ℕ) (space : ℕ) (q : space ≡ 0 + index_of 32 (drop 0 line)) where
   at_space : space ≡ index_of 32 line
-  at_space = q ∙ (zero-add _ ∙ ap (index_of 32) (all_from 0 line))
+  at_space = q ∙ zero-add _
 
   both_parts : says line said ≡ (same (take space line) said || same (drop (space + 1) line) said)
   unfolding says number_part label_part

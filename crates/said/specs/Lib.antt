@@ -1,3 +1,4 @@
+pub mod Search
 pub mod Lines
 pub mod Said
 pub mod Meant

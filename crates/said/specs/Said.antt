@@ -1,6 +1,6 @@
 -- Which event is said: by its number, or by its name with its values, `reset` before a reset's, as the listing has them.
 use Rattle.std.specs.Prelude.{Bool, cond, ◌||◌, List, [], ◌∷◌, ℕ, suc, take, drop}
-use Rattle.bytes.specs.Bytes.{index_of}
+use Rattle.said.specs.Search.{index_of}
 use Rattle.base.specs.Equal.{same}
 use Rattle.said.specs.Lines.{event_lines}
 

@@ -1,8 +1,23 @@
 #![tactic(auto)]
 // Which event of a drawing is said, by its listing.
-ghost use Rattle.std.specs.Prelude.{◌≡◌};
+ghost use Rattle.std.specs.Prelude.{◌≡◌, ◌+◌, drop};
+ghost use Rattle.said.specs.Search.{index_of};
 ghost use Rattle.said.specs.Lines.{LineEnds};
 ghost use Rattle.said.specs.Said.{says as says_of, event_said};
+
+// Where the first byte b from `at` on stands; past the last byte where there is none.
+fn find(bytes: &[u8], at: usize, b: u8) -> usize
+    ensures { result ≡ at + index_of b (drop at bytes.now) }
+{
+    let mut i = at;
+    while i < bytes.len() {
+        if bytes[i] == b {
+            return i;
+        }
+        i += 1;
+    }
+    i
+}
 
 // Where the line that starts at `at` ends: at its byte 10, or with the last byte; past that it is empty.
 pub fn line_end(listing: &[u8], at: usize) -> usize
@@ -11,14 +26,14 @@ pub fn line_end(listing: &[u8], at: usize) -> usize
     if listing.len() <= at {
         return at;
     }
-    bytes::scan::find(listing, at, listing.len(), 10)
+    find(listing, at, 10)
 }
 
 // Whether the line of an event says it: its number, or all that stands after the number and a space.
 fn says(line: &[u8], said: &[u8]) -> bool
     ensures { result ≡ says_of line.now said.now }
 {
-    let space = bytes::scan::find(line, 0, line.len(), 32);
+    let space = find(line, 0, 32);
     if base::equal(&line[..space], said) {
         return true;
     }

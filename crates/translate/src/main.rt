@@ -1,25 +1,24 @@
 #![tactic(auto)]
 // Reads the text of a drawing on standard input and writes its table. A text that is turned away writes nothing there, and on standard error `refused`, the number and
 // the place.
-use libc::{STDERR_FILENO, STDIN_FILENO, STDOUT_FILENO};
+use std::io;
+use std::io::Write;
 use translator::Translated;
 
-fn refuse(number: u8, place: usize) {
+fn refuse<W: Write>(error: &mut W, number: u8, place: usize) -> io::Result<()> {
     let mut out = [0u8; 64];
     let n = output::refused(&mut out, 0, number, place);
-    io::write_all(STDERR_FILENO, &out[..n]);
+    error.write_all(&out[..n])
 }
 
-fn main() {
+fn main(rt: HostRuntime) -> io::Result<()> {
     // One byte more than a text may have: a longer text is refused, and not cut.
     let mut text = [0u8; 16385];
-    let n = io::read_full(STDIN_FILENO, &mut text);
+    let n = input::read_full(&mut rt.stdin(), &mut text)?;
     let mut table = [0u8; 51204];
     let t = translator::translate(&text[..n], &mut table);
     match t {
-        Translated::Bytes(length) => {
-            io::write_all(STDOUT_FILENO, &table[..length]);
-        }
-        Translated::Refused(number, place) => refuse(number, place),
+        Translated::Bytes(length) => rt.stdout().write_all(&table[..length]),
+        Translated::Refused(number, place) => refuse(&mut rt.stderr(), number, place),
     }
 }
