@@ -90,7 +90,7 @@ module _ (base : ℕ) (start : FirstAt) where
         omega (arith, h.its_rows, next_row_is s, next_row_is (f ∷ t), ap length w, length-append (words s) z.words);
     its_at = omega (arith, h.its_at, ap length d, length-append (needs s) (z.needs ∷ []));
     its_parts =
-        rw m
+        subst (λ (i : ℕ). Stacked (set u.parts i z.part) i (f ∷ t)) (sym m)
         (get_or-set_same u.parts top z.part no_rows (omega (arith, h.long, deep)) ∙ sym p, stacked_below u.parts top z.part (suc top) t (omega arith) l);
     its_needs =
         rw (h.its_needs, h.its_at, d) (sym (rw zero-add at (sets_append start.needs 0 (needs s) (z.needs ∷ []))));

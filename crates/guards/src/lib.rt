@@ -1,4 +1,5 @@
 #![tactic(auto)]
+
 ghost use Rattle.std.specs.Prelude.{◌≡◌, ◌+◌, ◌-◌, ◌*◌, ◌≤◌, ◌<◌, length};
 ghost use Rattle.plan.specs.Pieces.{leaf_piece, rounds_piece, pair_piece, some_piece};
 ghost use Rattle.rows.specs.code.Words.{listed, event_count as event_count_of, record_of};

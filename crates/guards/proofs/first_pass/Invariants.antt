@@ -1,10 +1,8 @@
 -- `first_pass` meets its contract: after i turns the pass stands where i numbers lead.
-use mathlib.Core.Path.{refl}
-use Prim.Native.Nat.{◌-◌, ◌≤◌}
-use native.Mathlib.Omega.{arith}
+use Prim.Native.Nat.{◌-◌}
 use lib.ListN.{length}
 use Rattle.guards.specs.code.Passes.{first_start}
-use Rattle.guards.proofs.FirstTurns.{FirstTo, first_turn, first_end}
+use Rattle.guards.proofs.FirstTurns.{FirstTo}
 use Rattle.guards.proofs.first_pass.Given as goal
 
 abbrev pub invariant-loop-i : goal.invariant-loop-i

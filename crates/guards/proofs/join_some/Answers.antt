@@ -1,5 +1,4 @@
 -- `join_some` meets its contract: the rows that settle its parts, and four more.
-use Rattle.std.proofs.Common.{rules}
 use native.Mathlib.Omega.{arith}
 use Rattle.guards.proofs.RowsListed.{some_made}
 use Rattle.guards.proofs.join_some.Goals as goal

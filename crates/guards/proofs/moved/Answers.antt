@@ -1,5 +1,4 @@
 -- `moved` meets its contract: by how many parts the number joins.
-use Rattle.std.proofs.Common.{rules}
 use native.Mathlib.Omega.{arith}
 use borrow.Author.Tests.{lt-ltb, le-ltb, eq-eqb, ne_eqb}
 use Rattle.guards.proofs.moved.Goals as goal

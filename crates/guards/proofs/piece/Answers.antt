@@ -1,5 +1,4 @@
 -- `piece` meets its contract, by cases of the number.
-use Rattle.std.proofs.Common.{rules}
 use borrow.Author.Tests.{ne_eqb}
 use Rattle.guards.specs.code.Passes.{piece_of}
 use Rattle.guards.proofs.piece.Goals as goal

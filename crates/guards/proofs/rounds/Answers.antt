@@ -1,5 +1,4 @@
 -- `rounds` meets its contract: three rows, and the one that settles its body.
-use Rattle.std.proofs.Common.{rules}
 use mathlib.Core.Path.{refl}
 use Rattle.guards.proofs.rounds.Goals as goal
 

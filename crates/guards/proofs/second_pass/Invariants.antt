@@ -1,8 +1,5 @@
 -- `second_pass` meets its contract: where so many numbers are left, the pass stands where the numbers past them lead.
-use mathlib.Core.Path.{refl}
-use Prim.Native.Nat.{◌≤◌}
-use native.Mathlib.Omega.{arith}
-use Rattle.guards.proofs.SecondTurns.{SecondTo, second_at, second_begins, second_turn, second_end}
+use Rattle.guards.proofs.SecondTurns.{SecondTo, second_at}
 use Rattle.guards.proofs.second_pass.Given as goal
 
 abbrev pub invariant-loop-left : goal.invariant-loop-left

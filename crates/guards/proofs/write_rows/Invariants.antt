@@ -1,10 +1,8 @@
 -- `write_rows` meets its contract: after i turns the first i rows are written.
-use mathlib.Core.Path.{◌≡◌, refl, sym, ◌∙◌}
+use mathlib.Core.Path.{◌≡◌}
 use Prim.Native.Nat.{◌-◌, ◌≤◌}
-use native.Mathlib.Omega.{arith}
-use lib.ListN.{length, take, length-map}
+use lib.ListN.{length, take}
 use Rattle.guards.specs.code.Rows.{put_rows}
-use Rattle.guards.proofs.RowsWritten.{none_put, row_put, rows_all}
 use Rattle.guards.proofs.write_rows.Given as goal
 
 abbrev pub invariant-loop-i : goal.invariant-loop-i

@@ -1,5 +1,4 @@
 -- `write_table` meets its contract: nothing where there is no room, else the plan.
-use Rattle.std.proofs.Common.{rules}
 use lib.ListN.{length}
 use Rattle.guards.proofs.RoomTested.{few, none_written, plan_left}
 use Rattle.guards.proofs.write_table.Goals as goal
@@ -13,4 +12,4 @@ both_passes-requires c = let a = c.args in few (length a.ops.now) a.events (leng
 pub returns : goal.returns
 returns c =
     let a = c.args in
-    plan_left a.ops.now a.events a.out-1.now _ _ c.if-ops-events.false c.both_passes.ensures
+    plan_left a.ops.now a.events a.out.now _ _ c.if-ops-events.false c.both_passes.ensures
