@@ -5,14 +5,11 @@ use Rattle.tokens.proofs.Between.{between_in, between_low, between_high}
 use Rattle.sweeps.proofs.factor.Goals as goal
 
 pub returns-then-c-lt12 : goal.returns-then-c-lt12
-returns-then-c-lt12 c = (rw (← c.told-c.ensures.0, between_low 12 14 c.told-c.result c.if-c-lt12.true), omega arith)
+returns-then-c-lt12 c = record { value = rw (← c.told-c.ensures.0, between_low 12 14 c.told-c.result c.if-c-lt12.true); upper_bound = omega arith }
 
 pub returns-then-c-gt14 : goal.returns-then-c-gt14
-returns-then-c-gt14 c = (rw (← c.told-c.ensures.0, between_high 12 14 c.told-c.result c.if-c-gt14.true), omega arith)
+returns-then-c-gt14 c = record { value = rw (← c.told-c.ensures.0, between_high 12 14 c.told-c.result c.if-c-gt14.true); upper_bound = omega arith }
 
 pub returns : goal.returns
-returns c = (
-  c.told.ensures.0
-      ∙ rw (← c.told-c.ensures.0, between_in 12 14 c.told-c.result c.if-c-lt12.false c.if-c-gt14.false),
-  c.told.ensures.1,
-)
+returns c = record { value = c.told.ensures.0
+      ∙ rw (← c.told-c.ensures.0, between_in 12 14 c.told-c.result c.if-c-lt12.false c.if-c-gt14.false); upper_bound = c.told.ensures.1 }

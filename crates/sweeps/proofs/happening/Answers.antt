@@ -4,29 +4,23 @@ use Rattle.sweeps.proofs.Events.{event_leaf, event_other, event_last, event_no_f
 use Rattle.sweeps.proofs.happening.Goals as goal
 
 pub returns-then-c-eq8 : goal.returns-then-c-eq8
-returns-then-c-eq8 c = (omega arith, λ text t. event_leaf t c.requires.0 _ c.told-c.ensures.0 c.if-c-eq8.true)
+returns-then-c-eq8 c = record { upper_bound = omega arith; by_index = λ text t. event_leaf t c.requires.0 _ c.told-c.ensures.0 c.if-c-eq8.true }
 
 pub returns-then-c-ne15 : goal.returns-then-c-ne15
 returns-then-c-ne15 c =
-    (omega arith, λ text t. event_other t c.requires.0 _ c.told-c.ensures.0 c.if-c-eq8.false c.if-c-ne15.true)
+    record { upper_bound = omega arith; by_index = λ text t. event_other t c.requires.0 _ c.told-c.ensures.0 c.if-c-eq8.false c.if-c-ne15.true }
 
 pub returns-then-count-next : goal.returns-then-count-next
 returns-then-count-next c =
-    (omega arith, λ text t. event_last t c.requires.0 _ c.told-c.ensures.0 c.if-c-eq8.false c.if-c-ne15.false c.if-count-next.true)
+    record { upper_bound = omega arith; by_index = λ text t. event_last t c.requires.0 _ c.told-c.ensures.0 c.if-c-eq8.false c.if-c-ne15.false c.if-count-next.true }
 
 pub returns-then-told-ne7 : goal.returns-then-told-ne7
 returns-then-told-ne7 c =
-    (
-      omega arith,
-      λ text t. event_no_flow t c.requires.0 _ c.told-c.ensures.0 c.if-c-eq8.false
+    record { upper_bound = omega arith; by_index = λ text t. event_no_flow t c.requires.0 _ c.told-c.ensures.0 c.if-c-eq8.false
           c.if-c-ne15.false
-          c.if-count-next.false c.told.ensures.0 c.if-told-ne7.true,
-    )
+          c.if-count-next.false c.told.ensures.0 c.if-told-ne7.true }
 
 pub returns : goal.returns
 returns c =
-    (
-      omega arith,
-      λ text t. event_flow t c.requires.0 _ c.told-c.ensures.0 c.if-c-eq8.false c.if-c-ne15.false
-          c.if-count-next.false c.told.ensures.0 c.if-told-ne7.false,
-    )
+    record { upper_bound = omega arith; by_index = λ text t. event_flow t c.requires.0 _ c.told-c.ensures.0 c.if-c-eq8.false c.if-c-ne15.false
+          c.if-count-next.false c.told.ensures.0 c.if-told-ne7.false }

@@ -34,4 +34,4 @@ loop-i-preserved c =
     )
 
 pub returns : goal.returns
-returns c = (c.loop-i.invariant.1, λ text t. first_all (c.loop-i.invariant.3 text t).1 c.loop-i-test.false)
+returns c = record { upper_bound = c.loop-i.invariant.1; by_index = λ text t. first_all (c.loop-i.invariant.3 text t).1 c.loop-i-test.false }
