@@ -1,4 +1,5 @@
 #![tactic(auto)]
+
 ghost use Rattle.std.specs.Prelude.{◌≡◌, eqb, length};
 ghost use Rattle.firmware.specs.Calls.{number, left_bytes, check_number, step_number, step_bytes, finished_number, offer_number, offer_bytes};
 
@@ -33,8 +34,7 @@ fn leave(bytes: &mut [u8], answer: Answer, bits: [u64; 8])
 }
 
 // 0 for a sound table, else 12.
-#[unsafe(no_mangle)]
-pub extern "C" fn adl_check(table: &[u8]) -> u8
+pub fn adl_check(table: &[u8]) -> u8
     ensures { result ≡ check_number table.now }
 {
     let answer = table::check(table);
@@ -42,8 +42,7 @@ pub extern "C" fn adl_check(table: &[u8]) -> u8
 }
 
 // 0 for an event that was taken: the record's 64 bytes are then those after it. A refusal leaves them.
-#[unsafe(no_mangle)]
-pub extern "C" fn adl_step(table: &[u8], bytes: &mut [u8], event: u64) -> u8
+pub fn adl_step(table: &[u8], bytes: &mut [u8], event: u64) -> u8
     ensures value { result ≡ step_number table.now bytes.old event }
     ensures bytes_after { bytes.new ≡ step_bytes table.now bytes.old event }
 {
@@ -60,8 +59,7 @@ pub extern "C" fn adl_step(table: &[u8], bytes: &mut [u8], event: u64) -> u8
 }
 
 // 0 for an offer: 64 bytes are written then, and those past them stay. A refusal leaves all.
-#[unsafe(no_mangle)]
-pub extern "C" fn adl_offer(table: &[u8], bytes: &[u8], out: &mut [u8]) -> u8
+pub fn adl_offer(table: &[u8], bytes: &[u8], out: &mut [u8]) -> u8
     ensures value { result ≡ offer_number table.now bytes.now out.old }
     ensures out_after { out.new ≡ offer_bytes table.now bytes.now out.old }
 {
@@ -74,8 +72,7 @@ pub extern "C" fn adl_offer(table: &[u8], bytes: &[u8], out: &mut [u8]) -> u8
 }
 
 // 255 for a finished run, 0 for one that is not.
-#[unsafe(no_mangle)]
-pub extern "C" fn adl_finished(table: &[u8], bytes: &[u8]) -> u8
+pub fn adl_finished(table: &[u8], bytes: &[u8]) -> u8
     ensures { result ≡ finished_number table.now bytes.now }
 {
     if !is_record(bytes) {

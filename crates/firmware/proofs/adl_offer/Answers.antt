@@ -1,17 +1,18 @@
 -- `adl_offer` meets its contract: 1, or the number of the answer, with the bytes that it leaves.
-use Rattle.std.proofs.Common.{rules}
 use mathlib.Core.Path.{sym, ◌∙◌}
 use Rattle.firmware.proofs.Called.{offer_short, offer_called}
-use Rattle.base.proofs.Truth.{not_e, not_no}
 use Rattle.firmware.proofs.adl_offer.Goals as goal
 
 pub returns-then-not-is_record : goal.returns-then-not-is_record
-returns-then-not-is_record c = offer_short _ _ _ (sym c.is_record.ensures ∙ not_e _ c.if-not-is_record.true)
+returns-then-not-is_record c =
+    let p = offer_short c.args.table.now c.args.bytes.now c.args.out.now (sym c.is_record.ensures ∙ c.if-not-is_record.true) in
+    record { value = p.0; out_after = p.1 }
 
 pub shape_of-out : goal.shape_of-out
-shape_of-out c = c.offer-answer.auto.1.1.0
+shape_of-out c = c.offer-answer.auto.out
 
 pub returns : goal.returns
 returns c =
-    offer_called _ _ _ (sym c.is_record.ensures ∙ not_no _ c.if-not-is_record.false) _ c.load-held.ensures _ _ _ c.offer-answer.ensures
-    c.number_of_lem.ensures
+    let p = offer_called c.args.table.now c.args.bytes.now c.args.out.now (sym c.is_record.ensures ∙ c.if-not-is_record.false) _ c.load-held.ensures _ _ _ (c.offer-answer.ensures.value, c.offer-answer.ensures.out_after)
+    c.number_of.ensures in
+    record { value = p.0; out_after = p.1 }

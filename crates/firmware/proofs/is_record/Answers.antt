@@ -1,5 +1,4 @@
 -- `firmware::is_record` meets its contract, which says what the code does.
-use Rattle.std.proofs.Common.{rules}
 use mathlib.Core.Path.{refl}
 use Rattle.firmware.proofs.is_record.Goals as goal
 

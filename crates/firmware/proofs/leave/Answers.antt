@@ -1,5 +1,4 @@
 -- `firmware::leave` meets its contract: only where the answer is done is anything written.
-use Rattle.std.proofs.Common.{rules}
 use mathlib.Core.Path.{ap, ◌∙◌}
 use lib.ListN.{length}
 use Rattle.base.proofs.Filled.{fill_length}
@@ -10,4 +9,4 @@ pub shape_of-bytes : goal.shape_of-bytes
 shape_of-bytes c = ap length c.store.ensures ∙ fill_length _ _
 
 pub returns : goal.returns
-returns c = left_done _ _ _ _ c.enum_told-1.given.1 c.store.ensures
+returns c = left_done _ _ _ _ c.in-Done.is c.store.ensures
