@@ -1,4 +1,5 @@
 #![tactic(auto)]
+
 ghost use Rattle.std.specs.Prelude.{◌≡◌, ◌<◌};
 ghost use Rattle.expansion.specs.Walks.{Columns, columns, add as added, further as further_of, more as more_of, looped as looped_of, part as part_of, expanded};
 

@@ -1,5 +1,4 @@
 -- `expansion::add` meets its contract.
-use Rattle.std.proofs.Common.{rules}
 use Rattle.expansion.proofs.Steps.{add_full, add_room}
 use native.Mathlib.Omega.{arith}
 use Rattle.expansion.proofs.add.Goals as goal
@@ -10,4 +9,4 @@ returns-then-s-ge1024 c = add_full c.args.code _ (omega (arith, c.if-s-ge1024.tr
 pub returns : goal.returns
 returns c =
     let a = c.args in
-    add_room a.code a.s a.codes-1.now (omega (arith, c.if-s-ge1024.false)) c.put_byte.ensures
+    add_room a.code a.s a.codes.now (omega (arith, c.if-s-ge1024.false)) c.put_byte.ensures

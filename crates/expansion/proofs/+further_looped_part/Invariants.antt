@@ -1,0 +1,22 @@
+-- The walks that call each other meet their contracts. The measure is twice the depth left, and one more where the walk is inside a node. The
+-- invariant of the loop over the parts: those left from here are those left from the start. Its measure is the number of parts left. Assumes nothing.
+use Prim.Native.Nat.{◌+◌, ◌-◌}
+use Rattle.expansion.specs.Walks.{columns}
+use Rattle.expansion.proofs.Steps.{PartsLeft}
+use Rattle.expansion.proofs.+further_looped_part.Given as goal
+
+abbrev pub decreases-further : goal.decreases-further
+decreases-further l = l.left + l.left + 1
+
+abbrev pub decreases-looped : goal.decreases-looped
+decreases-looped l = l.left + l.left + 1
+
+abbrev pub decreases-part : goal.decreases-part
+decreases-part l = l.left + l.left
+
+abbrev pub invariant-further-loop-turn : goal.invariant-further-loop-turn
+invariant-further-loop-turn l =
+    PartsLeft (columns l.kinds l.sizes l.depths l.count) l.left l.i l.most (record { walk = l.initial.t; codes = l.initial.codes }) l.turn (record { walk = l.t; codes = l.codes })
+
+abbrev pub decreases-further-loop-turn : goal.decreases-further-loop-turn
+decreases-further-loop-turn l = l.most - l.turn
