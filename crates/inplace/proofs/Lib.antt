@@ -1,4 +1,3 @@
 pub mod Laws
-pub mod Contract
 pub mod Promised
 pub mod Both

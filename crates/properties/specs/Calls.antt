@@ -23,7 +23,7 @@ use Rattle.table.proofs.check.Reads as check_reads
 use Rattle.table.proofs.step.Reads as step_reads
 use Rattle.table.proofs.finished.Reads as finished_reads
 use Rattle.table.proofs.offer.Reads as offer_reads
-use Rattle.inplace.proofs.Contract as thin
+use Rattle.inplace.proofs.step.Reads as thin_reads
 use Rattle.firmware.proofs.adl_check.Reads as adl_check_reads
 use Rattle.firmware.proofs.adl_step.Reads as adl_step_reads
 use Rattle.firmware.proofs.adl_finished.Reads as adl_finished_reads
@@ -89,11 +89,10 @@ Offers t before lent answer left =
     Made offer_reads.Post
     (λ κs a r s. (a.0.now ≡ t) × (a.1.0 ≡ before) × (a.1.1.0.now ≡ lent) × (r ≡ answer) × (s.1.1.0.now ≡ left))
 
--- `inplace::step`, the thin call: a table, a lent record and an event number; what it answers, and the record after it. It is proved by hand, so what its `ensures`
--- says is read off by `inplace.proofs.Contract.Post`.
+-- `inplace::step`, the thin call: a table, a lent record and an event number; what it answers, and the record after it.
 abbrev pub Updates : List ℕ → Record → ℕ → Answer → Record → Type 0
 Updates t lent e answer left =
-    Made thin.Post (λ κs a r s. (a.0.now ≡ t) × (a.1.0.now ≡ lent) × (a.1.1.0 ≡ e) × (r ≡ answer) × (s.1.0.now ≡ left))
+    Made thin_reads.Post (λ κs a r s. (a.0.now ≡ t) × (a.1.0.now ≡ lent) × (a.1.1.0 ≡ e) × (r ≡ answer) × (s.1.0.now ≡ left))
 
 -- The C calls: a number, and what is left of the lent bytes.
 abbrev pub CChecks : List ℕ → ℕ → Type 0

@@ -33,7 +33,7 @@ use Rattle.table.proofs.check.Reads as check_reads
 use Rattle.table.proofs.step.Reads as step_reads
 use Rattle.table.proofs.finished.Reads as finished_reads
 use Rattle.table.proofs.offer.Reads as offer_reads
-use Rattle.inplace.proofs.Contract as thin
+use Rattle.inplace.proofs.step.Reads as thin_reads
 use Rattle.firmware.proofs.adl_check.Reads as adl_check_reads
 use Rattle.firmware.proofs.adl_step.Reads as adl_step_reads
 use Rattle.firmware.proofs.adl_finished.Reads as adl_finished_reads
@@ -58,7 +58,7 @@ pub record NothingAsked : Type 0 where
   pub step : Free step_reads.Asked
   pub finished : Free finished_reads.Asked
   pub offer : Free offer_reads.Asked
-  pub update : Free thin.Asked
+  pub update : Free thin_reads.Asked
   pub c_check : Free adl_check_reads.Asked
   pub c_step : Free adl_step_reads.Asked
   pub c_finished : Free adl_finished_reads.Asked
