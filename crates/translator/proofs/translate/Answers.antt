@@ -1,4 +1,3 @@
-use Rattle.std.proofs.Common.{rules}
 use mathlib.Core.Path.{refl}
 use native.Mathlib.Omega.{arith}
 use Rattle.translator.specs.Translates.{short}
@@ -12,20 +11,19 @@ pub returns-in_default : goal.returns-in_default
 returns-in_default c =
     let a = c.args in
     let r = c.read-o in
-    let k = c.enum_told-in_default-1.given in
-    refused_answer a.text.now r.result r.ensures a.out.now a.out.now _ k.0.0 k.0.1.0 (omega (arith, c.if-out-lt51204.false)) k.1
-    c.passed_on.ensures refl
+    refused_answer a.text.now r.result r.ensures a.out.now a.out.now _ c.in_default.field-0 c.in_default.field-1 (omega (arith, c.if-out-lt51204.false))
+    c.in_default.is c.passed_on.ensures refl
 
 pub write-requires : goal.write-requires
 write-requires c =
     let a = c.args in
     let r = c.read-o in
-    (is_read a.text.now r.result r.ensures c.enum_told-1.given.1, omega (arith, c.if-out-lt51204.false))
+    (is_read a.text.now r.result r.ensures c.in-Done.is, omega (arith, c.if-out-lt51204.false))
 
 pub returns : goal.returns
 returns c =
     let a = c.args in
     let r = c.read-o in
     let w = c.write in
-    translated a.text.now r.result r.ensures c.enum_told-1.given.1 a.out-1.now w.result w.new.1.0 _
+    translated a.text.now r.result r.ensures c.in-Done.is a.out.now w.result w.new.out _
     (omega (arith, c.if-out-lt51204.false)) w.ensures refl

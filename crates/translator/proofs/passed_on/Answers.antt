@@ -1,7 +1,0 @@
-use Rattle.std.proofs.Common.{rules}
-use mathlib.Core.Path.{ap, sym}
-use Rattle.translator.specs.Translates.{passed_on}
-use Rattle.translator.proofs.passed_on.Goals as goal
-
-pub returns-in-Refused : goal.returns-in-Refused
-returns-in-Refused c = ap passed_on (sym c.answer-1.given.1)
