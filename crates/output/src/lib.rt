@@ -1,4 +1,5 @@
 #![tactic(auto)]
+
 ghost use Rattle.std.specs.Prelude.{◌≡◌, ◌+◌, ◌%◌};
 ghost use Rattle.output.specs.Buffer.{buffer, put, put_all};
 ghost use Rattle.output.specs.Decimal.{digits as digits_of, decimal};

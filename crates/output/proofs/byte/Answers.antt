@@ -1,5 +1,4 @@
 -- `output::byte` meets its contract.
-use Rattle.std.proofs.Common.{rules}
 use mathlib.Core.Path.{sym}
 use native.Mathlib.Omega.{arith}
 use Rattle.output.specs.Buffer.{buffer}

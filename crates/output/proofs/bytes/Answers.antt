@@ -1,9 +1,8 @@
 -- `output::bytes` meets its contract. The loop's invariant: the bytes left, over the buffer as it is, are all of them over the buffer as it came.
 -- The measure is the number of bytes left. Assumes nothing.
-use Rattle.std.proofs.Common.{rules}
 use mathlib.Core.Path.{◌≡◌, refl, sym, ◌∙◌}
 use mathlib.Core.List.{List}
-use Prim.Native.Nat.{ℕ, ◌+◌, ◌-◌, ◌<◌, ◌≤◌}
+use Prim.Native.Nat.{ℕ, ◌+◌, ◌<◌, ◌≤◌}
 use native.Mathlib.Numerals.{add-one}
 use lib.ListN.{length, get_or, drop, drop_of_length-le}
 use lib.Seq.{drop-cons}
@@ -27,7 +26,7 @@ loop-i-preserved c =
     let one = c.byte-n in
     let l = c.loop-i in
     let a = c.args in
-    (one.auto.0 ∙ l.invariant.0, next a.source.now l.i (buffer l.n l.out-1) (omega (arith, c.loop-i-test.true)) one.ensures ∙ l.invariant.1)
+    (one.auto.out ∙ l.invariant.0, next a.source.now l.i (buffer l.n l.out) (omega (arith, c.loop-i-test.true)) one.ensures ∙ l.invariant.1)
 
 pub returns : goal.returns
 returns c =

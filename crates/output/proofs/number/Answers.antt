@@ -1,5 +1,4 @@
 -- `output::number` meets its contract, by how many digits there are. Assumes nothing.
-use Rattle.std.proofs.Common.{rules}
 use Prim.Native.Nat.{◌/◌}
 use Rattle.output.specs.Buffer.{buffer}
 use Rattle.output.proofs.Decimals.{one_put, more_put}
@@ -9,7 +8,7 @@ use Rattle.output.proofs.number.Goals as goal
 pub returns-then-v-le9 : goal.returns-then-v-le9
 returns-then-v-le9 c =
     let a = c.args in
-    one_put 19 a.v (buffer a.at a.out-1.now) c.if-v-le9.true c.last.ensures
+    one_put 19 a.v (buffer a.at a.out.now) c.if-v-le9.true c.last.ensures
 
 pub returns-then-tenth-le9 : goal.returns-then-tenth-le9
 returns-then-tenth-le9 c =

@@ -1,5 +1,4 @@
 -- `output::numbers` meets its contract: its parts stand one after the other. Assumes nothing.
-use Rattle.std.proofs.Common.{rules}
 use Rattle.output.proofs.Buffers.{before}
 use Rattle.output.proofs.numbers.Goals as goal
 

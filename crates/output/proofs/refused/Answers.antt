@@ -1,5 +1,4 @@
 -- `output::refused` meets its contract. Assumes nothing.
-use Rattle.std.proofs.Common.{rules}
 use Rattle.output.specs.Lines.{refused_line}
 use Rattle.output.proofs.refused.Goals as goal
 
