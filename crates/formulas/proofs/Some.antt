@@ -121,7 +121,8 @@ mutual
   child_guarded (group one a b ms) h vs e s = members_guarded ms vs _ _ (xor_guarded (member_process a vs e) (member_process b vs (e + member_events a)))
   child_guarded (replicator all par size m) h vs e s = absurd (false≢true s)
   child_guarded (replicator some par size m) h vs e s = absurd (false≢true s)
-  child_guarded (replicator one par size m) h vs e s = copies_guarded _ (member_guarded m h (vs ++ (0 ∷ [])) (e + 0 * member_events m)) (size - 1)
+  child_guarded (replicator one par size m) h vs e s =
+      copies_guarded (λ v. member_process m (vs ++ (v ∷ [])) (e + v * member_events m)) (member_guarded m h (vs ++ (0 ∷ [])) (e + 0 * member_events m)) (size - 1)
 
   member_guarded : (m : Member) → member_flows m solid ≡ true → (vs : List ℕ) (e : ℕ) → Guarded (member_process m vs e)
   member_guarded (leaf n) h vs e = event_guarded e (leaf_copy n vs)

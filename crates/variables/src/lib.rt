@@ -1,4 +1,5 @@
 #![tactic(auto)]
+
 ghost use Rattle.std.specs.Prelude.{◌≡◌, cond, ◌+◌, ◌<◌};
 ghost use Rattle.output.specs.Buffer.{buffer, put_all};
 ghost use Rattle.formulas.specs.Formulas.{is as is_of};

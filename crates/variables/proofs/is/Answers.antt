@@ -1,5 +1,4 @@
 -- The variable, the sign and the value, one after the other.
-use Rattle.std.proofs.Common.{rules}
 use Rattle.output.proofs.Buffers.{before}
 use Rattle.formulas.specs.Lines.{formula}
 use Rattle.variables.proofs.is.Goals as goal

@@ -1,5 +1,4 @@
 -- The parenthesis, the first formula and the connective, one after the other.
-use Rattle.std.proofs.Common.{rules}
 use Rattle.output.proofs.Buffers.{before}
 use Rattle.variables.proofs.lead.Goals as goal
 

@@ -1,5 +1,4 @@
 -- The mark, and then the word at the place of the name.
-use Rattle.std.proofs.Common.{rules}
 use Rattle.output.proofs.Buffers.{before, same_put}
 use Rattle.variables.specs.code.Spelled.{spelled}
 use mathlib.Core.Path.{◌∙◌}
