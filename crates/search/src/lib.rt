@@ -1,9 +1,10 @@
 #![tactic(auto)]
+
 ghost use Rattle.std.specs.Prelude.{◌≡◌, List, ℕ, ◌+◌, ◌-◌, ◌<◌, get_or, replicate};
 ghost use Rattle.columns.specs.declared.Nodes.{Nodes};
 ghost use Rattle.labels.specs.Values.{values as values_of, push as pushed};
 ghost use Rattle.labels.specs.Weights.{parts as parts_of, resets as resets_of, weight_by};
-ghost use Rattle.labels.specs.Seeks.{next, entered as EnteredOf, inside as inside_of, turn as turn_of, seek as seek_of, begin, spot_of};
+ghost use Rattle.labels.specs.Seeks.{next, entered as entered_of, inside as inside_of, turn as turn_of, seek as seek_of, begin, spot_of};
 ghost use Rattle.search.specs.code.Columns.{lent, nodes_from, weighed};
 
 use columns::Nodes;
@@ -113,7 +114,7 @@ pub fn weigh(c: Nodes) -> [usize; 256]
 
 // Into a node of this depth and size, whose member has these events.
 fn entered(depth: usize, size: u8, inner: usize, s: Search) -> Search
-    ensures { result ≡ EnteredOf depth size inner s }
+    ensures { result ≡ entered_of depth size inner s }
 {
     let values = s.values;
     if (size == 0) | (inner == 0) {

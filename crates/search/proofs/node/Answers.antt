@@ -1,5 +1,4 @@
 -- `search::node` meets its contract: one of the nodes, or none. Assumes nothing.
-use Rattle.std.proofs.Common.{rules}
 use mathlib.Core.Path.{sym, ap}
 use Rattle.labels.specs.Seeks.{next}
 use Rattle.search.specs.code.Columns.{lent}

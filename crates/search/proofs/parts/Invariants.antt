@@ -1,15 +1,11 @@
 -- `search::parts` meets its contract. The loop's invariant: the sum so far and the parts from node j on come to the whole sum. Its measure is what is left of
 -- the nodes. Assumes nothing.
-use mathlib.Core.Path.{◌≡◌, sym, ◌∙◌}
-use mathlib.Core.Logic.{⊎_elim}
-use mathlib.Core.List.{List}
-use Prim.Native.Nat.{ℕ, ◌+◌, ◌-◌, ◌≤◌, ◌<◌}
+use mathlib.Core.Path.{◌≡◌}
+use Prim.Native.Nat.{◌+◌, ◌-◌, ◌≤◌, ◌<◌}
 use lib.ListN.{get_or}
 use Rattle.columns.specs.declared.Nodes.{Nodes}
 use Rattle.labels.specs.Weights.{parts}
 use Rattle.search.specs.code.Columns.{nodes_from}
-use Rattle.search.proofs.Searched.{parts_stop, parts_done, parts_add, parts_skip}
-use native.Mathlib.Omega.{arith}
 use Rattle.search.proofs.parts.Given as goal
 
 abbrev pub invariant-loop-j : goal.invariant-loop-j

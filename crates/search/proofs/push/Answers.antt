@@ -1,5 +1,4 @@
 -- `search::push` meets its contract, by how many values there are. Assumes nothing.
-use Rattle.std.proofs.Common.{rules}
 use Rattle.labels.proofs.MoreValues.{push_first, push_second, push_third, push_more}
 use Rattle.search.proofs.push.Goals as goal
 

@@ -1,5 +1,4 @@
 -- `search::resets` meets its contract, by what the member is. Assumes nothing.
-use Rattle.std.proofs.Common.{rules}
 use Rattle.search.proofs.Searched.{no_member, no_reset, one_reset}
 use Rattle.search.proofs.resets.Goals as goal
 

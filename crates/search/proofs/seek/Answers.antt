@@ -1,10 +1,7 @@
 -- `search::seek` meets its contract. The loop's invariant: r is node i, and the search from it on finds what the whole search does. Its measure is what is left of the
 -- nodes. Assumes nothing.
-use Rattle.std.proofs.Common.{rules}
 use mathlib.Core.Path.{◌≡◌, ◌∙◌}
-use Prim.Native.Nat.{◌-◌, ◌≤◌}
-use Rattle.labels.specs.Seeks.{next, seek, begin}
-use Rattle.search.specs.code.Columns.{lent, nodes_from}
+use Prim.Native.Nat.{◌-◌}
 use Rattle.search.proofs.Searched.{seek_found, seek_on, seek_end}
 use native.Mathlib.Omega.{arith}
 use Rattle.search.proofs.seek.Goals as goal
@@ -18,16 +15,14 @@ loop-i-init c =
 pub returns-in-Found : goal.returns-in-Found
 returns-in-Found c =
     let l = c.loop-i in
-    let found = c.t-1.given in
-    seek_found _ _ l.i _ l.s c.loop-i-test.true l.invariant.1 c.node-q.ensures c.turn-t.ensures found.0.0 found.1 ∙ l.invariant.2
+    seek_found _ _ l.i _ l.s c.loop-i-test.true l.invariant.1 c.node-q.ensures c.turn-t.ensures c.in-Found.spot c.in-Found.is ∙ l.invariant.2
 
 pub loop-i-preserved : goal.loop-i-preserved
 loop-i-preserved c =
-    let l = c.loop-i in
-    let next = c.t-in-Go-1.given in (
+    let l = c.loop-i in (
       omega arith,
       c.node-q.ensures,
-      seek_on _ _ l.i _ l.s c.loop-i-test.true l.invariant.1 c.node-q.ensures c.turn-t.ensures next.0.0 next.1 ∙ l.invariant.2,
+      seek_on _ _ l.i _ l.s c.loop-i-test.true l.invariant.1 c.node-q.ensures c.turn-t.ensures c.in-Go.next c.in-Go.is ∙ l.invariant.2,
     )
 
 pub returns : goal.returns

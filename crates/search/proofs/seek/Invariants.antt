@@ -1,11 +1,9 @@
 -- `search::seek` meets its contract. The loop's invariant: r is node i, and the search from it on finds what the whole search does. Its measure is what is left of the
 -- nodes. Assumes nothing.
-use mathlib.Core.Path.{◌≡◌, ◌∙◌}
+use mathlib.Core.Path.{◌≡◌}
 use Prim.Native.Nat.{◌-◌, ◌≤◌}
 use Rattle.labels.specs.Seeks.{next, seek, begin}
 use Rattle.search.specs.code.Columns.{lent, nodes_from}
-use Rattle.search.proofs.Searched.{seek_found, seek_on, seek_end}
-use native.Mathlib.Omega.{arith}
 use Rattle.search.proofs.seek.Given as goal
 
 abbrev pub invariant-loop-i : goal.invariant-loop-i

@@ -1,5 +1,4 @@
 -- `search::turn` meets its contract, by the node's depth and how many events it has. Assumes nothing.
-use Rattle.std.proofs.Common.{rules}
 use mathlib.Core.Path.{sym, ◌∙◌}
 use native.Mathlib.Omega.{arith}
 use Rattle.labels.proofs.Steps.{turn_other, turn_past, turn_inside}

@@ -1,10 +1,8 @@
 -- `search::weigh` meets its contract. The loop's invariant: what is left to be done brings the column to its end. Its measure is how many nodes are left.
 -- Assumes nothing.
-use Rattle.std.proofs.Common.{rules}
-use mathlib.Core.Path.{◌≡◌, refl, ◌∙◌}
-use Prim.Native.Nat.{ℕ, ◌≤◌}
-use lib.ListN.{length, replicate, length-replicate}
-use Rattle.search.specs.code.Columns.{weighed}
+use mathlib.Core.Path.{refl, ◌∙◌}
+use Prim.Native.Nat.{ℕ}
+use lib.ListN.{length-replicate}
 use Rattle.search.proofs.Searched.{weighed_more, weighed_done}
 use native.Mathlib.Omega.{arith}
 use Rattle.search.proofs.weigh.Goals as goal
@@ -15,13 +13,13 @@ loop-i-init c = (omega arith, length-replicate {A = ℕ} 256 0, refl)
 pub loop-i-preserved : goal.loop-i-preserved
 loop-i-preserved c =
     let l = c.loop-i in
-    let g = c.args.t1 in (
+    let g = c.args.c in (
       omega arith,
-      c.put_number.auto.0 ∙ l.invariant.1,
+      c.put_number.auto.column ∙ l.invariant.1,
       rw c.put_number.ensures
-          (weighed_more g l.i l.weights-1 c.loop-i-test.true c.byte.ensures c.byte-in-loop-i.ensures (c.parts-n.ensures.value g refl)
-          (c.resets-reset.ensures g l.weights-1 refl) c.weight-w.ensures ∙ l.invariant.2),
+          (weighed_more g l.i l.weights c.loop-i-test.true c.byte.ensures c.byte-in-loop-i.ensures (c.parts-n.ensures.value g refl)
+          (c.resets-reset.ensures g l.weights refl) c.weight-w.ensures ∙ l.invariant.2),
     )
 
 pub returns : goal.returns
-returns c = let l = c.loop-i in weighed_done c.args.t1 l.i l.weights c.loop-i-test.false ∙ l.invariant.2
+returns c = let l = c.loop-i in weighed_done c.args.c l.i l.weights c.loop-i-test.false ∙ l.invariant.2

@@ -1,11 +1,9 @@
 -- `search::weigh` meets its contract. The loop's invariant: what is left to be done brings the column to its end. Its measure is how many nodes are left.
 -- Assumes nothing.
-use mathlib.Core.Path.{◌≡◌, refl, ◌∙◌}
-use Prim.Native.Nat.{ℕ, ◌≤◌}
-use lib.ListN.{length, replicate, length-replicate}
+use mathlib.Core.Path.{◌≡◌}
+use Prim.Native.Nat.{◌≤◌}
+use lib.ListN.{length, replicate}
 use Rattle.search.specs.code.Columns.{weighed}
-use Rattle.search.proofs.Searched.{weighed_more, weighed_done}
-use native.Mathlib.Omega.{arith}
 use Rattle.search.proofs.weigh.Given as goal
 
 abbrev pub invariant-loop-i : goal.invariant-loop-i

@@ -1,5 +1,4 @@
 -- `search::weight` meets its contract, by what the node is. Assumes nothing.
-use Rattle.std.proofs.Common.{rules}
 use Rattle.search.proofs.Searched.{weight_leaf, weight_loop, weight_parts, weight_copies, small_product}
 use Rattle.search.proofs.weight.Goals as goal
 
