@@ -22,7 +22,7 @@ loop-at-smaller c =
 pub loop-at-preserved : goal.loop-at-preserved
 loop-at-preserved c =
     let part = c.copy_part-n.ensures in
-    copied_more _ _ _ _ _ c.loop-at.invariant _ c.loop-at-test.true c.run_end-e.ensures _ _ _ part.0 part.1 c.gap-at-in-loop-at.ensures
+    copied_more _ _ _ _ _ c.loop-at.invariant _ c.loop-at-test.true c.run_end-e.ensures _ _ _ part.value part.out_after c.gap-at-in-loop-at.ensures
 
 pub shape_of-out : goal.shape_of-out
 shape_of-out c = ap length c.loop-at.invariant.done ∙ fill_length _ _
@@ -30,4 +30,4 @@ shape_of-out c = ap length c.loop-at.invariant.done ∙ fill_length _ _
 pub returns : goal.returns
 returns c =
     let l = c.loop-at.invariant in
-    (copied_all _ _ _ _ _ l c.loop-at-test.false, copied_out _ _ _ _ _ l c.loop-at-test.false)
+    record { value = copied_all _ _ _ _ _ l c.loop-at-test.false; out_after = copied_out _ _ _ _ _ l c.loop-at-test.false }

@@ -27,7 +27,4 @@ shape_of-out c = c.loop-i.invariant.size
 pub returns : goal.returns
 returns c =
     let l = c.loop-i in
-    let a = c.args in (
-      omega (arith, l.invariant.count, l.invariant.begun, l.invariant.inside, c.loop-i-test.false),
-      sym (over_none a.text.now l.i a.e l.out l.m c.loop-i-test.false) ∙ l.invariant.bytes,
-    )
+    let a = c.args in record { value = omega (arith, l.invariant.count, l.invariant.begun, l.invariant.inside, c.loop-i-test.false); out_after = sym (over_none a.text.now l.i a.e l.out l.m c.loop-i-test.false) ∙ l.invariant.bytes }

@@ -5,7 +5,8 @@ use Rattle.printer.proofs.print.Goals as goal
 pub returns-then-out-lt16384 : goal.returns-then-out-lt16384
 returns-then-out-lt16384 c =
     let a = c.args in
-    short_answers a.text.now a.out.now c.if-out-lt16384.true
+    let told = short_answers a.text.now a.out.now c.if-out-lt16384.true in
+    record { value = told.0; out_after = told.1 }
 
 pub print_read-requires : goal.print_read-requires
 print_read-requires c =
@@ -16,4 +17,5 @@ pub returns : goal.returns
 returns c =
     let p = c.print_read in
     let a = c.args in
-    long_answers a.text.now a.out-1.now p.new.1.0 _ p.result c.if-out-lt16384.false c.read-o.ensures p.ensures
+    let told = long_answers a.text.now a.out.now p.new.out _ p.result c.if-out-lt16384.false c.read-o.ensures (p.ensures.value, p.ensures.out_after) in
+    record { value = told.0; out_after = told.1 }
