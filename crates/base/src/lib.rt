@@ -1,4 +1,5 @@
 #![tactic(auto)]
+
 ghost use Rattle.std.specs.Prelude.{◌≡◌, ◌^◌, ◌<◌, get_or, set};
 ghost use Rattle.base.specs.Equal.{same};
 ghost use Rattle.base.specs.Packed.{field, put_word as put_word_of};

@@ -1,4 +1,5 @@
 #![tactic(auto)]
+
 ghost use Rattle.std.specs.Prelude.{◌≡◌, [], ◌∷◌, ℕ, ◌+◌, ◌*◌, ◌-◌, ◌<◌};
 ghost use Rattle.tokens.specs.Token.{Sign, opening, closing as closing_sign, colon, sign_code};
 ghost use Rattle.grammar.specs.Machine.{sign as sign_of, named, number, params};

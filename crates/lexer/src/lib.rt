@@ -1,4 +1,5 @@
 #![tactic(auto)]
+
 ghost use Rattle.std.specs.Prelude.{◌≡◌, cond, ◌+◌, ◌-◌, ◌≤◌, ◌<◌, get_or, length, take, drop};
 ghost use Rattle.diagram.specs.Names.{same as alike};
 ghost use Rattle.tokens.specs.Classes.{between, class_of, within, worded as worded_byte, unbroken};

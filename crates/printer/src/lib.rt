@@ -1,4 +1,5 @@
 #![tactic(auto)]
+
 ghost use Rattle.std.specs.Prelude.{◌≡◌, ◌+◌, ◌-◌, ◌≤◌, length, take, drop};
 ghost use Rattle.base.specs.Fill.{fill};
 ghost use Rattle.lexer.specs.Lexicon.{Lexicon};

@@ -1,4 +1,5 @@
 #![tactic(auto)]
+
 ghost use Rattle.std.specs.Prelude.{◌≡◌, List, ℕ, ◌≤◌, ◌<◌, length, get_or};
 ghost use Rattle.lexer.specs.Lexicon.{Lexicon};
 ghost use Rattle.diagram.specs.TreeNodes.{TextNode};

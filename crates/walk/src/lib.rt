@@ -1,4 +1,5 @@
 #![tactic(auto)]
+
 ghost use Rattle.std.specs.Prelude.{◌≡◌, ◌<◌};
 ghost use Rattle.grammar.specs.Machine.{root, member, child, flow_parts, group_parts, loop_parts};
 ghost use Rattle.grammar.specs.code.Coded.{coded_parts};

@@ -9,8 +9,11 @@ returns-then-n-gt3 c = record { n_bound = λ e. absurd (false≢true e); by_inde
 
 pub returns-then-c-eq7 : goal.returns-then-c-eq7
 returns-then-c-eq7 c =
-    record { n_bound = λ e. c.if-n-gt3.false; by_index = λ count t h a. asked_flow t h _ _ a c.if-n-gt3.false c.told-c.ensures.0 c.if-c-eq7.true c.told.ensures.0
-          c.listed.ensures }
+    record {
+      n_bound = λ e. c.if-n-gt3.false;
+      by_index = λ count t h a. asked_flow t h _ _ a c.if-n-gt3.false c.told-c.ensures.0 c.if-c-eq7.true c.told.ensures.0
+          c.listed.ensures;
+    }
 
 pub returns-then-c-lt12 : goal.returns-then-c-lt12
 returns-then-c-lt12 c =
@@ -22,5 +25,8 @@ returns-then-c-gt14 c =
 
 pub returns : goal.returns
 returns c =
-    record { n_bound = λ e. c.if-n-gt3.false; by_index = λ count t h a. asked_copying t h _ _ a c.if-n-gt3.false c.told-c.ensures.0 c.if-c-eq7.false c.if-c-lt12.false c.if-c-gt14.false
-          c.told-2.ensures.0 c.fresh.ensures }
+    record {
+      n_bound = λ e. c.if-n-gt3.false;
+      by_index = λ count t h a. asked_copying t h _ _ a c.if-n-gt3.false c.told-c.ensures.0 c.if-c-eq7.false c.if-c-lt12.false c.if-c-gt14.false
+          c.told-2.ensures.0 c.fresh.ensures;
+    }

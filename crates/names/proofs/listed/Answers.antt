@@ -56,12 +56,11 @@ returns-then-p-eq0 c = λ at ps ns e l a.
     c.if-n-k.false c.told.ensures.0 (c.again-p.ensures ended.0 ended.1) c.if-p-eq0.true
 
 pub loop-n-preserved : goal.loop-n-preserved
-loop-n-preserved c =
-    (
-      omega arith,
-      λ at ps ns e l a.
-          let ended = par_ended a c.if-n-k.false c.told.ensures.0 c.told-in-loop-n.ensures.0 in
-          read_next (c.loop-n.invariant.1 at ps ns e l a) c.gap-comma.ensures c.gap-par.ensures (c.class.ensures ∙ ap class_of c.byte.ensures)
-          c.if-class-ne5.false
-          c.if-n-k.false c.told.ensures.0 (c.again-p.ensures ended.0 ended.1) c.if-p-eq0.false,
-    )
+loop-n-preserved c = (
+  omega arith,
+  λ at ps ns e l a.
+      let ended = par_ended a c.if-n-k.false c.told.ensures.0 c.told-in-loop-n.ensures.0 in
+      read_next (c.loop-n.invariant.1 at ps ns e l a) c.gap-comma.ensures c.gap-par.ensures (c.class.ensures ∙ ap class_of c.byte.ensures)
+      c.if-class-ne5.false
+      c.if-n-k.false c.told.ensures.0 (c.again-p.ensures ended.0 ended.1) c.if-p-eq0.false,
+)

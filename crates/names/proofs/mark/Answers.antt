@@ -16,7 +16,10 @@ mixed-requires c =
 
 pub returns : goal.returns
 returns c =
-    record { upper_bound = c.mixed.ensures.1; value = λ e.
+    record {
+      upper_bound = c.mixed.ensures.1;
+      value = λ e.
           mark_is _ _ e c.if-end-at.false refl c.wide.ensures.0 c.wide-2.ensures.0 c.from_end-a.ensures.0
           c.from_end-b.ensures.0
-          c.from_end-c.ensures.0 c.mixed.ensures.0 }
+          c.from_end-c.ensures.0 c.mixed.ensures.0;
+    }

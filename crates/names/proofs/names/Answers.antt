@@ -24,12 +24,12 @@ returns-then-taken c =
     let title : titled_at c.args.rows.now c.loop-i.i ≡ true = rw c.told.ensures.0 at (sym c.titled.ensures ∙ c.if-titled.true) in
     let back : c.loop-i.i + 1 - 1 ≡ c.loop-i.i = omega arith in
     record {
-        upper_bound = omega arith;
-        result_value = λ some. rw back title;
-        hs_value = λ t.
-            let mark = its_mark t c.loop-i.i h title c.told-at.ensures.0 c.told-then-titled.ensures.0 c.mark-s.ensures.value in
-            let found = found_by_links (c.loop-i.invariant.2 t).0 c.told-at.ensures.0 mark c.mark-s.ensures.upper_bound c.wide_short.ensures.0 in
-            name_twice t h (c.loop-i.invariant.2 t).1 title (found c.taken.ensures) c.if-taken.true;
+      upper_bound = omega arith;
+      result_value = λ some. rw back title;
+      hs_value = λ t.
+          let mark = its_mark t c.loop-i.i h title c.told-at.ensures.0 c.told-then-titled.ensures.0 c.mark-s.ensures.value in
+          let found = found_by_links (c.loop-i.invariant.2 t).0 c.told-at.ensures.0 mark c.mark-s.ensures.upper_bound c.wide_short.ensures.0 in
+          name_twice t h (c.loop-i.invariant.2 t).1 title (found c.taken.ensures) c.if-taken.true;
     }
 
 pub loop-i-preserved-then-titled : goal.loop-i-preserved-then-titled

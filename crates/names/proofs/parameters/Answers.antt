@@ -21,8 +21,11 @@ kept-requires c =
 pub returns-then-not-kept : goal.returns-then-not-kept
 returns-then-not-kept c =
     let l = c.loop-i in
-    let h = c.loop-i-test.true in record { upper_bound = omega arith; hs_value = λ t. search_broken (l.invariant.2 t).1 (omega (arith, t.many))
-          (c.kept.ensures.by_index _ t h (around_here t h l.invariant.1 (l.invariant.2 t).0 c.depth-d.ensures.1 refl)) (ap not c.if-not-kept.true) }
+    let h = c.loop-i-test.true in record {
+      upper_bound = omega arith;
+      hs_value = λ t. search_broken (l.invariant.2 t).1 (omega (arith, t.many))
+          (c.kept.ensures.by_index _ t h (around_here t h l.invariant.1 (l.invariant.2 t).0 c.depth-d.ensures.1 refl)) (ap not c.if-not-kept.true);
+    }
 
 pub offset_bounds-pars-n : goal.offset_bounds-pars-n
 offset_bounds-pars-n c = omega (arith, c.kept.ensures.n_bound c.if-not-kept.false)

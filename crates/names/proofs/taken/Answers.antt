@@ -20,14 +20,13 @@ loop-j-smaller c =
     omega (arith, c.wide_short-j.ensures.0, c.requires.1.each (c.loop-j.j - 1))
 
 pub loop-j-preserved : goal.loop-j-preserved
-loop-j-preserved c =
-    (
-      omega (arith, c.wide_short-j.ensures.0, c.requires.1.each (c.loop-j.j - 1), c.loop-j.invariant.0),
-      λ i k e.
-          chain_next (c.loop-j.invariant.1 i k e) c.loop-j-test.true c.told.ensures.0 c.same.ensures
-          c.if-same.false k
-          c.wide_short-j.ensures.0,
-    )
+loop-j-preserved c = (
+  omega (arith, c.wide_short-j.ensures.0, c.requires.1.each (c.loop-j.j - 1), c.loop-j.invariant.0),
+  λ i k e.
+      chain_next (c.loop-j.invariant.1 i k e) c.loop-j-test.true c.told.ensures.0 c.same.ensures
+      c.if-same.false k
+      c.wide_short-j.ensures.0,
+)
 
 pub returns : goal.returns
 returns c = λ i l e. chain_end (c.loop-j.invariant.1 i l e) c.loop-j-test.false

@@ -11,5 +11,8 @@ pub returns-then-c-gt14 : goal.returns-then-c-gt14
 returns-then-c-gt14 c = record { value = rw (← c.told-c.ensures.0, between_high 12 14 c.told-c.result c.if-c-gt14.true); upper_bound = omega arith }
 
 pub returns : goal.returns
-returns c = record { value = c.told.ensures.0
-      ∙ rw (← c.told-c.ensures.0, between_in 12 14 c.told-c.result c.if-c-lt12.false c.if-c-gt14.false); upper_bound = c.told.ensures.1 }
+returns c = record {
+  value = c.told.ensures.0
+      ∙ rw (← c.told-c.ensures.0, between_in 12 14 c.told-c.result c.if-c-lt12.false c.if-c-gt14.false);
+  upper_bound = c.told.ensures.1;
+}

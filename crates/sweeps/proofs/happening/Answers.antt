@@ -16,11 +16,17 @@ returns-then-count-next c =
 
 pub returns-then-told-ne7 : goal.returns-then-told-ne7
 returns-then-told-ne7 c =
-    record { upper_bound = omega arith; by_index = λ text t. event_no_flow t c.requires.0 _ c.told-c.ensures.0 c.if-c-eq8.false
+    record {
+      upper_bound = omega arith;
+      by_index = λ text t. event_no_flow t c.requires.0 _ c.told-c.ensures.0 c.if-c-eq8.false
           c.if-c-ne15.false
-          c.if-count-next.false c.told.ensures.0 c.if-told-ne7.true }
+          c.if-count-next.false c.told.ensures.0 c.if-told-ne7.true;
+    }
 
 pub returns : goal.returns
 returns c =
-    record { upper_bound = omega arith; by_index = λ text t. event_flow t c.requires.0 _ c.told-c.ensures.0 c.if-c-eq8.false c.if-c-ne15.false
-          c.if-count-next.false c.told.ensures.0 c.if-told-ne7.false }
+    record {
+      upper_bound = omega arith;
+      by_index = λ text t. event_flow t c.requires.0 _ c.told-c.ensures.0 c.if-c-eq8.false c.if-c-ne15.false
+          c.if-count-next.false c.told.ensures.0 c.if-told-ne7.false;
+    }
