@@ -4,7 +4,7 @@ use mathlib.Core.Bool.{Bool, true, false, false≢true}
 use mathlib.Core.List.{List, [], ◌∷◌, ◌++◌}
 use Prim.Native.Nat.{ℕ, zero, suc}
 use native.Mathlib.Omega.{arith}
-use Rattle.diagram.specs.Tree.{Name, flow, Children, Child, plain, loop, group, replicator, Member, leaf, inner, Members}
+use Rattle.diagram.specs.Tree.{Name, Children, Child, plain, loop, group, replicator, Member, leaf, inner, Members}
 use Rattle.tokens.specs.Classes.{between}
 use Rattle.tokens.specs.Token.{closing, comma, Keyword, Token, name, numeral, named}
 use Rattle.tokens.proofs.Between.{in_range}

@@ -9,7 +9,6 @@ use native.Mathlib.Omega.{arith}
 use lib.Dec.{eqb}
 use lib.ListN.{length, get_or}
 use borrow.Author.Tests.{eqb-true, lt-ltb, ltb-true, le-leb}
-use Rattle.base.specs.Text.{bytes}
 use Rattle.diagram.specs.Tree.{Name, all, some, one}
 use Rattle.diagram.specs.Names.{same}
 use Rattle.base.proofs.Truth.{clash, by_cases, and_l, and_i}

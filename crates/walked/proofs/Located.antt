@@ -11,7 +11,7 @@ use Rattle.tokens.specs.Rest.{rest}
 use Rattle.tokens.proofs.Steps as Steps
 use Rattle.grammar.specs.Machine as Machine
 use Rattle.grammar.specs.Machine.{Want, Move, off, big, push, node, root, depths, expand, run, outcome}
-use Rattle.walked.specs.Walk.{State, state, effect, End, stop, proceed, walk, ending, unwritten, placed_by}
+use Rattle.walked.specs.Walk.{State, state, effect, End, proceed, walk, ending, unwritten, placed_by}
 
 -- The tokens of a text are those from its start on.
 pub rest_start : (text : List ℕ) → rest text 0 ≡ spans_of text

@@ -1,9 +1,6 @@
 -- `base::equal` meets its contract. The loop's invariant: the first i bytes are the same. Its measure is how many are left. Assumes nothing.
 use Rattle.std.proofs.Common.{rules}
-use mathlib.Core.Path.{◌≡◌}
-use Prim.Native.Nat.{◌-◌, ◌≤◌}
 use native.Mathlib.Omega.{arith}
-use lib.ListN.{length, take}
 use Rattle.base.proofs.Compared.{other_length, other_byte, one_more, all_same}
 use Rattle.base.proofs.equal.Goals as goal
 

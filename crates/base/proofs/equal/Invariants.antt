@@ -1,9 +1,7 @@
 -- `base::equal` meets its contract. The loop's invariant: the first i bytes are the same. Its measure is how many are left. Assumes nothing.
 use mathlib.Core.Path.{◌≡◌}
 use Prim.Native.Nat.{◌-◌, ◌≤◌}
-use native.Mathlib.Omega.{arith}
 use lib.ListN.{length, take}
-use Rattle.base.proofs.Compared.{other_length, other_byte, one_more, all_same}
 use Rattle.base.proofs.equal.Given as goal
 
 abbrev pub invariant-loop-i : goal.invariant-loop-i

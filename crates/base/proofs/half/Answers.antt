@@ -1,5 +1,4 @@
 -- `base::half` meets its contract: two bytes, one after the other, and each is below 256; past the end there are only zeros.
-use Rattle.std.proofs.Common.{rules}
 use mathlib.Core.Path.{◌∙◌}
 use native.Mathlib.Omega.{arith}
 use Rattle.base.proofs.Fields.{field_past, field_one, field_more}

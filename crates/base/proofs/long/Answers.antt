@@ -1,5 +1,4 @@
 -- `base::long` meets its contract: two words make the number; past the end there are only zeros.
-use Rattle.std.proofs.Common.{rules}
 use Rattle.base.proofs.Fields.{field_past, eight}
 use Rattle.base.proofs.long.Goals as goal
 

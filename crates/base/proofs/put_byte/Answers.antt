@@ -1,5 +1,4 @@
 -- `base::put_byte` meets its contract: past the end nothing is set.
-use Rattle.std.proofs.Common.{rules}
 use mathlib.Core.Path.{sym}
 use lib.Seq.{set_out}
 use native.Mathlib.Omega.{arith}

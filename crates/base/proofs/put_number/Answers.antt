@@ -1,5 +1,4 @@
 -- `base::put_number` meets its contract: past the end nothing is set.
-use Rattle.std.proofs.Common.{rules}
 use mathlib.Core.Path.{sym}
 use lib.Seq.{set_out}
 use Rattle.base.proofs.put_number.Goals as goal

@@ -1,5 +1,4 @@
 -- `base::put_word` meets its contract: four bytes, one after the other; past the end nothing is stored.
-use Rattle.std.proofs.Common.{rules}
 use Rattle.base.proofs.Fields.{word_put, word_past}
 use Rattle.base.proofs.put_word.Goals as goal
 

@@ -1,5 +1,4 @@
 -- `base::short` meets its contract: past the end there are only zeros.
-use Rattle.std.proofs.Common.{rules}
 use mathlib.Core.Path.{sym}
 use lib.ListN.{get_or-eq_default}
 use Rattle.base.proofs.short.Goals as goal

@@ -1,5 +1,4 @@
 -- `base::word` meets its contract: two halves make a word, and each is below 65,536; past the end there are only zeros.
-use Rattle.std.proofs.Common.{rules}
 use native.Mathlib.Omega.{arith}
 use Rattle.base.proofs.Fields.{field_past, four}
 use Rattle.base.proofs.word.Goals as goal

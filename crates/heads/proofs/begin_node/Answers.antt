@@ -1,5 +1,4 @@
 -- `heads::begin_node` meets its contract: the tests of the machine at a node's keyword, and its row.
-use Rattle.std.proofs.Common.{rules}
 use native.Mathlib.Omega.{arith}
 use mathlib.Core.Path.{refl}
 use Rattle.walked.proofs.Laws.{go_not_stop, starts, off_grammar, over_limit, opens, node_below, node_above, node_deep, node_many}

@@ -1,5 +1,4 @@
 -- `heads::begin_row` meets its contract: three stores.
-use Rattle.std.proofs.Common.{rules}
 use native.Mathlib.Omega.{arith}
 use Rattle.walked.specs.Walk.{begun}
 use mathlib.Core.Path.{◌≡◌}

@@ -1,5 +1,4 @@
 -- `heads::closing` meets its contract: the class of the byte after the gap tells a `)`.
-use Rattle.std.proofs.Common.{rules}
 use native.Mathlib.Omega.{arith}
 use Rattle.lexer.proofs.Positions.{no_token, sign_here, other_token}
 use Rattle.walked.proofs.Laws.{none_closing, is_closing}

@@ -1,5 +1,4 @@
 -- `heads::mark` meets its contract: past the last row there is nothing to store into.
-use Rattle.std.proofs.Common.{rules}
 use native.Mathlib.Omega.{arith}
 use Prim.Native.Nat.{◌+◌, ◌*◌}
 use borrow.Author.Tests.{lt-ltb, le-ltb}

@@ -1,5 +1,4 @@
 -- `heads::read_copies` meets its contract: a par, `:` and a size in parentheses.
-use Rattle.std.proofs.Common.{rules}
 use mathlib.Core.Path.{refl}
 use Rattle.tokens.specs.Token.{colon}
 use Rattle.walked.proofs.Laws.{starts, halts, goes, ends}

@@ -1,5 +1,4 @@
 -- `heads::read_flow_head` meets its contract: a name, pars and sw, and the `(` before the children.
-use Rattle.std.proofs.Common.{rules}
 use mathlib.Core.Path.{refl}
 use Rattle.tokens.specs.Token.{opening}
 use Rattle.walked.proofs.Laws.{starts, halts, goes, ends}

@@ -1,5 +1,4 @@
 -- `heads::read_leaf` meets its contract: a name in parentheses.
-use Rattle.std.proofs.Common.{rules}
 use mathlib.Core.Path.{refl}
 use Rattle.tokens.specs.Token.{closing}
 use Rattle.walked.proofs.Laws.{starts, halts, goes, ends}

@@ -1,5 +1,4 @@
 -- `heads::read_name` meets its contract.
-use Rattle.std.proofs.Common.{rules}
 use native.Mathlib.Omega.{arith}
 use Rattle.walked.specs.code.Coded.{coded_effect}
 use Rattle.walked.proofs.Laws.{starts, closes, off_grammar, name_takes, name_other}

@@ -1,5 +1,4 @@
 -- `heads::read_named` meets its contract: a sign and a name.
-use Rattle.std.proofs.Common.{rules}
 use mathlib.Core.Path.{refl}
 use Rattle.tokens.specs.Token.{opening}
 use Rattle.walked.proofs.Laws.{starts, halts, goes, ends}

@@ -1,15 +1,11 @@
 -- `heads::read_params` meets its contract. The loop's invariant: from the first comma to the next one nothing but pars was taken. Its measure is what
 -- is left of the text.
-use native.Mathlib.Omega.{arith}
-use mathlib.Core.Path.{refl}
 use mathlib.Core.List.{List, [], ◌∷◌}
 use Prim.Native.Nat.{ℕ, ◌-◌}
 use lib.ListN.{length}
-use Rattle.tokens.specs.Token.{closing}
 use Rattle.grammar.specs.Machine.{params}
 use Rattle.walked.specs.Walk.{state}
-use Rattle.walked.specs.code.Coded.{coded_effect}
-use Rattle.walked.proofs.Laws.{Leads, starts, ends, off_grammar, taken, comma_takes, comma_other, sw_below, sw_above, par_taken, sw_taken}
+use Rattle.walked.proofs.Laws.{Leads}
 use Rattle.heads.proofs.read_params.Given as goal
 
 abbrev pub invariant-loop-comma : goal.invariant-loop-comma

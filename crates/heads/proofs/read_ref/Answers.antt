@@ -1,5 +1,4 @@
 -- `heads::read_ref` meets its contract: the number of a ref is the solid mark of the child that waits.
-use Rattle.std.proofs.Common.{rules}
 use mathlib.Core.Path.{refl}
 use Rattle.tokens.specs.Token.{opening, closing}
 use Rattle.walked.specs.code.Coded.{coded_effect}

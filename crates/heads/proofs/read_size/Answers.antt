@@ -1,5 +1,4 @@
 -- `heads::read_size` meets its contract: a number from 1 to 16 is written, and the `)`.
-use Rattle.std.proofs.Common.{rules}
 use mathlib.Core.Path.{refl}
 use Rattle.tokens.specs.Token.{closing}
 use Rattle.walked.specs.code.Coded.{coded_effect}

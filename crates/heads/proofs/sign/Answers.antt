@@ -1,5 +1,4 @@
 -- `heads::sign` meets its contract: the class of the byte after the gap tells the sign.
-use Rattle.std.proofs.Common.{rules}
 use native.Mathlib.Omega.{arith}
 use mathlib.Core.Path.{refl, sym, ◌∙◌}
 use Rattle.tokens.specs.Token.{sign_code}

@@ -1,5 +1,4 @@
 -- `lexer::class` meets its contract by the rule of the table.
-use Rattle.std.proofs.Common.{rules}
 use Rattle.lexer.proofs.Rows.{class_in}
 use Rattle.lexer.proofs.class.Goals as goal
 

@@ -1,5 +1,4 @@
 -- `lexer::digit` meets its contract, one law for each way out.
-use Rattle.std.proofs.Common.{rules}
 use Rattle.tokens.proofs.Between.{between_in, between_low, between_high}
 use Rattle.lexer.proofs.digit.Goals as goal
 

@@ -1,10 +1,7 @@
 -- `lexer::first_long` meets its contract. The loop's invariant: no token before `at` is long.
-use Rattle.std.proofs.Common.{rules}
-use Prim.Native.Nat.{◌-◌}
 use native.Mathlib.Omega.{arith}
-use lib.ListN.{length}
 use Rattle.lexer.proofs.Ways.{end_after, less_left}
-use Rattle.lexer.proofs.Along.{SoFar, long_in, long_start, long_here, short_again, short_all}
+use Rattle.lexer.proofs.Along.{long_start, long_here, short_again, short_all}
 use Rattle.lexer.proofs.first_long.Goals as goal
 
 pub loop-at-init : goal.loop-at-init

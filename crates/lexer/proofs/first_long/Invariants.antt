@@ -1,9 +1,7 @@
 -- `lexer::first_long` meets its contract. The loop's invariant: no token before `at` is long.
 use Prim.Native.Nat.{◌-◌}
-use native.Mathlib.Omega.{arith}
 use lib.ListN.{length}
-use Rattle.lexer.proofs.Ways.{end_after, less_left}
-use Rattle.lexer.proofs.Along.{SoFar, long_in, long_start, long_here, short_again, short_all}
+use Rattle.lexer.proofs.Along.{SoFar, long_in}
 use Rattle.lexer.proofs.first_long.Given as goal
 
 abbrev pub invariant-loop-at : goal.invariant-loop-at

@@ -1,9 +1,6 @@
 -- `lexer::foreign` meets its contract. The loop's invariant: no token before `place` is a foreign byte.
-use Rattle.std.proofs.Common.{rules}
-use Prim.Native.Nat.{◌-◌}
-use lib.ListN.{length}
 use Rattle.lexer.proofs.Ways.{less_left}
-use Rattle.lexer.proofs.Along.{SoFar, foreign_of, usual_start, foreign_here, usual_again, usual_all}
+use Rattle.lexer.proofs.Along.{usual_start, foreign_here, usual_again, usual_all}
 use Rattle.lexer.proofs.foreign.Goals as goal
 
 pub loop-place-init : goal.loop-place-init

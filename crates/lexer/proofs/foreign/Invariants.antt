@@ -1,8 +1,7 @@
 -- `lexer::foreign` meets its contract. The loop's invariant: no token before `place` is a foreign byte.
 use Prim.Native.Nat.{◌-◌}
 use lib.ListN.{length}
-use Rattle.lexer.proofs.Ways.{less_left}
-use Rattle.lexer.proofs.Along.{SoFar, foreign_of, usual_start, foreign_here, usual_again, usual_all}
+use Rattle.lexer.proofs.Along.{SoFar, foreign_of}
 use Rattle.lexer.proofs.foreign.Given as goal
 
 abbrev pub invariant-loop-place : goal.invariant-loop-place

@@ -1,9 +1,6 @@
 -- `lexer::gap` meets its contract. The loop's invariant: what is skipped from `at` on ends where it ends from `i` on, and no blank stands at i.
-use Rattle.std.proofs.Common.{rules}
-use Prim.Native.Nat.{◌-◌}
 use native.Mathlib.Omega.{arith}
-use lib.ListN.{length}
-use Rattle.lexer.proofs.Gaps.{Reached, reached_start, reached_more, reached_stop, reached_end}
+use Rattle.lexer.proofs.Gaps.{reached_start, reached_more, reached_stop, reached_end}
 use Rattle.lexer.proofs.gap.Goals as goal
 
 pub loop-i-init : goal.loop-i-init

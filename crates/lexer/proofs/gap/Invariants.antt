@@ -1,8 +1,7 @@
 -- `lexer::gap` meets its contract. The loop's invariant: what is skipped from `at` on ends where it ends from `i` on, and no blank stands at i.
 use Prim.Native.Nat.{◌-◌}
-use native.Mathlib.Omega.{arith}
 use lib.ListN.{length}
-use Rattle.lexer.proofs.Gaps.{Reached, reached_start, reached_more, reached_stop, reached_end}
+use Rattle.lexer.proofs.Gaps.{Reached}
 use Rattle.lexer.proofs.gap.Given as goal
 
 abbrev pub invariant-loop-i : goal.invariant-loop-i

@@ -4,7 +4,7 @@ use Prim.Native.Nat.{◌-◌}
 use native.Mathlib.Omega.{arith}
 use lib.ListN.{take, drop}
 use Rattle.tokens.proofs.WordCodes.{part_length}
-use Rattle.lexer.proofs.Rows.{Left, all_left, fits, found, onward, none_left, too_long}
+use Rattle.lexer.proofs.Rows.{all_left, fits, found, onward, none_left, too_long}
 use Rattle.lexer.proofs.keyword.Goals as goal
 
 pub returns-then-n-gt14 : goal.returns-then-n-gt14

@@ -1,9 +1,7 @@
 -- `lexer::keyword` meets its contract. The loop's invariant: the rows from `row` on are left to look at.
 use Prim.Native.Nat.{◌-◌}
-use native.Mathlib.Omega.{arith}
 use lib.ListN.{take, drop}
-use Rattle.tokens.proofs.WordCodes.{part_length}
-use Rattle.lexer.proofs.Rows.{Left, all_left, fits, found, onward, none_left, too_long}
+use Rattle.lexer.proofs.Rows.{Left}
 use Rattle.lexer.proofs.keyword.Given as goal
 
 abbrev pub invariant-loop-row : goal.invariant-loop-row

@@ -1,5 +1,4 @@
 -- `lexer::letter` meets its contract, one law for each way out.
-use Rattle.std.proofs.Common.{rules}
 use mathlib.Core.Path.{sym, ◌∙◌}
 use Rattle.tokens.proofs.WordAt.{letter_none, letter_some}
 use Rattle.lexer.proofs.letter.Goals as goal

@@ -1,5 +1,4 @@
 -- `lexer::lexicon` meets its contract: the classes by one test over all 256, and the words, both of which antt computes.
-use Rattle.std.proofs.Common.{rules}
 use mathlib.Core.Path.{◌≡◌, refl}
 use mathlib.Core.Bool.{Bool, true}
 use mathlib.Core.List.{List}

@@ -1,5 +1,4 @@
 -- `lexer::next` meets its contract: nothing, a sign by its class, or a word by its end.
-use Rattle.std.proofs.Common.{rules}
 use Rattle.lexer.proofs.Positions.{no_token, sign_here, word_here, word_token}
 use Rattle.lexer.proofs.next.Goals as goal
 

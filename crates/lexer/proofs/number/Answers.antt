@@ -1,5 +1,4 @@
 -- `lexer::number` meets its contract, one law for each way out.
-use Rattle.std.proofs.Common.{rules}
 use Rattle.lexer.proofs.Rows.{is_numeral, is_keyword, is_long, is_name}
 use Rattle.lexer.proofs.number.Goals as goal
 

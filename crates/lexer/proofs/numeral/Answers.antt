@@ -1,5 +1,4 @@
 -- `lexer::numeral` meets its contract: by the number of its bytes.
-use Rattle.std.proofs.Common.{rules}
 use mathlib.Core.Path.{sym, ap, ◌∙◌}
 use native.Mathlib.Numerals.{add-one}
 use native.Mathlib.Omega.{arith}

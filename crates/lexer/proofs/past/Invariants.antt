@@ -1,11 +1,9 @@
 -- `lexer::past` meets its contract. The loop's invariant: the same place is reached from `at` and from `i`.
 use Prim.Native.Nat.{◌+◌, ◌-◌}
-use mathlib.Core.Path.{◌≡◌, refl, sym, ◌∙◌}
+use mathlib.Core.Path.{◌≡◌}
 use lib.ListN.{length, drop}
 use Rattle.tokens.specs.Classes.{within}
 use Rattle.tokens.specs.Words.{front}
-use Rattle.tokens.proofs.Front.{front_end, front_stop, front_more}
-use Rattle.tokens.proofs.Between.{between_in, between_low, between_high}
 use Rattle.lexer.proofs.past.Given as goal
 
 abbrev pub invariant-loop-i : goal.invariant-loop-i

@@ -1,12 +1,9 @@
 -- `lexer::remark_end` meets its contract. The loop's invariant: the same place is reached from `at` and from `i`.
 use Prim.Native.Nat.{◌+◌, ◌-◌}
-use mathlib.Core.Path.{◌≡◌, refl, sym, ◌∙◌}
-use native.Mathlib.Omega.{arith}
-use lib.ListN.{length, drop, get_or}
+use mathlib.Core.Path.{◌≡◌}
+use lib.ListN.{length, drop}
 use Rattle.tokens.specs.Classes.{between}
 use Rattle.tokens.specs.Words.{front}
-use Rattle.tokens.proofs.Front.{front_end, front_stop, front_more}
-use Rattle.tokens.proofs.Between.{between_in, between_low, between_high}
 use Rattle.lexer.proofs.remark_end.Given as goal
 
 abbrev pub invariant-loop-i : goal.invariant-loop-i

@@ -1,7 +1,6 @@
 -- `lexer::row_is` meets its contract. The loop's invariant: the first i letters are the same.
-use Rattle.std.proofs.Common.{rules}
-use mathlib.Core.Path.{◌≡◌, refl}
-use Prim.Native.Nat.{◌+◌, ◌-◌, ◌≤◌}
+use mathlib.Core.Path.{refl}
+use Prim.Native.Nat.{◌+◌}
 use native.Mathlib.Omega.{arith}
 use lib.ListN.{take, drop}
 use Rattle.lexer.proofs.Rows.{byte_differs, byte_more, bytes_same, other_size, same_size}

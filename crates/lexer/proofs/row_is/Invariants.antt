@@ -1,9 +1,7 @@
 -- `lexer::row_is` meets its contract. The loop's invariant: the first i letters are the same.
-use mathlib.Core.Path.{◌≡◌, refl}
+use mathlib.Core.Path.{◌≡◌}
 use Prim.Native.Nat.{◌+◌, ◌-◌, ◌≤◌}
-use native.Mathlib.Omega.{arith}
 use lib.ListN.{take, drop}
-use Rattle.lexer.proofs.Rows.{byte_differs, byte_more, bytes_same, other_size, same_size}
 use Rattle.lexer.proofs.row_is.Given as goal
 
 abbrev pub invariant-loop-i : goal.invariant-loop-i

@@ -1,10 +1,6 @@
 -- `lexer::same` meets its contract. The loop's invariant: what is left of the two words decides.
 use Rattle.std.proofs.Common.{rules}
-use Prim.Native.Nat.{◌-◌}
-use mathlib.Core.Path.{◌≡◌, refl, sym, ◌∙◌}
-use lib.ListN.{length}
-use Rattle.diagram.specs.Names.{same}
-use Rattle.tokens.specs.Words.{word_at}
+use mathlib.Core.Path.{refl, sym, ◌∙◌}
 use Rattle.tokens.proofs.WordAt.{Onward, words_differ, words_end, words_on}
 use Rattle.lexer.proofs.same.Goals as goal
 

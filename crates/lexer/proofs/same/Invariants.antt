@@ -1,10 +1,9 @@
 -- `lexer::same` meets its contract. The loop's invariant: what is left of the two words decides.
 use Prim.Native.Nat.{◌-◌}
-use mathlib.Core.Path.{◌≡◌, refl, sym, ◌∙◌}
+use mathlib.Core.Path.{◌≡◌}
 use lib.ListN.{length}
 use Rattle.diagram.specs.Names.{same}
 use Rattle.tokens.specs.Words.{word_at}
-use Rattle.tokens.proofs.WordAt.{Onward, words_differ, words_end, words_on}
 use Rattle.lexer.proofs.same.Given as goal
 
 abbrev pub invariant-loop-a : goal.invariant-loop-a

@@ -1,5 +1,4 @@
 -- `lexer::token_end` meets its contract: past a word, or past one byte.
-use Rattle.std.proofs.Common.{rules}
 use Rattle.lexer.proofs.Ways.{ends_word, ends_sign}
 use Rattle.lexer.proofs.token_end.Goals as goal
 

@@ -1,5 +1,4 @@
 -- `lexer::word` meets its contract: up to the end of the word, or nothing.
-use Rattle.std.proofs.Common.{rules}
 use mathlib.Core.Path.{refl}
 use native.Mathlib.Omega.{arith}
 use Rattle.tokens.proofs.WordAt.{word_inside, word_none, word_some}

@@ -1,10 +1,5 @@
 -- `lexer::word_end` meets its contract. The loop's invariant: the same place is reached from `at` and from `i`.
-use Rattle.std.proofs.Common.{rules}
-use Prim.Native.Nat.{◌+◌, ◌-◌}
-use mathlib.Core.Path.{◌≡◌, refl, sym, ◌∙◌}
-use lib.ListN.{length, drop}
-use Rattle.tokens.specs.Classes.{worded}
-use Rattle.tokens.specs.Words.{front}
+use mathlib.Core.Path.{refl, sym, ◌∙◌}
 use Rattle.tokens.proofs.Front.{front_end, front_stop, front_more}
 use Rattle.lexer.proofs.word_end.Goals as goal
 

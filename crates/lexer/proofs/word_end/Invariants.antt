@@ -1,11 +1,9 @@
 -- `lexer::word_end` meets its contract. The loop's invariant: the same place is reached from `at` and from `i`.
 use Prim.Native.Nat.{◌+◌, ◌-◌}
-use mathlib.Core.Path.{◌≡◌, refl, sym, ◌∙◌}
+use mathlib.Core.Path.{◌≡◌}
 use lib.ListN.{length, drop}
-use Rattle.base.proofs.Truth.{not_e, not_no}
 use Rattle.tokens.specs.Classes.{worded}
 use Rattle.tokens.specs.Words.{front}
-use Rattle.tokens.proofs.Front.{front_end, front_stop, front_more}
 use Rattle.lexer.proofs.word_end.Given as goal
 
 abbrev pub invariant-loop-i : goal.invariant-loop-i

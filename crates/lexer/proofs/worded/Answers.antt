@@ -1,5 +1,4 @@
 -- `lexer::worded` meets its contract: each run of bytes that the comparisons tell apart, computed.
-use Rattle.std.proofs.Common.{rules}
 use mathlib.Core.Path.{◌≡◌, refl, sym}
 use mathlib.Core.Bool.{true, false, not}
 use Prim.Native.Nat.{ℕ, ◌+◌, ◌≤◌, ◌<◌}

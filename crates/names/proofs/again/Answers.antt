@@ -1,12 +1,8 @@
 -- The bytes passed are the same.
-use Rattle.std.proofs.Common.{rules}
-use mathlib.Core.Path.{◌≡◌, refl}
-use Prim.Native.Nat.{◌+◌, ◌-◌, ◌≤◌}
+use mathlib.Core.Path.{refl}
 use native.Mathlib.Omega.{arith}
-use lib.ListN.{length}
 use Rattle.tokens.proofs.Between.{between_in, between_low, between_high}
-use Rattle.walked.specs.Rows.{past_word}
-use Rattle.names.proofs.Agreed.{Agreed, too_long, agreed_start, agreed_other, agreed_next, agreed_end, agreed_longer}
+use Rattle.names.proofs.Agreed.{too_long, agreed_start, agreed_other, agreed_next, agreed_end, agreed_longer}
 use Rattle.names.proofs.again.Goals as goal
 
 pub returns-then-text-end : goal.returns-then-text-end

@@ -1,11 +1,9 @@
 -- The bytes passed are the same.
-use mathlib.Core.Path.{◌≡◌, refl}
+use mathlib.Core.Path.{◌≡◌}
 use Prim.Native.Nat.{◌+◌, ◌-◌, ◌≤◌}
-use native.Mathlib.Omega.{arith}
 use lib.ListN.{length}
-use Rattle.tokens.proofs.Between.{between_in, between_low, between_high}
 use Rattle.walked.specs.Rows.{past_word}
-use Rattle.names.proofs.Agreed.{Agreed, too_long, agreed_start, agreed_other, agreed_next, agreed_end, agreed_longer}
+use Rattle.names.proofs.Agreed.{Agreed}
 use Rattle.names.proofs.again.Given as goal
 
 abbrev pub invariant-loop-q : goal.invariant-loop-q

@@ -1,8 +1,6 @@
 -- The pars passed are others.
-use Rattle.std.proofs.Common.{rules}
 use native.Mathlib.Omega.{arith}
-use Rattle.tokens.specs.Words.{word_at}
-use Rattle.names.proofs.Surrounding.{Fresh, fresh_start, fresh_end, fresh_twice, fresh_next}
+use Rattle.names.proofs.Surrounding.{fresh_start, fresh_end, fresh_twice, fresh_next}
 use Rattle.names.proofs.fresh.Goals as goal
 
 pub loop-k-init : goal.loop-k-init

@@ -1,7 +1,6 @@
 -- The pars passed are others.
-use native.Mathlib.Omega.{arith}
 use Rattle.tokens.specs.Words.{word_at}
-use Rattle.names.proofs.Surrounding.{Fresh, fresh_start, fresh_end, fresh_twice, fresh_next}
+use Rattle.names.proofs.Surrounding.{Fresh}
 use Rattle.names.proofs.fresh.Given as goal
 
 abbrev pub invariant-loop-k : goal.invariant-loop-k

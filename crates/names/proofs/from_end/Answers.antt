@@ -1,4 +1,3 @@
-use Rattle.std.proofs.Common.{rules}
 use mathlib.Core.Path.{◌∙◌}
 use Rattle.names.proofs.Marked.{at_start}
 use Rattle.names.proofs.from_end.Goals as goal

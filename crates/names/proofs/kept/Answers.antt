@@ -1,4 +1,3 @@
-use Rattle.std.proofs.Common.{rules}
 use mathlib.Core.Bool.{false≢true}
 use native.Mathlib.Omega.{arith}
 use Rattle.names.proofs.Asked.{asked_many, asked_flow, asked_low, asked_high, asked_copying}

@@ -1,18 +1,13 @@
 -- The pars read are the first of those around.
-use Rattle.std.proofs.Common.{rules}
-use mathlib.Core.Path.{◌≡◌, ap, ◌∙◌}
+use mathlib.Core.Path.{ap, ◌∙◌}
 use mathlib.Core.Bool.{false}
-use mathlib.Core.List.{List}
-use Prim.Native.Nat.{ℕ, ◌+◌, ◌-◌, ◌≤◌}
+use Prim.Native.Nat.{◌+◌}
 use native.Mathlib.Omega.{arith}
 use lib.ListN.{drop, length-drop}
-use Rattle.diagram.specs.Tree.{Name}
 use Rattle.tokens.specs.Classes.{class_of}
 use Rattle.tokens.specs.Remarks.{skipped}
 use Rattle.tokens.proofs.Stretch.{stretch_le}
-use Rattle.walked.specs.Rows.{past_word, Listed}
-use Rattle.names.specs.code.Pars.{Around}
-use Rattle.names.proofs.Reading.{Reading, read_start, read_inside, read_end, read_over, read_other, read_next, par_ended}
+use Rattle.names.proofs.Reading.{read_start, read_inside, read_end, read_over, read_other, read_next, par_ended}
 use Rattle.names.proofs.listed.Goals as goal
 
 pub loop-n-init : goal.loop-n-init

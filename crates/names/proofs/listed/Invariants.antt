@@ -1,17 +1,11 @@
 -- The pars read are the first of those around.
-use mathlib.Core.Path.{◌≡◌, ap, ◌∙◌}
-use mathlib.Core.Bool.{false}
+use mathlib.Core.Path.{◌≡◌}
 use mathlib.Core.List.{List}
-use Prim.Native.Nat.{ℕ, ◌+◌, ◌-◌, ◌≤◌}
-use native.Mathlib.Omega.{arith}
-use lib.ListN.{drop, length-drop}
+use Prim.Native.Nat.{ℕ, ◌-◌, ◌≤◌}
 use Rattle.diagram.specs.Tree.{Name}
-use Rattle.tokens.specs.Classes.{class_of}
-use Rattle.tokens.specs.Remarks.{skipped}
-use Rattle.tokens.proofs.Stretch.{stretch_le}
 use Rattle.walked.specs.Rows.{past_word, Listed}
 use Rattle.names.specs.code.Pars.{Around}
-use Rattle.names.proofs.Reading.{Reading, read_start, read_inside, read_end, read_over, read_other, read_next, par_ended}
+use Rattle.names.proofs.Reading.{Reading}
 use Rattle.names.proofs.listed.Given as goal
 
 abbrev pub invariant-loop-n : goal.invariant-loop-n

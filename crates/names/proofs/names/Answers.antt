@@ -1,14 +1,12 @@
 -- The names passed differ, and their nodes are linked by their marks.
-use Rattle.std.proofs.Common.{rules}
 use mathlib.Core.Path.{◌≡◌, sym, ◌∙◌}
 use mathlib.Core.Bool.{true}
-use Prim.Native.Nat.{◌+◌, ◌-◌, ◌≤◌, ◌<◌}
+use Prim.Native.Nat.{◌+◌, ◌-◌, ◌<◌}
 use native.Mathlib.Omega.{arith}
 use Rattle.rules.specs.Kept.{names_kept}
-use Rattle.names.specs.code.Told.{Told}
 use Rattle.names.specs.code.Marks.{titled_at}
-use Rattle.names.proofs.Searched.{Searched, search_start, search_end}
-use Rattle.names.proofs.Named.{Linkable, linkable_start, linkable_none, linkable_next, Linking, linking_start, linking_none, linking_next, its_mark, found_by_links, name_twice, name_next, name_none}
+use Rattle.names.proofs.Searched.{search_start, search_end}
+use Rattle.names.proofs.Named.{linkable_start, linkable_none, linkable_next, linking_start, linking_none, linking_next, its_mark, found_by_links, name_twice, name_next, name_none}
 use Rattle.names.proofs.names.Goals as goal
 
 pub loop-i-init : goal.loop-i-init

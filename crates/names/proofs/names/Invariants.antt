@@ -1,13 +1,9 @@
 -- The names passed differ, and their nodes are linked by their marks.
-use mathlib.Core.Path.{◌≡◌, sym, ◌∙◌}
-use mathlib.Core.Bool.{true}
-use Prim.Native.Nat.{◌+◌, ◌-◌, ◌≤◌, ◌<◌}
-use native.Mathlib.Omega.{arith}
+use Prim.Native.Nat.{◌-◌, ◌≤◌}
 use Rattle.rules.specs.Kept.{names_kept}
 use Rattle.names.specs.code.Told.{Told}
-use Rattle.names.specs.code.Marks.{titled_at}
-use Rattle.names.proofs.Searched.{Searched, search_start, search_end}
-use Rattle.names.proofs.Named.{Linkable, linkable_start, linkable_none, linkable_next, Linking, linking_start, linking_none, linking_next, its_mark, found_by_links, name_twice, name_next, name_none}
+use Rattle.names.proofs.Searched.{Searched}
+use Rattle.names.proofs.Named.{Linkable, Linking}
 use Rattle.names.proofs.names.Given as goal
 
 abbrev pub invariant-loop-i : goal.invariant-loop-i

@@ -1,14 +1,10 @@
 -- The nodes passed keep the rule, and the pars around a node are known at each depth at which the next one may be.
-use Rattle.std.proofs.Common.{rules}
 use mathlib.Core.Path.{refl, ap}
 use mathlib.Core.Bool.{not}
-use Prim.Native.Nat.{◌-◌, ◌≤◌}
 use native.Mathlib.Omega.{arith}
-use lib.ListN.{get_or}
 use Rattle.rules.specs.Kept.{parameters_kept}
-use Rattle.names.specs.code.Told.{Told}
-use Rattle.names.proofs.Searched.{Searched, search_start, search_broken, search_kept, search_end}
-use Rattle.names.proofs.Surrounded.{Roomy, roomy_start, roomy_next, Surrounded, around_start, around_here, around_next}
+use Rattle.names.proofs.Searched.{search_start, search_broken, search_kept, search_end}
+use Rattle.names.proofs.Surrounded.{roomy_start, roomy_next, around_start, around_here, around_next}
 use Rattle.names.proofs.parameters.Goals as goal
 
 pub loop-i-init : goal.loop-i-init

@@ -1,13 +1,9 @@
 -- The nodes passed keep the rule, and the pars around a node are known at each depth at which the next one may be.
-use mathlib.Core.Path.{refl}
 use Prim.Native.Nat.{◌-◌, ◌≤◌}
-use native.Mathlib.Omega.{arith}
-use lib.ListN.{get_or}
-use borrow.Author.Tests.{not-false}
 use Rattle.rules.specs.Kept.{parameters_kept}
 use Rattle.names.specs.code.Told.{Told}
-use Rattle.names.proofs.Searched.{Searched, search_start, search_broken, search_kept, search_end}
-use Rattle.names.proofs.Surrounded.{Roomy, roomy_start, roomy_next, Surrounded, around_start, around_here, around_next}
+use Rattle.names.proofs.Searched.{Searched}
+use Rattle.names.proofs.Surrounded.{Roomy, Surrounded}
 use Rattle.names.proofs.parameters.Given as goal
 
 abbrev pub invariant-loop-i : goal.invariant-loop-i

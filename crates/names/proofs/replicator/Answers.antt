@@ -1,4 +1,3 @@
-use Rattle.std.proofs.Common.{rules}
 use native.Mathlib.Omega.{arith}
 use Rattle.tokens.proofs.Between.{between_in, between_low, between_high}
 use Rattle.names.proofs.replicator.Goals as goal

@@ -1,11 +1,7 @@
 -- The nodes passed do not have the name.
-use Rattle.std.proofs.Common.{rules}
-use mathlib.Core.Path.{◌≡◌}
-use Prim.Native.Nat.{ℕ, ◌-◌, ◌≤◌}
+use Prim.Native.Nat.{◌-◌}
 use native.Mathlib.Omega.{arith}
-use Rattle.tokens.specs.Words.{word_at}
-use Rattle.names.specs.code.Marks.{mark_of, latest, Linked}
-use Rattle.names.proofs.Chained.{Chain, chain_start, chain_end, chain_found, chain_next}
+use Rattle.names.proofs.Chained.{chain_start, chain_end, chain_found, chain_next}
 use Rattle.names.proofs.taken.Goals as goal
 
 pub loop-j-init : goal.loop-j-init

@@ -1,10 +1,9 @@
 -- The nodes passed do not have the name.
 use mathlib.Core.Path.{◌≡◌}
-use Prim.Native.Nat.{ℕ, ◌-◌, ◌≤◌}
-use native.Mathlib.Omega.{arith}
+use Prim.Native.Nat.{ℕ, ◌≤◌}
 use Rattle.tokens.specs.Words.{word_at}
 use Rattle.names.specs.code.Marks.{mark_of, latest, Linked}
-use Rattle.names.proofs.Chained.{Chain, chain_start, chain_end, chain_found, chain_next}
+use Rattle.names.proofs.Chained.{Chain}
 use Rattle.names.proofs.taken.Given as goal
 
 abbrev pub invariant-loop-j : goal.invariant-loop-j

@@ -1,10 +1,8 @@
 -- `printer::copy` meets its contract. The loop's invariant: the tokens before `at` are written.
-use Rattle.std.proofs.Common.{rules}
 use mathlib.Core.Path.{ap, ◌∙◌}
-use Prim.Native.Nat.{◌-◌}
 use lib.ListN.{length}
 use Rattle.base.proofs.Filled.{fill_length}
-use Rattle.printer.proofs.Copied.{Copied, copied_start, part_inside, less_left, copied_more, copied_all, copied_out}
+use Rattle.printer.proofs.Copied.{copied_start, part_inside, less_left, copied_more, copied_all, copied_out}
 use Rattle.printer.proofs.copy.Goals as goal
 
 pub loop-at-init : goal.loop-at-init

@@ -1,9 +1,7 @@
 -- `printer::copy` meets its contract. The loop's invariant: the tokens before `at` are written.
-use mathlib.Core.Path.{ap, ◌∙◌}
 use Prim.Native.Nat.{◌-◌}
 use lib.ListN.{length}
-use Rattle.base.proofs.Filled.{fill_length}
-use Rattle.printer.proofs.Copied.{Copied, copied_start, part_inside, less_left, copied_more, copied_all, copied_out}
+use Rattle.printer.proofs.Copied.{Copied}
 use Rattle.printer.proofs.copy.Given as goal
 
 abbrev pub invariant-loop-at : goal.invariant-loop-at

@@ -1,10 +1,8 @@
 -- `printer::copy_part` meets its contract. The loop's invariant: the part is written up to i.
-use Rattle.std.proofs.Common.{rules}
 use mathlib.Core.Path.{refl, sym, ◌∙◌}
-use Prim.Native.Nat.{◌-◌}
 use native.Mathlib.Omega.{arith}
 use lib.ListN.{length-set}
-use Rattle.printer.proofs.Copied.{Partly, over_more, over_none}
+use Rattle.printer.proofs.Copied.{over_more, over_none}
 use Rattle.printer.proofs.copy_part.Goals as goal
 
 pub loop-i-init : goal.loop-i-init

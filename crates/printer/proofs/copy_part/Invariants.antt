@@ -1,9 +1,6 @@
 -- `printer::copy_part` meets its contract. The loop's invariant: the part is written up to i.
-use mathlib.Core.Path.{refl, sym, ◌∙◌}
 use Prim.Native.Nat.{◌-◌}
-use native.Mathlib.Omega.{arith}
-use lib.ListN.{length-set}
-use Rattle.printer.proofs.Copied.{Partly, over_more, over_none}
+use Rattle.printer.proofs.Copied.{Partly}
 use Rattle.printer.proofs.copy_part.Given as goal
 
 abbrev pub invariant-loop-i : goal.invariant-loop-i

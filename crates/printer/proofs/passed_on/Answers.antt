@@ -1,4 +1,3 @@
-use Rattle.std.proofs.Common.{rules}
 use mathlib.Core.Path.{ap, sym}
 use Rattle.printer.specs.code.PassedOn.{passed_on}
 use Rattle.printer.proofs.passed_on.Goals as goal

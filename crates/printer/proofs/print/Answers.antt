@@ -1,4 +1,3 @@
-use Rattle.std.proofs.Common.{rules}
 use Rattle.printer.proofs.Answered.{short_answers, read_fits, long_answers}
 use Rattle.printer.proofs.print.Goals as goal
 

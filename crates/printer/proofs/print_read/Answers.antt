@@ -1,4 +1,3 @@
-use Rattle.std.proofs.Common.{rules}
 use Rattle.printer.proofs.Answered.{done_answers, refused_answers}
 use Rattle.printer.proofs.print_read.Goals as goal
 

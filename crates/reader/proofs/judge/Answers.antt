@@ -1,5 +1,4 @@
 -- `reader::judge` meets its contract: the verdict refuses, or the diagram is filled.
-use Rattle.std.proofs.Common.{rules}
 use Rattle.reader.proofs.Stages.{judged_refused, judged_kept}
 use mathlib.Core.Path.{◌∙◌}
 use Rattle.reader.proofs.judge.Goals as goal

@@ -1,4 +1,3 @@
-use Rattle.std.proofs.Common.{rules}
 use mathlib.Core.Path.{ap}
 use Rattle.diagram.specs.declared.Diagram.{Diagram}
 use Rattle.reader.proofs.no_diagram.Goals as goal

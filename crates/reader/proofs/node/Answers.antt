@@ -1,5 +1,4 @@
 -- `reader::node` meets its contract, cell by cell.
-use Rattle.std.proofs.Common.{rules}
 use Rattle.reader.specs.code.Stages.{node_at}
 use Rattle.reader.proofs.node.Goals as goal
 

@@ -1,5 +1,4 @@
 -- `reader::read` meets its contract: too long, refused on the walk, or judged by the rows that the walk leaves.
-use Rattle.std.proofs.Common.{rules}
 use mathlib.Core.Path.{◌∙◌, ap}
 use Rattle.reading.specs.Answers.{no_diagram}
 use Rattle.reader.proofs.Stages.{long_text, walk_refused, walk_whole}

@@ -1,7 +1,5 @@
 -- `reader::store` meets its contract. The loop's invariant: the nodes of the first i rows are stored over the blank ones. Its measure is how many are left.
-use Rattle.std.proofs.Common.{rules}
-use Prim.Native.Nat.{◌-◌}
-use Rattle.reader.proofs.Stored.{Storing, storing_none, storing_more, storing_all}
+use Rattle.reader.proofs.Stored.{storing_none, storing_more, storing_all}
 use Rattle.reader.proofs.store.Goals as goal
 
 pub loop-i-init : goal.loop-i-init

@@ -1,5 +1,4 @@
 -- `reader::turned_away` meets its contract: each test in its turn.
-use Rattle.std.proofs.Common.{rules}
 use borrow.Author.Tests.{lt-ltb, le-ltb}
 use Rattle.reader.specs.code.Stages.{turned_away}
 use Rattle.reader.proofs.turned_away.Goals as goal

@@ -1,4 +1,3 @@
-use Rattle.std.proofs.Common.{rules}
 use native.Mathlib.Omega.{arith}
 use Rattle.sweeps.proofs.Events.{event_leaf, event_other, event_last, event_no_flow, event_flow}
 use Rattle.sweeps.proofs.happening.Goals as goal

@@ -1,13 +1,10 @@
 -- The weights of the solid children among the nodes from i on, and the first of these nodes that breaks the rule.
-use mathlib.Core.Path.{◌≡◌, refl}
+use mathlib.Core.Path.{◌≡◌}
 use mathlib.Core.List.{List}
-use Prim.Native.Nat.{ℕ, ◌+◌, ◌-◌, ◌*◌, ◌≤◌, ◌<◌}
-use native.Mathlib.Omega.{arith}
-use lib.Dec.{eqb}
-use lib.ListN.{length, get_or, length-set}
-use Rattle.names.specs.code.Kinds.{flow_code}
+use Prim.Native.Nat.{ℕ, ◌≤◌}
+use lib.ListN.{length}
 use Rattle.names.specs.code.Told.{Told}
-use Rattle.sweeps.proofs.Weighed.{Weighed, First, weigh_start, first_start, weigh_next, first_next, first_all, blame_within}
+use Rattle.sweeps.proofs.Weighed.{Weighed, First}
 use Rattle.sweeps.proofs.solids.Given as goal
 
 abbrev pub invariant-loop-i : goal.invariant-loop-i

@@ -1,4 +1,3 @@
-use Rattle.std.proofs.Common.{rules}
 use native.Mathlib.Omega.{arith}
 use Rattle.sweeps.proofs.Ruled.{as_told, none_found, one_found, refused_name, refused_key, by_7, by_8, by_9, by_10}
 use Rattle.sweeps.proofs.verdict.Goals as goal

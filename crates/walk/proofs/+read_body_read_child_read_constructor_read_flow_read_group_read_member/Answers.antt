@@ -2,14 +2,11 @@
 -- the same depth. The invariants say how the machine got from where the loop began to where it is. Assumes nothing.
 use Rattle.std.proofs.Common.{rules}
 use native.Mathlib.Omega.{arith}
-use Prim.Native.Nat.{ℕ, ◌+◌, ◌*◌, ◌-◌, ◌<◌}
 use mathlib.Core.Path.{refl}
-use mathlib.Core.List.{List, [], ◌∷◌, ◌++◌}
-use lib.ListN.{length}
+use mathlib.Core.List.{[]}
 use Rattle.tokens.specs.Token.{opening, closing}
-use Rattle.grammar.specs.Machine.{member, child, node, more, others, ref}
-use Rattle.walked.specs.Walk.{state}
-use Rattle.walked.proofs.Laws.{Leads, starts, stands, halts, goes, ends, node_refused, node_read, another_child, another_member, flow_ends, group_ends, flow_follows, leaf_follows, group_follows, replicator_follows, loop_follows}
+use Rattle.grammar.specs.Machine.{member, child}
+use Rattle.walked.proofs.Laws.{starts, stands, halts, goes, ends, node_refused, node_read, another_child, another_member, flow_ends, group_ends, flow_follows, leaf_follows, group_follows, replicator_follows, loop_follows}
 use Rattle.walk.proofs.+read_body_read_child_read_constructor_read_flow_read_group_read_member.Goals as goal
 
 pub read_body-returns-in_default : goal.read_body-returns-in_default

@@ -1,5 +1,4 @@
 -- `walk::parse` meets its contract: the root is read, and nothing stands after it.
-use Rattle.std.proofs.Common.{rules}
 use Rattle.walked.proofs.Laws.{refused, trailing, read_all}
 use Rattle.walk.proofs.parse.Goals as goal
 

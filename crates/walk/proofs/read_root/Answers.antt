@@ -1,5 +1,4 @@
 -- `walk::read_root` meets its contract: a keyword that only a flow has, and the flow.
-use Rattle.std.proofs.Common.{rules}
 use native.Mathlib.Omega.{arith}
 use mathlib.Core.Path.{refl}
 use Rattle.grammar.specs.Machine.{root}
