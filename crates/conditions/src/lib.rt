@@ -1,4 +1,5 @@
 #![tactic(auto)]
+
 ghost use Rattle.std.specs.Prelude.{◌≡◌, cond, [], ◌+◌, ◌-◌, ◌≤◌, ◌<◌, length};
 ghost use Rattle.output.specs.Buffer.{buffer, put_all};
 ghost use Rattle.process.specs.Process.{Joint, Process, join};

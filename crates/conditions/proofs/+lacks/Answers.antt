@@ -1,41 +1,38 @@
 -- The measure is how many numbers there are.
-use Rattle.std.proofs.Common.{rules}
-use Prim.Native.Nat.{ℕ, ◌<◌}
-use lib.ListN.{length}
-use Rattle.parts.proofs.Ends.{inner_fewer, first_fewer, second_fewer, second_inside, inner_count, first_count}
+use Rattle.parts.proofs.Ends.{inner_fewer, first_fewer, second_fewer, second_inside, first_count}
 use Rattle.conditions.proofs.Absent.{some_code, leaf_lacks, rounds_lacks, parts_lack}
 use native.Mathlib.Omega.{arith}
 use Rattle.conditions.proofs.+lacks.Goals as goal
 
-pub lacks-returns-then-n-eq0 : goal.lacks-returns-then-n-eq0
-lacks-returns-then-n-eq0 t c =
+pub returns-then-n-eq0 : goal.returns-then-n-eq0
+returns-then-n-eq0 t c =
     λ p e. absurd (some_code c.args.codes.now c.args.settled p e c.if-n-eq0.true)
 
-pub lacks-returns-then-code-le-AGAIN : goal.lacks-returns-then-code-le-AGAIN
-lacks-returns-then-code-le-AGAIN t c =
+pub returns-then-code-le-AGAIN : goal.returns-then-code-le-AGAIN
+returns-then-code-le-AGAIN t c =
     λ p e. leaf_lacks c.args.codes.now c.args.settled p e c.if-code-le-AGAIN.true
 
-pub lacks-lacks-requires : goal.lacks-lacks-requires
-lacks-lacks-requires t c = (inner_fewer c.args.codes.now c.if-n-eq0.false c.decreases, tt)
+pub lacks-requires : goal.lacks-requires
+lacks-requires t c = (inner_fewer c.args.codes.now c.if-n-eq0.false c.decreases, tt)
 
-pub lacks-returns-then-code-eq-ROUNDS : goal.lacks-returns-then-code-eq-ROUNDS
-lacks-returns-then-code-eq-ROUNDS t c =
+pub returns-then-code-eq-ROUNDS : goal.returns-then-code-eq-ROUNDS
+returns-then-code-eq-ROUNDS t c =
     λ p e. rounds_lacks c.args.codes.now c.args.settled p e c.lacks.result c.if-code-eq-ROUNDS.true c.lacks.ensures
 
-pub lacks-slice_bounds-lacks-end-2 : goal.lacks-slice_bounds-lacks-end-2
-lacks-slice_bounds-lacks-end-2 t c = first_count c.args.codes.now c.second-m.ensures.1
+pub slice_bounds-lacks-end-2 : goal.slice_bounds-lacks-end-2
+slice_bounds-lacks-end-2 t c = first_count c.args.codes.now c.second-m.ensures.1
 
-pub lacks-lacks-a-requires : goal.lacks-lacks-a-requires
-lacks-lacks-a-requires t c = (first_fewer c.args.codes.now c.if-n-eq0.false c.decreases c.second-m.ensures.1, tt)
+pub lacks-a-requires : goal.lacks-a-requires
+lacks-a-requires t c = (first_fewer c.args.codes.now c.if-n-eq0.false c.decreases c.second-m.ensures.1, tt)
 
-pub lacks-slice_bounds-lacks-start : goal.lacks-slice_bounds-lacks-start
-lacks-slice_bounds-lacks-start t c = (second_inside c.args.codes.now c.if-n-eq0.false c.decreases c.second-m.ensures.1).0
+pub slice_bounds-lacks-start : goal.slice_bounds-lacks-start
+slice_bounds-lacks-start t c = (second_inside c.args.codes.now c.if-n-eq0.false c.decreases c.second-m.ensures.1).0
 
-pub lacks-lacks-b-requires : goal.lacks-lacks-b-requires
-lacks-lacks-b-requires t c = (second_fewer c.args.codes.now c.if-n-eq0.false c.decreases c.second-m.ensures.1, tt)
+pub lacks-b-requires : goal.lacks-b-requires
+lacks-b-requires t c = (second_fewer c.args.codes.now c.if-n-eq0.false c.decreases c.second-m.ensures.1, tt)
 
-pub lacks-returns : goal.lacks-returns
-lacks-returns t c =
+pub returns : goal.returns
+returns t c =
     λ p e.
     rw c.joint_lacks.ensures
     (parts_lack c.args.codes.now c.args.settled c.lacks-a.result c.lacks-b.result c.second-m.result p e (omega (arith, c.if-code-le-AGAIN.false)) c.if-code-eq-ROUNDS.false c.second-m.ensures.0 c.lacks-a.ensures c.lacks-b.ensures)

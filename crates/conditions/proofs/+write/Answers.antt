@@ -1,7 +1,6 @@
 -- The measure is how many numbers there are.
-use Rattle.std.proofs.Common.{rules}
 use mathlib.Core.Path.{sym, ◌∙◌}
-use Prim.Native.Nat.{ℕ, ◌+◌, ◌-◌, ◌<◌}
+use Prim.Native.Nat.{◌+◌, ◌-◌, ◌<◌}
 use lib.ListN.{length, drop, length-take}
 use Rattle.output.proofs.Buffers.{same_put}
 use Rattle.parts.proofs.Ends.{inner_fewer, first_fewer, second_fewer, second_inside, inner_count, first_count}
@@ -12,50 +11,50 @@ use Rattle.conditions.proofs.Written.{absent_written, leaf_text, rounds_written,
 use native.Mathlib.Omega.{arith}
 use Rattle.conditions.proofs.+write.Goals as goal
 
-pub write-returns-then-n-eq0 : goal.write-returns-then-n-eq0
-write-returns-then-n-eq0 t c =
+pub returns-then-n-eq0 : goal.returns-then-n-eq0
+returns-then-n-eq0 t c =
     λ p e m few. absurd (some_code c.args.codes.now c.args.settled p e c.if-n-eq0.true)
 
-pub write-returns-then-lacks : goal.write-returns-then-lacks
-write-returns-then-lacks t c =
+pub returns-then-lacks : goal.returns-then-lacks
+returns-then-lacks t c =
     λ p e m few. absent_written (spelled c.args.text.now c.args.v) (wanted c.args.settled p) _ (sym (c.lacks.ensures p e) ∙ c.if-lacks.true)
 
-pub write-returns-then-code-eq-LEAF : goal.write-returns-then-code-eq-LEAF
-write-returns-then-code-eq-LEAF t c =
+pub returns-then-code-eq-LEAF : goal.returns-then-code-eq-LEAF
+returns-then-code-eq-LEAF t c =
     λ p e m few. same_put _ _ _ c.is.ensures (leaf_text (spelled c.args.text.now c.args.v) c.args.settled c.args.codes.now c.args.from p e m (sym (c.lacks.ensures p e) ∙ c.if-lacks.false) c.if-code-eq-LEAF.true)
 
-pub write-write-requires : goal.write-write-requires
-write-write-requires t c = (inner_fewer c.args.codes.now c.if-n-eq0.false c.decreases, tt)
+pub write-requires : goal.write-requires
+write-requires t c = (inner_fewer c.args.codes.now c.if-n-eq0.false c.decreases, tt)
 
-pub write-returns-then-code-eq-ROUNDS : goal.write-returns-then-code-eq-ROUNDS
-write-returns-then-code-eq-ROUNDS t c =
+pub returns-then-code-eq-ROUNDS : goal.returns-then-code-eq-ROUNDS
+returns-then-code-eq-ROUNDS t c =
     λ p e m few.
     let a = c.args in
     rounds_written (spelled a.text.now a.v) a.settled a.codes.now a.from p e m c.if-code-eq-ROUNDS.true _
     (λ q g n. c.write.ensures q g n (omega (arith, few, inner_count a.codes.now)))
 
-pub write-returns-then-from-gt511 : goal.write-returns-then-from-gt511
-write-returns-then-from-gt511 t c =
+pub returns-then-from-gt511 : goal.returns-then-from-gt511
+returns-then-from-gt511 t c =
     λ p e m few. let l : 511 < c.args.from = c.if-from-gt511.true in absurd (some_code c.args.codes.now c.args.settled p e (omega (arith, few, l)))
 
-pub write-slice_bounds-write-end-2 : goal.write-slice_bounds-write-end-2
-write-slice_bounds-write-end-2 t c = first_count c.args.codes.now c.shaped-s.ensures.inside.its_second
+pub slice_bounds-write-end-2 : goal.slice_bounds-write-end-2
+slice_bounds-write-end-2 t c = first_count c.args.codes.now c.shaped-s.ensures.inside.its_second
 
-pub write-write-b-requires : goal.write-write-b-requires
-write-write-b-requires t c = (first_fewer c.args.codes.now c.if-n-eq0.false c.decreases c.shaped-s.ensures.inside.its_second, tt)
+pub write-b-requires : goal.write-b-requires
+write-b-requires t c = (first_fewer c.args.codes.now c.if-n-eq0.false c.decreases c.shaped-s.ensures.inside.its_second, tt)
 
-pub write-slice_bounds-write-start : goal.write-slice_bounds-write-start
-write-slice_bounds-write-start t c = (second_inside c.args.codes.now c.if-n-eq0.false c.decreases c.shaped-s.ensures.inside.its_second).0
+pub slice_bounds-write-start : goal.slice_bounds-write-start
+slice_bounds-write-start t c = (second_inside c.args.codes.now c.if-n-eq0.false c.decreases c.shaped-s.ensures.inside.its_second).0
 
-pub write-overflow_add-from : goal.write-overflow_add-from
-write-overflow_add-from t c =
+pub overflow_add-from : goal.overflow_add-from
+overflow_add-from t c =
     omega (arith, c.if-from-gt511.false, c.shaped-s.ensures.inside.its_first, c.shaped-s.ensures.inside.its_second, inner_count c.args.codes.now)
 
-pub write-write-d-requires : goal.write-write-d-requires
-write-write-d-requires t c = (second_fewer c.args.codes.now c.if-n-eq0.false c.decreases c.shaped-s.ensures.inside.its_second, tt)
+pub write-d-requires : goal.write-d-requires
+write-d-requires t c = (second_fewer c.args.codes.now c.if-n-eq0.false c.decreases c.shaped-s.ensures.inside.its_second, tt)
 
-pub write-returns : goal.write-returns
-write-returns t c =
+pub returns : goal.returns
+returns t c =
     λ p e m few.
     let a = c.args in
     let cs = a.codes.now in

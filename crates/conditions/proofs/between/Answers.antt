@@ -1,6 +1,9 @@
 -- By the code's test.
-use Rattle.std.proofs.Common.{rules}
 use Rattle.output.proofs.Buffers.{none_put}
 use Rattle.conditions.proofs.between.Goals as goal
 
--- LEFT: in place: rw c.if1.false (none_put _)
+pub returns-then-s : goal.returns-then-s
+returns-then-s c = rw c.if-s.true c.connective.ensures
+
+pub returns : goal.returns
+returns c = rw c.if-s.false (none_put _)

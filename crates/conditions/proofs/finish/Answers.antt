@@ -1,5 +1,4 @@
 -- By the form that the condition has.
-use Rattle.std.proofs.Common.{rules}
 use Rattle.output.proofs.Buffers.{before}
 use borrow.Author.Tests.{eq-eqb, ne_eqb}
 use Rattle.conditions.proofs.finish.Goals as goal
