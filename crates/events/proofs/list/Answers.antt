@@ -7,11 +7,10 @@ pub returns-in_default : goal.returns-in_default
 returns-in_default c =
     let a = c.args in
     let r = c.read-o in
-    let refusal = c.enum_told-in_default-1.given in
-    listed_refused a.text.now a.out.now _ r.result refusal.0.0 refusal.0.1.0 c.write_refusal.result r.ensures refusal.1 c.write-refusal-arg.given.0.1 c.write_refusal.ensures
+    listed_refused a.text.now a.out.now _ r.result c.in_default.field-0 c.in_default.field-1 c.write_refusal.result r.ensures c.in_default.is c.write-refusal-arg.given.0.1 c.write_refusal.ensures
 
 pub returns : goal.returns
 returns c =
     let a = c.args in
     let r = c.read-o in
-    listed_drawn a.text.now a.out.now _ r.result c.write.result r.ensures c.enum_told-1.given.1 c.write.ensures.out_len c.write.ensures.out_after
+    listed_drawn a.text.now a.out.now _ r.result c.write.result r.ensures c.in-Done.is c.write.ensures.out_len c.write.ensures.out_after

@@ -9,18 +9,17 @@ pub returns-in_default : goal.returns-in_default
 returns-in_default c =
     let a = c.args in
     let r = c.read-o in
-    let refusal = c.enum_told-in_default-1.given in
-    named_refused a.text _ r.result a.event refusal.0.0 refusal.0.1.0 r.ensures refusal.1 (record { its_block = refl; its_offset = omega arith; its_bytes = refl }) refl
+    named_refused a.text _ r.result a.event c.in_default.field-0 c.in_default.field-1 r.ensures c.in_default.is (record { its_block = refl; its_offset = omega arith; its_bytes = refl }) refl
 
 pub returns-then-events-event : goal.returns-then-events-event
 returns-then-events-event c =
     let a = c.args in
     let r = c.read-o in
-    named_past a.text _ r.result a.event r.ensures c.enum_told-1.given.1 (omega (arith, c.if-events-event.true)) (record { its_block = refl; its_offset = omega arith; its_bytes = refl }) refl
+    named_past a.text _ r.result a.event r.ensures c.in-Done.is (omega (arith, c.if-events-event.true)) (record { its_block = refl; its_offset = omega arith; its_bytes = refl }) refl
 
 pub returns : goal.returns
 returns c =
     let a = c.args in
     let r = c.read-o in
     let s = c.find-s in
-    named_some a.text c.word.result r.result a.event s.result r.ensures c.enum_told-1.given.1 c.if-events-event.false s.ensures c.word.ensures
+    named_some a.text c.word.result r.result a.event s.result r.ensures c.in-Done.is c.if-events-event.false s.ensures c.word.ensures

@@ -5,4 +5,4 @@ use Rattle.events.specs.code.Spots.{passed_on}
 use Rattle.events.proofs.passed_on.Goals as goal
 
 pub returns-in-Refused : goal.returns-in-Refused
-returns-in-Refused c = ap passed_on (sym c.answer-1.given.1)
+returns-in-Refused c = ap passed_on (sym c.in-Refused.is)

@@ -7,11 +7,10 @@ pub returns-in_default : goal.returns-in_default
 returns-in_default c =
     let a = c.args in
     let r = c.read-o in
-    let refusal = c.enum_told-in_default-1.given in
-    valued_refused a.text.now r.result a.event refusal.0.0 refusal.0.1.0 c.passed_on.result r.ensures refusal.1 c.passed_on.ensures
+    valued_refused a.text.now r.result a.event c.in_default.field-0 c.in_default.field-1 c.passed_on.result r.ensures c.in_default.is c.passed_on.ensures
 
 pub returns : goal.returns
 returns c =
     let a = c.args in
     let r = c.read-o in
-    valued_drawn a.text.now r.result a.event c.labelled.result r.ensures c.enum_told-1.given.1 c.labelled.ensures
+    valued_drawn a.text.now r.result a.event c.labelled.result r.ensures c.in-Done.is c.labelled.ensures

@@ -9,4 +9,4 @@ pub returns-in-Done : goal.returns-in-Done
 returns-in-Done c = same_put _ _ _ (none_put _) (ap refusal_line (sym c.in-Done.is))
 
 pub returns-in-Refused : goal.returns-in-Refused
-returns-in-Refused c = same_put _ _ _ c.refused.ensures (ap refusal_line (sym c.answer-1.given.1))
+returns-in-Refused c = same_put _ _ _ c.refused.ensures (ap refusal_line (sym c.in-Refused.is))

@@ -18,7 +18,7 @@ loop-n-preserved c =
     let a = c.args in
     let put = c.put_byte in
     let taken = c.loop-n-test.true in
-    (put.auto.0 ∙ l.invariant.0, (omega (arith, taken), copied_more a.bytes.now a.out-1.now l.out-1 put.new.0 l.n taken l.invariant.1.1 put.ensures))
+    (put.auto.0 ∙ l.invariant.0, (omega (arith, taken), copied_more a.bytes.now a.out.now l.out-1 put.new.0 l.n taken l.invariant.1.1 put.ensures))
 
 pub shape_of-out : goal.shape_of-out
 shape_of-out c = c.loop-n.invariant.0

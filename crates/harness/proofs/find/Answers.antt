@@ -6,20 +6,19 @@ use Rattle.harness.proofs.find.Goals as goal
 pub returns-in_default : goal.returns-in_default
 returns-in_default c =
     let a = c.args in
-    let told = c.enum_told-in_default-1.given in
-    found_away a.text.now a.index c.read-o.ensures told.0.0 told.0.1.0 told.1 c.unread.ensures
+    found_away a.text.now a.index c.read-o.ensures c.in_default.field-0 c.in_default.field-1 c.in_default.is c.unread.ensures
 
 pub returns-then-d-index : goal.returns-then-d-index
 returns-then-d-index c =
     let a = c.args in
-    found_past a.text.now a.index c.read-o.ensures c.enum_told-1.given.1 c.if-d-index.true
+    found_past a.text.now a.index c.read-o.ensures c.in-Done.is c.if-d-index.true
 
 pub node_at-node-requires : goal.node_at-node-requires
 node_at-node-requires c =
     let a = c.args in
-    below a.text.now a.index c.read-o.ensures c.enum_told-1.given.1 c.if-d-index.false
+    below a.text.now a.index c.read-o.ensures c.in-Done.is c.if-d-index.false
 
 pub returns : goal.returns
 returns c =
     let a = c.args in
-    found_there a.text.now a.index c.read-o.ensures c.enum_told-1.given.1 c.if-d-index.false c.node_at-node.ensures
+    found_there a.text.now a.index c.read-o.ensures c.in-Done.is c.if-d-index.false c.node_at-node.ensures

@@ -8,4 +8,4 @@ pub returns-in-Done : goal.returns-in-Done
 returns-in-Done c = by_case 32 step_report c.in-Done.is none
 
 pub returns-in-Refused : goal.returns-in-Refused
-returns-in-Refused c = by_case 32 step_report c.answer-1.given.1 (refused 32 _ _ c.refusal.ensures)
+returns-in-Refused c = by_case 32 step_report c.in-Refused.is (refused 32 _ _ c.refusal.ensures)

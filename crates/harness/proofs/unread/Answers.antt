@@ -5,4 +5,4 @@ use Rattle.harness.specs.Nodes.{unread}
 use Rattle.harness.proofs.unread.Goals as goal
 
 pub returns-in-Refused : goal.returns-in-Refused
-returns-in-Refused c = ap unread (sym c.answer-1.given.1)
+returns-in-Refused c = ap unread (sym c.in-Refused.is)

@@ -8,4 +8,4 @@ pub returns-in-Done : goal.returns-in-Done
 returns-in-Done c = let o = c.args.o in by_case 10 (answer_report o.diagram) c.in-Done.is (three _ _ _)
 
 pub returns-in-Refused : goal.returns-in-Refused
-returns-in-Refused c = let o = c.args.o in by_case 10 (answer_report o.diagram) c.answer-1.given.1 (refused 10 _ _ c.refusal.ensures)
+returns-in-Refused c = let o = c.args.o in by_case 10 (answer_report o.diagram) c.in-Refused.is (refused 10 _ _ c.refusal.ensures)

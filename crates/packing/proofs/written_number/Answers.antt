@@ -5,7 +5,7 @@ use Rattle.packing.proofs.Packs.{by_case, one, refused}
 use Rattle.packing.proofs.written_number.Goals as goal
 
 pub returns-in-Bytes : goal.returns-in-Bytes
-returns-in-Bytes c = by_case 32 written_report c.w-1.given.1 (one _)
+returns-in-Bytes c = by_case 32 written_report c.in-Bytes.is (one _)
 
 pub returns-in-Refused : goal.returns-in-Refused
-returns-in-Refused c = by_case 32 written_report c.w-in-Refused-1.given.1 (refused 32 _ _ c.refusal.ensures)
+returns-in-Refused c = by_case 32 written_report c.in-Refused.is (refused 32 _ _ c.refusal.ensures)

@@ -7,15 +7,14 @@ use Rattle.machines.proofs.eventb.admit.Goals as goal
 pub returns-in_default : goal.returns-in_default
 returns-in_default c =
     let r = c.read-o in
-    let k = c.enum_told-in_default-1.given in
-    unread_admission _ r.result r.ensures _ k.0.0 k.0.1.0 k.1 c.passed_on.ensures
+    unread_admission _ r.result r.ensures _ c.in_default.field-0 c.in_default.field-1 c.in_default.is c.passed_on.ensures
 
 pub returns-then-outside : goal.returns-then-outside
 returns-then-outside c =
     let r = c.read-o in
-    outside_admission _ r.result r.ensures _ c.enum_told-1.given.1 (sym c.if-outside.true ∙ c.outside.ensures) refl
+    outside_admission _ r.result r.ensures _ c.in-Done.is (sym c.if-outside.true ∙ c.outside.ensures) refl
 
 pub returns : goal.returns
 returns c =
     let r = c.read-o in
-    inside_admission _ r.result r.ensures _ c.enum_told-1.given.1 (sym c.if-outside.false ∙ c.outside.ensures) refl refl
+    inside_admission _ r.result r.ensures _ c.in-Done.is (sym c.if-outside.false ∙ c.outside.ensures) refl refl

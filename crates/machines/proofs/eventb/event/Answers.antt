@@ -13,26 +13,25 @@ pub returns-in_default : goal.returns-in_default
 returns-in_default c =
     let s = c.args in
     let a = c.admit-a in
-    let k = c.enum_told-in_default-1.given in
-    turned_away s.text.now s.out.now s.out.now (omega (arith, c.if-out-lt65536.false)) _ a.result k.0.0 k.0.1.0 a.ensures k.1 refl
+    turned_away s.text.now s.out.now s.out.now (omega (arith, c.if-out-lt65536.false)) _ a.result c.in_default.field-0 c.in_default.field-1 a.ensures c.in_default.is refl
 
 pub returns-then-d-event : goal.returns-then-d-event
 returns-then-d-event c =
     let s = c.args in
     let a = c.admit-a in
-    let k = drawn_by s.text.now a.result _ a.ensures c.enum_told-1.given.1 in
+    let k = drawn_by s.text.now a.result _ a.ensures c.in-Done.is in
     past_answer s.text.now s.out.now s.out.now (omega (arith, c.if-out-lt65536.false)) _ k s.event (omega (arith, c.if-d-event.true)) refl
 
 pub write-n-requires : goal.write-n-requires
 write-n-requires c =
     let s = c.args in
     let a = c.admit-a in
-    (drawn_by s.text.now a.result _ a.ensures c.enum_told-1.given.1, omega (arith, c.if-d-event.false))
+    (drawn_by s.text.now a.result _ a.ensures c.in-Done.is, omega (arith, c.if-d-event.false))
 
 pub returns : goal.returns
 returns c =
     let s = c.args in
     let a = c.admit-a in
     let w = c.write-n in
-    let k = drawn_by s.text.now a.result _ a.ensures c.enum_told-1.given.1 in
-    event_answer s.text.now s.out-1.now _ (omega (arith, c.if-out-lt65536.false)) _ k s.event w.result (omega (arith, c.if-d-event.false)) w.ensures
+    let k = drawn_by s.text.now a.result _ a.ensures c.in-Done.is in
+    event_answer s.text.now s.out.now _ (omega (arith, c.if-out-lt65536.false)) _ k s.event w.result (omega (arith, c.if-d-event.false)) w.ensures

@@ -13,19 +13,18 @@ pub returns-in_default : goal.returns-in_default
 returns-in_default c =
     let s = c.args in
     let a = c.admit-a in
-    let k = c.enum_told-in_default-1.given in
-    turned_away s.text.now s.out.now s.out.now (omega (arith, c.if-out-lt65536.false)) _ a.result k.0.0 k.0.1.0 a.ensures k.1 refl
+    turned_away s.text.now s.out.now s.out.now (omega (arith, c.if-out-lt65536.false)) _ a.result c.in_default.field-0 c.in_default.field-1 a.ensures c.in_default.is refl
 
 pub open-requires : goal.open-requires
 open-requires c =
     let s = c.args in
     let a = c.admit-a in
-    drawn_by s.text.now a.result _ a.ensures c.enum_told-1.given.1
+    drawn_by s.text.now a.result _ a.ensures c.in-Done.is
 
 pub returns : goal.returns
 returns c =
     let s = c.args in
     let a = c.admit-a in
     let w = c.«open» in
-    let k = drawn_by s.text.now a.result _ a.ensures c.enum_told-1.given.1 in
-    opening_answer s.text.now s.out-1.now _ (omega (arith, c.if-out-lt65536.false)) _ k w.result w.ensures
+    let k = drawn_by s.text.now a.result _ a.ensures c.in-Done.is in
+    opening_answer s.text.now s.out.now _ (omega (arith, c.if-out-lt65536.false)) _ k w.result w.ensures
