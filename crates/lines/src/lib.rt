@@ -1,8 +1,9 @@
 #![tactic(auto)]
+
 ghost use Rattle.std.specs.Prelude.{◌≡◌, ◌+◌, ◌<◌, length};
 ghost use Rattle.output.specs.Buffer.{buffer, put_all};
 ghost use Rattle.lines.specs.code.Written.{line_head, spaced_value, spaced_values, line_at};
-ghost use Rattle.lines.specs.code.Walks.{columns, stands, walk_stands, parts as parts_of, copies as CopiesOf, resets as resets_of, part as part_of, walked_listing};
+ghost use Rattle.lines.specs.code.Walks.{columns, stands, walk_stands, parts as parts_of, copies as copies_of, resets as resets_of, part as part_of, walked_listing};
 
 use diagram::Diagram;
 use labels::Values;
@@ -217,7 +218,7 @@ fn copies<'a>(
     out: &mut [u8; 32768],
 ) -> Walk
     requires { i < 256 }
-    ensures { walk_stands result out.new ≡ CopiesOf (part_of text.now left (columns kinds.now sizes.now depths.now names.now)) i values 0 size (stands (i + 1) event at out.old) }
+    ensures { walk_stands result out.new ≡ copies_of (part_of text.now left (columns kinds.now sizes.now depths.now names.now)) i values 0 size (stands (i + 1) event at out.old) }
 {
     let mut t = Walk {
         node: i + 1,

@@ -1,5 +1,4 @@
 -- `lines::head` meets its contract: its parts stand one after the other. Assumes nothing.
-use Rattle.std.proofs.Common.{rules}
 use Rattle.lines.specs.code.Written.{line_head}
 use Rattle.output.proofs.Buffers.{before}
 use Rattle.lines.proofs.head.Goals as goal

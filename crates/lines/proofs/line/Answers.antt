@@ -1,5 +1,4 @@
 -- `lines::line` meets its contract: its parts stand one after the other. Assumes nothing.
-use Rattle.std.proofs.Common.{rules}
 use Rattle.lines.specs.code.Written.{line_at}
 use Rattle.output.proofs.Buffers.{before, same_put}
 use Rattle.lines.proofs.line.Goals as goal

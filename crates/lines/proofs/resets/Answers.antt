@@ -1,5 +1,4 @@
 -- `lines::resets` meets its contract. Assumes nothing.
-use Rattle.std.proofs.Common.{rules}
 use borrow.Author.Tests.{eq-eqb, ne_eqb}
 use Rattle.lines.proofs.resets.Goals as goal
 

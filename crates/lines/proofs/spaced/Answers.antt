@@ -1,5 +1,4 @@
 -- `lines::spaced` meets its contract: the values stand one after the other. Assumes nothing.
-use Rattle.std.proofs.Common.{rules}
 use Rattle.lines.specs.code.Written.{spaced_values}
 use Rattle.output.proofs.Buffers.{before}
 use Rattle.lines.proofs.spaced.Goals as goal

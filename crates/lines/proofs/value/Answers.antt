@@ -1,5 +1,4 @@
 -- `lines::value` meets its contract. Assumes nothing.
-use Rattle.std.proofs.Common.{rules}
 use Rattle.output.proofs.Buffers.{before, none_put}
 use Rattle.lines.proofs.value.Goals as goal
 
