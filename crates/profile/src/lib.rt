@@ -1,4 +1,5 @@
 #![tactic(auto)]
+
 ghost use Rattle.std.specs.Prelude.{◌≡◌, cond, take};
 ghost use Rattle.diagram.specs.TreeNodes.{copying};
 ghost use Rattle.profile.specs.code.Profiles.{some_copies, outside_of, Names};

@@ -4,19 +4,16 @@ use mathlib.Core.Path.{◌≡◌, refl, sym, ◌∙◌}
 use Prim.Native.Nat.{◌-◌}
 use native.Mathlib.Omega.{arith}
 use lib.ListN.{length, length-map}
-use borrow.Author.Tests.{ltb-true, ltb-false}
 use Rattle.search.proofs.Columns.{columns_found}
 use Rattle.profile.proofs.NamesFilled.{Filled, name_more}
 use Rattle.profile.proofs.names.Goals as goal
 
--- There are 256 nodes.
-nodes_long : (s : goal.Start) → length s.args.d.nodes ≡ 256
-nodes_long s = sym (length-map s.args.d.nodes _) ∙ s.well-formed.0.1.1.0.1.0.1
-
 pub loop-e-preserved : goal.loop-e-preserved
 loop-e-preserved c =
     let l = c.loop-e in
-    name_more c.args.d _ _ l.e c.seek-s.result c.reset.result l.invariant (omega (arith, c.loop-e-test.true)) (ltb-true l.e c.args.d.events c.if-e-d.true)
-    (columns_found c.args.d l.e (nodes_long c) c.columns-c.ensures c.weigh-weights.ensures c.seek-s.ensures) c.reset.ensures
+    let nodes_long : length c.args.d.nodes ≡ 256 = c.well_formed.0.1.1.0.1.0.1 in
+    name_more c.args.d _ _ l.e c.seek-s.result c.reset.result l.invariant (omega (arith, c.loop-e-test.true)) c.if-e-d.true
+    (columns_found c.args.d l.e nodes_long c.columns-c.ensures c.weigh-weights.ensures c.seek-s.ensures) c.reset.ensures
 
--- LEFT: in place: record { room = omega arith; counts = omega arith; places_long = refl; resets_long = refl; its_names = λ n h. let z : ⊥ = omega arith in absurd z }
+pub loop-e-init : goal.loop-e-init
+loop-e-init c = record { room = omega arith; counts = omega arith; places_long = refl; resets_long = refl; its_names = λ n h. let z : ⊥ = omega arith in absurd z }
