@@ -1,4 +1,5 @@
 #![tactic(auto)]
+
 ghost use Rattle.std.specs.Prelude.{◌≡◌, true, ◌∷◌, ◌-◌, ◌≤◌};
 ghost use Rattle.output.specs.Buffer.{buffer, put_all};
 ghost use Rattle.tokens.specs.Words.{word_at};

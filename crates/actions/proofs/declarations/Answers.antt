@@ -1,6 +1,4 @@
 -- One after the other.
-use Rattle.std.proofs.Common.{rules}
-use native.Mathlib.Omega.{arith}
 use Rattle.output.proofs.Buffers.{before, same_put}
 use Rattle.variables.specs.code.Spelled.{spelled}
 use Rattle.actions.proofs.ByKind.{from_first}

@@ -1,13 +1,10 @@
 -- The invariant: what is written, and the lines that are left, come to the whole. The measure is how many lines are left.
-use Rattle.std.proofs.Common.{rules}
-use mathlib.Core.Path.{◌≡◌, refl, ap, ◌∙◌}
+use mathlib.Core.Path.{refl, ap, ◌∙◌}
 use mathlib.Core.List.{List}
-use Prim.Native.Nat.{ℕ, ◌+◌, ◌-◌, ◌≤◌}
+use Prim.Native.Nat.{ℕ}
 use native.Mathlib.Omega.{arith}
-use lib.ListN.{length}
 use Rattle.output.specs.Buffer.{buffer, put_all}
 use Rattle.variables.specs.code.Spelled.{spelled}
-use Rattle.actions.specs.code.Written.{lines as lines_of}
 use Rattle.actions.proofs.ByKind.{lines_begin, lines_next, lines_end}
 use Rattle.actions.proofs.lines.Goals as goal
 
@@ -24,10 +21,12 @@ loop-i-preserved c =
     let w = c.line-a in (
       omega (arith, l.invariant.0),
       omega (arith, t),
-      w.auto.1.1.1.1.1.0 ∙ l.invariant.2,
+      w.auto.out ∙ l.invariant.2,
       lines_next (spelled c.args.text.now c.args.v) a.kind a.k a.from a.to l.i _ l.invariant.0 t w.ensures ∙ l.invariant.3,
     )
 
--- LEFT: in place: c.before.loop.invariant.0
-
--- LEFT: in place: c.before.loop.invariant.2
+pub returns : goal.returns
+returns c =
+    let l = c.loop-i in
+    let a = c.args in
+    lines_end (spelled a.text.now a.v) a.kind a.k a.from a.to l.i _ (omega (arith, c.loop-i-test.false)) ∙ l.invariant.3

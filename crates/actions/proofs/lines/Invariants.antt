@@ -1,13 +1,10 @@
 -- The invariant: what is written, and the lines that are left, come to the whole. The measure is how many lines are left.
-use mathlib.Core.Path.{◌≡◌, refl, ap, ◌∙◌}
-use mathlib.Core.List.{List}
-use Prim.Native.Nat.{ℕ, ◌+◌, ◌-◌, ◌≤◌}
-use native.Mathlib.Omega.{arith}
+use mathlib.Core.Path.{◌≡◌}
+use Prim.Native.Nat.{◌+◌, ◌-◌, ◌≤◌}
 use lib.ListN.{length}
 use Rattle.output.specs.Buffer.{buffer, put_all}
 use Rattle.variables.specs.code.Spelled.{spelled}
 use Rattle.actions.specs.code.Written.{lines as lines_of}
-use Rattle.actions.proofs.ByKind.{lines_begin, lines_next, lines_end}
 use Rattle.actions.proofs.lines.Given as goal
 
 abbrev pub invariant-loop-i : goal.invariant-loop-i

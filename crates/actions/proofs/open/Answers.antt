@@ -1,5 +1,4 @@
 -- One after the other.
-use Rattle.std.proofs.Common.{rules}
 use Prim.Native.Nat.{◌<◌}
 use native.Mathlib.Omega.{arith}
 use Rattle.output.proofs.Buffers.{before, same_put}
@@ -15,5 +14,3 @@ pub returns : goal.returns
 returns c =
     λ l.
     same_put _ _ _ (before _ _ _ c.declarations-a.ensures (before _ _ _ c.bytes-b.ensures (before _ _ _ (same_put _ _ _ c.lines-c.ensures (from_first (spelled c.args.text.now c.args.v) 3 1 c.args.n)) c.bytes.ensures))) (opened _ _ _)
-
--- LEFT: in place: omega (arith, c.before.if1.false)

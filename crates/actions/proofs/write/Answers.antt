@@ -1,5 +1,4 @@
 -- The event's own line, and then those of what it clears.
-use Rattle.std.proofs.Common.{rules}
 use Prim.Native.Nat.{◌<◌}
 use native.Mathlib.Omega.{arith}
 use Rattle.output.proofs.Buffers.{before, same_put}

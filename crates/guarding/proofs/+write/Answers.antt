@@ -1,5 +1,4 @@
 -- The measure is how many numbers there are.
-use Rattle.std.proofs.Common.{rules}
 use mathlib.Core.Path.{ap}
 use Prim.Native.Nat.{ℕ, ◌+◌, ◌-◌, ◌<◌}
 use lib.ListN.{length, drop, length-take}
@@ -9,45 +8,45 @@ use Rattle.guarding.proofs.Down.{leaf_guarded, first_guarded, reset_guarded, sec
 use native.Mathlib.Omega.{arith}
 use Rattle.guarding.proofs.+write.Goals as goal
 
-pub write-returns-then-n-eq0 : goal.write-returns-then-n-eq0
-write-returns-then-n-eq0 t c =
+pub returns-then-n-eq0 : goal.returns-then-n-eq0
+returns-then-n-eq0 t c =
     λ p e f o l. absurd (omega (arith, some_number c.args.codes.now p e, c.if-n-eq0.true))
 
-pub write-returns-then-code-le-AGAIN : goal.write-returns-then-code-le-AGAIN
-write-returns-then-code-le-AGAIN t c =
+pub returns-then-code-le-AGAIN : goal.returns-then-code-le-AGAIN
+returns-then-code-le-AGAIN t c =
     λ p e f o l.
     let a = c.args in
     leaf_guarded (spelled a.text.now a.v) _ a.codes.now a.from a.e p e f.numbered c.if-code-le-AGAIN.true (c.own_line-a.ensures (omega (arith, f.few, some_number a.codes.now p e)))
 
-pub write-returns-then-from-gt511 : goal.write-returns-then-from-gt511
-write-returns-then-from-gt511 t c =
+pub returns-then-from-gt511 : goal.returns-then-from-gt511
+returns-then-from-gt511 t c =
     λ p e f o l. let h : 511 < c.args.from = c.if-from-gt511.true in absurd (omega (arith, h, f.few, some_number c.args.codes.now p e))
 
-pub write-returns-then-k-gt1023 : goal.write-returns-then-k-gt1023
-write-returns-then-k-gt1023 t c =
+pub returns-then-k-gt1023 : goal.returns-then-k-gt1023
+returns-then-k-gt1023 t c =
     λ p e f o l. let h : 1023 < c.args.k = c.if-k-gt1023.true in absurd (omega (arith, h, l, some_number c.args.codes.now p e))
 
-pub write-slice_bounds-events-end : goal.write-slice_bounds-events-end
-write-slice_bounds-events-end t c = first_count c.args.codes.now (within_inner c.args.codes.now c.cut-m.ensures.1)
+pub slice_bounds-events-end : goal.slice_bounds-events-end
+slice_bounds-events-end t c = first_count c.args.codes.now (within_inner c.args.codes.now c.cut-m.ensures.1)
 
-pub write-overflow_add-next : goal.write-overflow_add-next
-write-overflow_add-next t c =
+pub overflow_add-next : goal.overflow_add-next
+overflow_add-next t c =
     omega (arith, c.if-from-gt511.false, c.events.ensures.1, length-take c.cut-m.result c.args.codes.now, c.cut-m.ensures.1)
 
-pub write-slice_bounds-after-start : goal.write-slice_bounds-after-start
-write-slice_bounds-after-start t c = (second_inside c.args.codes.now c.if-n-eq0.false c.decreases (within_inner c.args.codes.now c.cut-m.ensures.1)).0
+pub slice_bounds-after-start : goal.slice_bounds-after-start
+slice_bounds-after-start t c = (second_inside c.args.codes.now c.if-n-eq0.false c.decreases (within_inner c.args.codes.now c.cut-m.ensures.1)).0
 
-pub write-ask_second-a-requires : goal.write-ask_second-a-requires
-write-ask_second-a-requires t c = omega (arith, c.if-k-gt1023.false)
+pub ask_second-a-requires : goal.ask_second-a-requires
+ask_second-a-requires t c = omega (arith, c.if-k-gt1023.false)
 
-pub write-slice_bounds-write-end : goal.write-slice_bounds-write-end
-write-slice_bounds-write-end t c = first_count c.args.codes.now (within_inner c.args.codes.now c.cut-m.ensures.1)
+pub slice_bounds-write-end : goal.slice_bounds-write-end
+slice_bounds-write-end t c = first_count c.args.codes.now (within_inner c.args.codes.now c.cut-m.ensures.1)
 
-pub write-write-requires : goal.write-write-requires
-write-write-requires t c = (first_fewer c.args.codes.now c.if-n-eq0.false c.decreases (within_inner c.args.codes.now c.cut-m.ensures.1), tt)
+pub write-requires : goal.write-requires
+write-requires t c = (first_fewer c.args.codes.now c.if-n-eq0.false c.decreases (within_inner c.args.codes.now c.cut-m.ensures.1), tt)
 
-pub write-returns-then-e-next : goal.write-returns-then-e-next
-write-returns-then-e-next t c =
+pub returns-then-e-next : goal.returns-then-e-next
+returns-then-e-next t c =
     λ p e f o l.
     let a = c.args in
     let cs = a.codes.now in
@@ -61,27 +60,27 @@ write-returns-then-e-next t c =
     first_guarded (spelled a.text.now a.v) a.k cs a.from a.e m.0 (ap (λ (i : ℕ). a.from + i) n.0) y.0 c.if-e-next.true w
     (λ q g r i j. c.write.ensures q g r i (omega (arith, l, j, h, m.1, some))) p e f o (omega (arith, c.if-code-le-AGAIN.false))
 
-pub write-slice_bounds-ask_first-end : goal.write-slice_bounds-ask_first-end
-write-slice_bounds-ask_first-end t c = first_count c.args.codes.now (within_inner c.args.codes.now c.cut-m.ensures.1)
+pub slice_bounds-ask_first-end : goal.slice_bounds-ask_first-end
+slice_bounds-ask_first-end t c = first_count c.args.codes.now (within_inner c.args.codes.now c.cut-m.ensures.1)
 
-pub write-ask_first-a-requires : goal.write-ask_first-a-requires
-write-ask_first-a-requires t c = omega (arith, c.if-k-gt1023.false)
+pub ask_first-a-requires : goal.ask_first-a-requires
+ask_first-a-requires t c = omega (arith, c.if-k-gt1023.false)
 
-pub write-returns-then-code-eq-ROUNDS : goal.write-returns-then-code-eq-ROUNDS
-write-returns-then-code-eq-ROUNDS t c =
+pub returns-then-code-eq-ROUNDS : goal.returns-then-code-eq-ROUNDS
+returns-then-code-eq-ROUNDS t c =
     λ p e f o l.
     let a = c.args in
     reset_guarded (spelled a.text.now a.v) a.k a.codes.now a.from a.e c.cut-m.ensures.0 (ap (λ (i : ℕ). a.from + i) c.events.ensures.0) (omega (arith, c.if-e-next.false))
     c.ask_first-a.ensures p e f c.if-code-eq-ROUNDS.true
 
-pub write-slice_bounds-write-start : goal.write-slice_bounds-write-start
-write-slice_bounds-write-start t c = (second_inside c.args.codes.now c.if-n-eq0.false c.decreases (within_inner c.args.codes.now c.cut-m.ensures.1)).0
+pub slice_bounds-write-start : goal.slice_bounds-write-start
+slice_bounds-write-start t c = (second_inside c.args.codes.now c.if-n-eq0.false c.decreases (within_inner c.args.codes.now c.cut-m.ensures.1)).0
 
-pub write-write-requires-2 : goal.write-write-requires-2
-write-write-requires-2 t c = (second_fewer c.args.codes.now c.if-n-eq0.false c.decreases (within_inner c.args.codes.now c.cut-m.ensures.1), tt)
+pub write-requires-2 : goal.write-requires-2
+write-requires-2 t c = (second_fewer c.args.codes.now c.if-n-eq0.false c.decreases (within_inner c.args.codes.now c.cut-m.ensures.1), tt)
 
-pub write-returns : goal.write-returns
-write-returns t c =
+pub returns : goal.returns
+returns t c =
     λ p e f o l.
     let a = c.args in
     let cs = a.codes.now in

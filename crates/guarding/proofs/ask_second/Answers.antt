@@ -1,5 +1,4 @@
 -- By the code's test.
-use Rattle.std.proofs.Common.{rules}
 use Rattle.variables.specs.code.Spelled.{spelled}
 use Rattle.guarding.proofs.Labelled.{one_wrote, none_wrote, asked_second, not_second}
 use Rattle.guarding.proofs.ask_second.Goals as goal

@@ -1,5 +1,4 @@
 -- The label, the condition and the line's end, where there is a condition.
-use Rattle.std.proofs.Common.{rules}
 use mathlib.Core.Path.{sym, ◌∙◌}
 use mathlib.Core.Bool.{false}
 use Rattle.output.proofs.Buffers.{before}

@@ -1,6 +1,4 @@
 -- By the code's test.
-use Rattle.std.proofs.Common.{rules}
-use mathlib.Core.Path.{sym}
 use native.Mathlib.Omega.{arith}
 use lib.Seq.{length-take-le}
 use Rattle.guarding.proofs.Labelled.{body_cut, parts_cut}

@@ -1,5 +1,4 @@
 -- The label, the formula and the line's end.
-use Rattle.std.proofs.Common.{rules}
 use Rattle.output.proofs.Buffers.{before, same_put}
 use Rattle.guarding.proofs.Labelled.{line_text}
 use Rattle.guarding.proofs.idle_line.Goals as goal

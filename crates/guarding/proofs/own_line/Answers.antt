@@ -1,5 +1,4 @@
 -- By the code's test.
-use Rattle.std.proofs.Common.{rules}
 use native.Mathlib.Omega.{arith}
 use Rattle.output.proofs.Buffers.{same_put, none_put}
 use Rattle.guarding.proofs.Labelled.{leaf_guard, no_guard}
