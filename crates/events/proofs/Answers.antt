@@ -4,7 +4,7 @@ use mathlib.Core.Bool.{true, false, cond}
 use mathlib.Core.List.{List, []}
 use Prim.Native.Nat.{ℕ, ◌≤◌, ◌<◌}
 use native.Mathlib.Omega.{arith}
-use denote.Ref.{Bor, MutBor}
+use denote.Ref.{Bor}
 use lib.Dec.{ltb}
 use lib.ListN.{length}
 use borrow.Author.Tests.{ltb-true, ltb-false, lt-ltb, le-ltb}
@@ -139,7 +139,7 @@ named_past text r o e q h l p n =
       its_part = rw none p;
     }
 
-pub named_some : (text r : MutBor (List ℕ)) (o : ReadResult) (e : ℕ) (s : Spot) → o ≡ read_of text.now → o.answer ≡ Done → e < o.diagram.events → s ≡ spot_of o.diagram e
+pub named_some : (text r : Bor (List ℕ)) (o : ReadResult) (e : ℕ) (s : Spot) → o ≡ read_of text.now → o.answer ≡ Done → e < o.diagram.events → s ≡ spot_of o.diagram e
     → Word text s.place r → Named text e r
 unfolding name_of Placed
 named_some text r o e s q h l g w =

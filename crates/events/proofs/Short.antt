@@ -2,7 +2,7 @@
 use mathlib.Core.Path.{◌≡◌, refl}
 use mathlib.Core.Bool.{Bool, true, false, ◌&&◌, false≢true}
 use mathlib.Core.List.{List, [], ◌∷◌, ◌++◌}
-use Prim.Native.Nat.{ℕ, zero, suc, ◌-◌, ◌≤◌, ◌<◌}
+use Prim.Native.Nat.{ℕ, zero, suc, ◌+◌, ◌*◌, ◌-◌, ◌≤◌, ◌<◌}
 use native.Mathlib.Omega.{arith}
 use lib.Dec.{leb}
 use lib.ListN.{length, get_or, length-append}
@@ -18,6 +18,7 @@ use Rattle.tokens.specs.Token.{named}
 use Rattle.grammar.specs.Named.{all_named, flow_named, children_named, child_named, member_named, members_named}
 use Rattle.reading.specs.Accepted.{Accepted}
 use Rattle.process.specs.Process.{Event, Joint, seq, Process, event, join, again, rounds, events}
+use Rattle.diagram.specs.Count.{member_events}
 use Rattle.process.specs.Expand.{reset_of, joint, copies, expand, flow_process, children_process, child_process, loop_process, member_process, members_process}
 
 -- Something holds of each element: said once for values and for events.
@@ -139,10 +140,11 @@ mutual
       let k = parts _ _ _ _ _ _ i.1 in
       let l = parts _ _ _ _ _ _ k.1 in
       members_short ms (joint y) _ _ w l.1 (short_join (joint y) _ _ (member_short a _ w k.0) (member_short b _ w l.0))
-  child_short {around} (replicator y par n m) e w t =
+  child_short {around} {vs} (replicator y par n m) e w t =
       let k = parts (named keywords par) (leb 1 n && leb n 16) (surrounded around && new par around) _ _ _ t in
       let l = leb-true n 16 (and_r (leb 1 n) _ k.0.sizes) in
-      copies_short (joint y) _ (n - 1) (λ v h. member_short m _ (valued_more par v w (omega arith)) k.1)
+      copies_short (joint y) (λ v. member_process m (vs ++ (v ∷ [])) (e + v * member_events m)) (n - 1)
+      (λ v h. member_short m (e + v * member_events m) (valued_more par v w (omega arith)) k.1)
 
   loop_short : {around : List Name} {vs : List ℕ} (m : Member) (e : ℕ) → Valued around vs → Passed (member_named keywords m) (member_sized m) (member_parameters m around)
       → AllShort (loop_process m vs e)

@@ -1,4 +1,5 @@
 #![tactic(auto)]
+
 ghost use Rattle.std.specs.Prelude.{◌≡◌};
 ghost use Rattle.output.specs.Buffer.{buffer, put_all};
 ghost use Rattle.events.specs.Names.{Named};

@@ -7,7 +7,7 @@ pub returns-in_default : goal.returns-in_default
 returns-in_default c =
     let a = c.args in
     let r = c.read-o in
-    listed_refused a.text.now a.out.now _ r.result c.in_default.field-0 c.in_default.field-1 c.write_refusal.result r.ensures c.in_default.is c.write-refusal-arg.given.0.1 c.write_refusal.ensures
+    listed_refused a.text.now a.out.now _ r.result c.in_default.field-0 c.in_default.field-1 c.write_refusal.result r.ensures c.in_default.is c.told-out c.write_refusal.ensures
 
 pub returns : goal.returns
 returns c =
