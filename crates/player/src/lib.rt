@@ -1,4 +1,5 @@
 #![tactic(auto)]
+
 ghost use Rattle.std.specs.Prelude.{◌≡◌};
 ghost use Rattle.output.specs.Buffer.{buffer, put_all};
 ghost use Rattle.player.specs.Shown.{item as item_of, events_line as events_line_of, next_bits as next_bits_of, state_text, answer_line as answer_line_of, stepped_text, said_step, opening_text, closing_text};

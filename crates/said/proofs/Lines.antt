@@ -7,7 +7,7 @@ use native.Mathlib.Omega.{arith}
 use lib.Dec.{eqb}
 use lib.ListN.{length, take, drop, get_or, length-drop, drop_of_length-le}
 use Rattle.std.proofs.lemmas.List.{drop_more}
-use lib.Seq.{take-length, take_all, drop-drop, length-take-le}
+use lib.Seq.{take_all, drop-drop, length-take-le}
 use Rattle.base.proofs.Truth.{by_cases}
 use Rattle.said.specs.Search.{index_of}
 use Rattle.said.specs.Lines.{onto, lines, first, rest, LineEnds}

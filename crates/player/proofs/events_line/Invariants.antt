@@ -1,14 +1,10 @@
 -- `player::events_line` meets its contract. The loop's invariant: what is written, and the lines that are left, come to the whole. Its measure is how many bytes are left. Assumes nothing.
-use mathlib.Core.Path.{◌≡◌, refl, ap, ◌∙◌}
-use mathlib.Core.List.{List}
-use Prim.Native.Nat.{ℕ, ◌-◌, ◌≤◌}
-use native.Mathlib.Omega.{arith}
+use mathlib.Core.Path.{◌≡◌}
+use Prim.Native.Nat.{◌-◌, ◌≤◌}
 use lib.ListN.{length, drop}
 use Rattle.output.specs.Buffer.{buffer, put_all}
-use Rattle.output.proofs.Buffers.{before}
 use Rattle.said.specs.Lines.{lines, event_lines}
-use Rattle.player.specs.Shown.{chosen, events_line}
-use Rattle.player.proofs.Chosen.{chosen_more, chosen_done, and_byte}
+use Rattle.player.specs.Shown.{chosen}
 use Rattle.player.proofs.events_line.Given as goal
 
 abbrev pub invariant-loop-at : goal.invariant-loop-at

@@ -1,5 +1,4 @@
 -- `player::item` meets its contract: its parts stand one after the other. Assumes nothing.
-use Rattle.std.proofs.Common.{rules}
 use Rattle.output.proofs.Buffers.{before, none_put}
 use Rattle.player.proofs.Chosen.{and_byte}
 use Rattle.player.proofs.item.Goals as goal

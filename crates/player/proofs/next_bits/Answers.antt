@@ -1,5 +1,4 @@
 -- `player::next_bits` meets its contract. Assumes nothing.
-use Rattle.std.proofs.Common.{rules}
 use mathlib.Core.Path.{ap, ◌∙◌}
 use Rattle.record.specs.Bytes.{words_of}
 use Rattle.player.specs.Shown.{next_bits}

@@ -1,5 +1,4 @@
 -- `player::opening` meets its contract: its parts stand one after the other. Assumes nothing.
-use Rattle.std.proofs.Common.{rules}
 use mathlib.Core.Path.{ap}
 use Rattle.output.proofs.Buffers.{before, same_put}
 use Rattle.player.specs.Shown.{state_text, opening_text}

@@ -1,5 +1,4 @@
 -- `player::state_lines` meets its contract: its parts stand one after the other. Assumes nothing.
-use Rattle.std.proofs.Common.{rules}
 use mathlib.Core.Path.{ap}
 use mathlib.Core.List.{List}
 use Prim.Native.Nat.{ℕ}
@@ -16,5 +15,5 @@ returns c =
     let b = c.events_line-a in
     let n = c.next_bits-next in
     let line : List ℕ → List ℕ = events_line (bytes "next") a.listing.now in
-    let next = same_put (buffer b.result b.new.1.1.1.0) (line n.result) _ c.events_line.ensures (ap line n.ensures) in
-    before (buffer a.at a.out-1.now) (events_line (bytes "bits") a.listing.now a.r.bits) _ b.ensures next
+    let next = same_put (buffer b.result b.new.out) (line n.result) _ c.events_line.ensures (ap line n.ensures) in
+    before (buffer a.at a.out.now) (events_line (bytes "bits") a.listing.now a.r.bits) _ b.ensures next
