@@ -3,7 +3,7 @@
 // are cut to their width, so that nothing has to be known of them here.
 
 ghost use Rattle.std.specs.Prelude.{◌≡◌, cond, ◌+◌, ◌*◌, ◌%◌, ◌^◌};
-ghost use Rattle.base.specs.Reports.{result};
+ghost use Rattle.base.specs.Reports.{result as result_of};
 ghost use Rattle.reading.specs.Reports.{report as read_report};
 ghost use Rattle.printer.specs.Reports.{report as print_report};
 ghost use Rattle.translator.specs.Reports.{report as translate_report};
@@ -22,14 +22,14 @@ use translator::Translated;
 
 // Every refusal is told so.
 pub fn refusal(number: u8, place: usize) -> u64
-    ensures* { λ r. ⌜ r ≡ number * 2 ^ 32 + place % 2 ^ 32 ⌝ }
+    ensures { result ≡ number * 2 ^ 32 + place % 2 ^ 32 }
 {
     (number as u64) * 4294967296 + (place as u64) % 4294967296
 }
 
 // Nodes, node copies and events, of 10 bits each.
 pub fn read_number(o: ReadResult) -> u64
-    ensures* { λ r. ⌜ r ≡ packed 10 (read_report o) ⌝ }
+    ensures { result ≡ packed 10 (read_report o) }
 {
     let answer = o.answer;
     let d = o.diagram;
@@ -46,7 +46,7 @@ pub fn read_number(o: ReadResult) -> u64
 
 // The bytes written.
 pub fn print_number(p: Printed) -> u64
-    ensures* { λ r. ⌜ r ≡ packed 32 (print_report p) ⌝ }
+    ensures { result ≡ packed 32 (print_report p) }
 {
     match p {
         Printed::Bytes(n) => (n as u64) % 4294967296,
@@ -56,7 +56,7 @@ pub fn print_number(p: Printed) -> u64
 
 // The bytes written.
 pub fn translate_number(t: Translated) -> u64
-    ensures* { λ r. ⌜ r ≡ packed 32 (translate_report t) ⌝ }
+    ensures { result ≡ packed 32 (translate_report t) }
 {
     match t {
         Translated::Bytes(n) => (n as u64) % 4294967296,
@@ -66,7 +66,7 @@ pub fn translate_number(t: Translated) -> u64
 
 // The bytes of an event's text.
 pub fn written_number(w: Written) -> u64
-    ensures* { λ r. ⌜ r ≡ packed 32 (written_report w) ⌝ }
+    ensures { result ≡ packed 32 (written_report w) }
 {
     match w {
         Written::Bytes(n) => (n as u64) % 4294967296,
@@ -76,7 +76,7 @@ pub fn written_number(w: Written) -> u64
 
 // The mark of a reset, how many values there are, and the values, of 6 bits each.
 fn marked(mark: u64, v: Values) -> u64
-    ensures* { λ r. ⌜ r ≡ packed 6 (result (marked_values mark v)) ⌝ }
+    ensures { result ≡ packed 6 (result_of (marked_values mark v)) }
 {
     (((mark % 64 * 64 + (v.count as u64) % 64) * 64 + (v.first as u64) % 64) * 64
         + (v.second as u64) % 64)
@@ -85,7 +85,7 @@ fn marked(mark: u64, v: Values) -> u64
 }
 
 pub fn label_number(l: Label) -> u64
-    ensures* { λ r. ⌜ r ≡ packed 6 (label_report l) ⌝ }
+    ensures { result ≡ packed 6 (label_report l) }
 {
     match l {
         Label::Leaf(v) => marked(0, v),
@@ -95,7 +95,7 @@ pub fn label_number(l: Label) -> u64
 }
 
 fn mark_of(marked: bool) -> u64
-    ensures* { λ r. ⌜ r ≡ cond marked 1 0 ⌝ }
+    ensures { result ≡ cond marked 1 0 }
 {
     if marked {
         return 1;
@@ -105,7 +105,7 @@ fn mark_of(marked: bool) -> u64
 
 // Kind, size, whether it is a solid child, whether a flow's sw is 1, and depth, of 6 bits each.
 pub fn node_number(node: Node) -> u64
-    ensures* { λ r. ⌜ r ≡ packed 6 (result (node_values node)) ⌝ }
+    ensures { result ≡ packed 6 (result_of (node_values node)) }
 {
     let kind = node.kind;
     let number = columns::index(kind) as u64;
@@ -118,7 +118,7 @@ pub fn node_number(node: Node) -> u64
 
 // Where its keyword stands, and its name or par, of 16 bits each.
 pub fn place_number(node: Node) -> u64
-    ensures* { λ r. ⌜ r ≡ packed 16 (result (place_values node)) ⌝ }
+    ensures { result ≡ packed 16 (result_of (place_values node)) }
 {
     (node.at as u64) % 65536 * 65536 + (node.name as u64) % 65536
 }

@@ -19,19 +19,19 @@ pub returns-then-d-event : goal.returns-then-d-event
 returns-then-d-event c =
     let s = c.args in
     let a = c.admit-a in
-    let k = drawn_by s.text.now a.result _ a.ensures c.in-Done.is in
+    let k = drawn_by s.text.now a.result _ a.ensures c.in-Bytes.is in
     past_answer s.text.now s.out.now s.out.now (omega (arith, c.if-out-lt65536.false)) _ k s.event (omega (arith, c.if-d-event.true)) refl
 
 pub write-n-requires : goal.write-n-requires
 write-n-requires c =
     let s = c.args in
     let a = c.admit-a in
-    (drawn_by s.text.now a.result _ a.ensures c.in-Done.is, omega (arith, c.if-d-event.false))
+    (drawn_by s.text.now a.result _ a.ensures c.in-Bytes.is, omega (arith, c.if-d-event.false))
 
 pub returns : goal.returns
 returns c =
     let s = c.args in
     let a = c.admit-a in
     let w = c.write-n in
-    let k = drawn_by s.text.now a.result _ a.ensures c.in-Done.is in
+    let k = drawn_by s.text.now a.result _ a.ensures c.in-Bytes.is in
     event_answer s.text.now s.out.now _ (omega (arith, c.if-out-lt65536.false)) _ k s.event w.result (omega (arith, c.if-d-event.false)) w.ensures

@@ -19,12 +19,12 @@ pub open-requires : goal.open-requires
 open-requires c =
     let s = c.args in
     let a = c.admit-a in
-    drawn_by s.text.now a.result _ a.ensures c.in-Done.is
+    drawn_by s.text.now a.result _ a.ensures c.in-Bytes.is
 
 pub returns : goal.returns
 returns c =
     let s = c.args in
     let a = c.admit-a in
     let w = c.«open» in
-    let k = drawn_by s.text.now a.result _ a.ensures c.in-Done.is in
+    let k = drawn_by s.text.now a.result _ a.ensures c.in-Bytes.is in
     opening_answer s.text.now s.out.now _ (omega (arith, c.if-out-lt65536.false)) _ k w.result w.ensures
