@@ -7,4 +7,4 @@ use Rattle.packing.specs.Packed.{packed}
 use Rattle.harness.proofs.adl_test_print.Goals as goal
 
 pub returns : goal.returns
-returns c = let print = c.print-p in (c.print_number.ensures ∙ ap (λ (p : Printed). packed 32 (print_report p)) print.ensures.0, print.ensures.1)
+returns c = let print = c.print-p in record { value = c.print_number.ensures ∙ ap (λ (p : Printed). packed 32 (print_report p)) print.ensures.value; out_after = print.ensures.out_after }

@@ -18,7 +18,7 @@ loop-n-preserved c =
     let a = c.args in
     let put = c.put_byte in
     let taken = c.loop-n-test.true in
-    (put.auto.0 ∙ l.invariant.0, (omega (arith, taken), copied_more a.bytes.now a.out.now l.out-1 put.new.0 l.n taken l.invariant.1.1 put.ensures))
+    (put.auto.bytes ∙ l.invariant.0, (omega (arith, taken), copied_more a.bytes.now a.out.now l.out put.new.bytes l.n taken l.invariant.1.1 put.ensures))
 
 pub shape_of-out : goal.shape_of-out
 shape_of-out c = c.loop-n.invariant.0
@@ -27,4 +27,4 @@ pub returns : goal.returns
 returns c =
     let l = c.loop-n in
     let a = c.args in
-    (omega (arith, l.invariant.1.0, c.loop-n-test.false), copied_all a.bytes.now a.out.now l.out l.n (omega (arith, c.loop-n-test.false)) l.invariant.1.1)
+    record { value = omega (arith, l.invariant.1.0, c.loop-n-test.false); out_after = copied_all a.bytes.now a.out.now l.out l.n (omega (arith, c.loop-n-test.false)) l.invariant.1.1 }
