@@ -4,7 +4,7 @@ use Rattle.output.proofs.Buffers.{written}
 use Rattle.eventb.proofs.refuse.Goals as goal
 
 pub slice_bounds-line-end : goal.slice_bounds-line-end
-slice_bounds-line-end c = (written _ _ _ _ c.refused-n.ensures).0
+slice_bounds-line-end g c = (written _ _ _ _ c.refused-n.ensures).0
 
 pub slice_bounds-write_all-end : goal.slice_bounds-write_all-end
-slice_bounds-write_all-end c = (written _ _ _ _ c.refused-n.ensures).1
+slice_bounds-write_all-end g c = (written _ _ _ _ c.refused-n.ensures).1

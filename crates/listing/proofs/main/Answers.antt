@@ -1,5 +1,4 @@
 -- `listing::main` is safe and ends: the listing fits the buffer. What it reads and writes no contract can say. Assumes nothing.
-use Rattle.std.proofs.Common.{rules}
 use lib.ListN.{replicate, length-replicate}
 use Prim.Native.Nat.{ℕ}
 use Rattle.events.proofs.Bounds.{list_room}

@@ -1,10 +1,9 @@
 -- `translate::main` is safe and ends: the table fits its buffer. What it reads and writes no contract can say. Assumes nothing.
-use Rattle.std.proofs.Common.{rules}
 use Rattle.translator.proofs.Bounds.{translate_room}
 use Rattle.translate.proofs.main.Goals as goal
 
 pub slice_bounds-table-end : goal.slice_bounds-table-end
-slice_bounds-table-end c = (translate_room _ _ _ _ c.translate-t.ensures _ c.t-1.given.1).0
+slice_bounds-table-end c = (translate_room _ _ _ _ c.translate-t.ensures _ c.in-Bytes.is).0
 
 pub slice_bounds-write_all-end : goal.slice_bounds-write_all-end
-slice_bounds-write_all-end c = (translate_room _ _ _ _ c.translate-t.ensures _ c.t-1.given.1).1
+slice_bounds-write_all-end c = (translate_room _ _ _ _ c.translate-t.ensures _ c.in-Bytes.is).1

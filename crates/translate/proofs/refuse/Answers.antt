@@ -1,10 +1,9 @@
 -- `translate::refuse` is safe: it writes bytes of its buffer. Assumes nothing.
-use Rattle.std.proofs.Common.{rules}
 use Rattle.output.proofs.Buffers.{written}
 use Rattle.translate.proofs.refuse.Goals as goal
 
 pub slice_bounds-out-end : goal.slice_bounds-out-end
-slice_bounds-out-end c = (written _ _ _ _ c.refused-n.ensures).0
+slice_bounds-out-end g c = (written _ _ _ _ c.refused-n.ensures).0
 
 pub slice_bounds-write_all-end : goal.slice_bounds-write_all-end
-slice_bounds-write_all-end c = (written _ _ _ _ c.refused-n.ensures).1
+slice_bounds-write_all-end g c = (written _ _ _ _ c.refused-n.ensures).1
