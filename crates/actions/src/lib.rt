@@ -7,7 +7,7 @@ ghost use Rattle.formulas.specs.Lines.{action_lines};
 ghost use Rattle.formulas.specs.Actions.{becomes};
 ghost use Rattle.formulas.specs.Opening.{cleared_all, opening_lines};
 ghost use Rattle.variables.specs.code.Spelled.{spelled};
-ghost use Rattle.actions.specs.code.Written.{label as label_of, head as head_of, tail as TailOf, line as LineOf, lines as lines_of, declarations as declarations_of};
+ghost use Rattle.actions.specs.code.Written.{label as label_of, head as head_of, tail as tail_of, line as line_of, lines as lines_of, declarations as declarations_of};
 
 use variables::Variables;
 
@@ -41,7 +41,7 @@ fn label(kind: u8, out: &mut [u8], at: usize) -> usize
 
 // What stands after the variable.
 fn tail(kind: u8, out: &mut [u8], at: usize) -> usize
-    ensures { buffer result out.new ≡ put_all (TailOf kind) (buffer at out.old) }
+    ensures { buffer result out.new ≡ put_all (tail_of kind) (buffer at out.old) }
 {
     if kind == NAMED {
         return output::bytes(out, at, b"\n");
@@ -65,7 +65,7 @@ fn line(
     out: &mut [u8],
     at: usize,
 ) -> usize
-    ensures { buffer result out.new ≡ put_all (LineOf (spelled text.now v) kind number n) (buffer at out.old) }
+    ensures { buffer result out.new ≡ put_all (line_of (spelled text.now v) kind number n) (buffer at out.old) }
 {
     let a = head(kind, number, out, at);
     let b = variables::name(text, v, n, out, a);
