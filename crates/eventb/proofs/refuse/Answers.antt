@@ -1,5 +1,4 @@
 -- `eventb::refuse` is safe: it writes bytes of its buffer. Assumes nothing.
-use Rattle.std.proofs.Common.{rules}
 use Rattle.output.proofs.Buffers.{written}
 use Rattle.eventb.proofs.refuse.Goals as goal
 
