@@ -1,5 +1,4 @@
 -- `events::labelled` meets its contract, by what the event number stands for. Assumes nothing.
-use Rattle.std.proofs.Common.{rules}
 use Rattle.events.proofs.Answers.{labelled_past, labelled_reset, labelled_leaf}
 use Rattle.events.proofs.labelled.Goals as goal
 

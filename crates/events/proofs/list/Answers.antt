@@ -1,5 +1,4 @@
 -- `events::list` meets its contract, by what the text is. Assumes nothing.
-use Rattle.std.proofs.Common.{rules}
 use Rattle.events.proofs.Answers.{listed_drawn, listed_refused}
 use Rattle.events.proofs.list.Goals as goal
 

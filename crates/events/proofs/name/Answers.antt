@@ -1,5 +1,4 @@
 -- `events::name` meets its contract, by what the text is. Assumes nothing.
-use Rattle.std.proofs.Common.{rules}
 use mathlib.Core.Path.{refl}
 use Rattle.events.proofs.Answers.{named_refused, named_past, named_some}
 use native.Mathlib.Omega.{arith}

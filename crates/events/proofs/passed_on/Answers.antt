@@ -1,5 +1,4 @@
 -- `events::passed_on` meets its contract, answer by answer. Assumes nothing.
-use Rattle.std.proofs.Common.{rules}
 use mathlib.Core.Path.{ap, sym}
 use Rattle.events.specs.code.Spots.{passed_on}
 use Rattle.events.proofs.passed_on.Goals as goal

@@ -1,5 +1,4 @@
 -- `events::values` meets its contract, by what the text is. Assumes nothing.
-use Rattle.std.proofs.Common.{rules}
 use Rattle.events.proofs.Answers.{valued_drawn, valued_refused}
 use Rattle.events.proofs.values.Goals as goal
 

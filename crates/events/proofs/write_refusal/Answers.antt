@@ -1,5 +1,4 @@
 -- `events::write_refusal` meets its contract, answer by answer. Assumes nothing.
-use Rattle.std.proofs.Common.{rules}
 use mathlib.Core.Path.{sym, ap}
 use Rattle.output.proofs.Buffers.{same_put, none_put}
 use Rattle.events.specs.code.Spots.{refusal_line}

@@ -1,5 +1,4 @@
 -- `adl_test_place` meets its contract, by what is found.
-use Rattle.std.proofs.Common.{rules}
 use mathlib.Core.Path.{sym, ◌∙◌}
 use Rattle.packing.specs.Nodes.{place_values}
 use Rattle.harness.specs.Nodes.{report as found_report}

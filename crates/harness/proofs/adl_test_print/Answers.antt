@@ -1,5 +1,4 @@
 -- `adl_test_print` meets its contract: what printing answers is packed.
-use Rattle.std.proofs.Common.{rules}
 use mathlib.Core.Path.{ap, ◌∙◌}
 use Rattle.printer.specs.declared.Printed.{Printed}
 use Rattle.printer.specs.Reports.{report as print_report}

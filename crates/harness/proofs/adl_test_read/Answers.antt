@@ -1,5 +1,4 @@
 -- `adl_test_read` meets its contract: what reading answers is packed.
-use Rattle.std.proofs.Common.{rules}
 use mathlib.Core.Path.{ap, ◌∙◌}
 use Rattle.reading.specs.declared.ReadResult.{ReadResult}
 use Rattle.reading.specs.Reports.{report as read_report}

@@ -1,10 +1,6 @@
 -- `harness::copy` meets its contract. The loop's invariant: the first n bytes are copied. Its measure is the bytes that are left.
-use Rattle.std.proofs.Common.{rules}
-use mathlib.Core.Path.{◌≡◌, refl, sym, ◌∙◌}
-use Prim.Native.Nat.{◌-◌, ◌≤◌}
+use mathlib.Core.Path.{refl, sym, ◌∙◌}
 use native.Mathlib.Omega.{arith}
-use lib.ListN.{length, take}
-use Rattle.base.specs.Fill.{fill}
 use Rattle.base.proofs.Filled.{fill_none}
 use Rattle.harness.proofs.Copies.{copied_more, copied_all}
 use Rattle.harness.proofs.copy.Goals as goal

@@ -1,11 +1,8 @@
 -- `harness::copy` meets its contract. The loop's invariant: the first n bytes are copied. Its measure is the bytes that are left.
-use mathlib.Core.Path.{◌≡◌, refl, sym, ◌∙◌}
+use mathlib.Core.Path.{◌≡◌}
 use Prim.Native.Nat.{◌-◌, ◌≤◌}
-use native.Mathlib.Omega.{arith}
 use lib.ListN.{length, take}
 use Rattle.base.specs.Fill.{fill}
-use Rattle.base.proofs.Filled.{fill_none}
-use Rattle.harness.proofs.Copies.{copied_more, copied_all}
 use Rattle.harness.proofs.copy.Given as goal
 
 abbrev pub invariant-loop-n : goal.invariant-loop-n

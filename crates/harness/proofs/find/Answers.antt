@@ -1,5 +1,4 @@
 -- `harness::find` meets its contract, by what the text is and where the index is.
-use Rattle.std.proofs.Common.{rules}
 use Rattle.harness.proofs.Finds.{found_away, found_past, found_there, below}
 use Rattle.harness.proofs.find.Goals as goal
 

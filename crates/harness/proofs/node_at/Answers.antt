@@ -1,5 +1,4 @@
 -- `harness::node_at` meets its contract: there are 256 nodes.
-use Rattle.std.proofs.Common.{rules}
 use mathlib.Core.Path.{◌≡◌}
 use lib.ListN.{length}
 use Rattle.diagram.specs.Stored.{blank_node}

@@ -1,5 +1,4 @@
 -- `harness::step_number` meets its contract, answer by answer.
-use Rattle.std.proofs.Common.{rules}
 use Rattle.table.specs.Reports.{report as step_report}
 use Rattle.packing.proofs.Packs.{by_case, none, refused}
 use Rattle.harness.proofs.step_number.Goals as goal

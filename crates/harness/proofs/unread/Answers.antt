@@ -1,5 +1,4 @@
 -- `harness::unread` meets its contract, answer by answer.
-use Rattle.std.proofs.Common.{rules}
 use mathlib.Core.Path.{ap, sym}
 use Rattle.harness.specs.Nodes.{unread}
 use Rattle.harness.proofs.unread.Goals as goal

@@ -1,5 +1,4 @@
 -- `packing::label_number` meets its contract, answer by answer.
-use Rattle.std.proofs.Common.{rules}
 use Rattle.events.specs.Reports.{report as label_report}
 use Rattle.packing.proofs.Packs.{by_case, refused}
 use Rattle.packing.proofs.label_number.Goals as goal

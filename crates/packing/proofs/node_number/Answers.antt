@@ -1,5 +1,4 @@
 -- `packing::node_number` meets its contract: what its parts answer, side by side.
-use Rattle.std.proofs.Common.{rules}
 use mathlib.Core.Bool.{cond}
 use Rattle.columns.specs.Columns.{kind_index, size_number}
 use Rattle.packing.proofs.Packs.{five}

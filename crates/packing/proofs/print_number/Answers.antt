@@ -1,5 +1,4 @@
 -- `packing::print_number` meets its contract, answer by answer.
-use Rattle.std.proofs.Common.{rules}
 use Rattle.printer.specs.Reports.{report as print_report}
 use Rattle.packing.proofs.Packs.{by_case, one, refused}
 use Rattle.packing.proofs.print_number.Goals as goal

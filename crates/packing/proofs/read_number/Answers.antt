@@ -1,5 +1,4 @@
 -- `packing::read_number` meets its contract, answer by answer.
-use Rattle.std.proofs.Common.{rules}
 use Rattle.reading.specs.Reports.{answer_report}
 use Rattle.packing.proofs.Packs.{by_case, three, refused}
 use Rattle.packing.proofs.read_number.Goals as goal

@@ -1,5 +1,4 @@
 -- `packing::translate_number` meets its contract, answer by answer.
-use Rattle.std.proofs.Common.{rules}
 use Rattle.translator.specs.Reports.{report as translate_report}
 use Rattle.packing.proofs.Packs.{by_case, one, refused}
 use Rattle.packing.proofs.translate_number.Goals as goal

@@ -1,5 +1,4 @@
 -- `packing::written_number` meets its contract, answer by answer.
-use Rattle.std.proofs.Common.{rules}
 use Rattle.modelling.specs.Reports.{report as written_report}
 use Rattle.packing.proofs.Packs.{by_case, one, refused}
 use Rattle.packing.proofs.written_number.Goals as goal

@@ -1,12 +1,8 @@
 -- The invariant: none of the nodes before n is a replicator. The measure is what is left of the 256 nodes.
-use Rattle.std.proofs.Common.{rules}
 use mathlib.Core.Path.{◌≡◌, sym, ◌∙◌}
 use mathlib.Core.Logic.{inl, inr}
-use mathlib.Core.Bool.{false}
-use Prim.Native.Nat.{◌-◌, ◌≤◌}
 use native.Mathlib.Omega.{arith}
-use lib.ListN.{length, take, length-map}
-use Rattle.profile.specs.code.Profiles.{some_copies}
+use lib.ListN.{length}
 use Rattle.profile.proofs.Looked.{one_more, found_copies, none_copies, no_node}
 use Rattle.profile.proofs.copies.Goals as goal
 

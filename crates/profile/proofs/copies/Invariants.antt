@@ -1,13 +1,9 @@
 -- The invariant: none of the nodes before n is a replicator. The measure is what is left of the 256 nodes.
-use mathlib.Core.Path.{◌≡◌, sym, ◌∙◌}
-use mathlib.Core.Logic.{inl, inr}
+use mathlib.Core.Path.{◌≡◌}
 use mathlib.Core.Bool.{false}
 use Prim.Native.Nat.{◌-◌, ◌≤◌}
-use native.Mathlib.Omega.{arith}
-use lib.ListN.{length, take, length-map}
-use borrow.Author.Tests.{ltb-true, ltb-false}
+use lib.ListN.{take}
 use Rattle.profile.specs.code.Profiles.{some_copies}
-use Rattle.profile.proofs.Looked.{one_more, found_copies, none_copies, no_node}
 use Rattle.profile.proofs.copies.Given as goal
 
 abbrev pub invariant-loop-n : goal.invariant-loop-n

@@ -1,11 +1,9 @@
 -- The invariant: the columns hold the names of the events before e. The measure is what is left of the columns.
-use Rattle.std.proofs.Common.{rules}
-use mathlib.Core.Path.{◌≡◌, refl, sym, ◌∙◌}
-use Prim.Native.Nat.{◌-◌}
+use mathlib.Core.Path.{◌≡◌, refl}
 use native.Mathlib.Omega.{arith}
-use lib.ListN.{length, length-map}
+use lib.ListN.{length}
 use Rattle.search.proofs.Columns.{columns_found}
-use Rattle.profile.proofs.NamesFilled.{Filled, name_more}
+use Rattle.profile.proofs.NamesFilled.{name_more}
 use Rattle.profile.proofs.names.Goals as goal
 
 pub loop-e-preserved : goal.loop-e-preserved

@@ -1,11 +1,6 @@
 -- The invariant: the columns hold the names of the events before e. The measure is what is left of the columns.
-use mathlib.Core.Path.{◌≡◌, refl, sym, ◌∙◌}
 use Prim.Native.Nat.{◌-◌}
-use native.Mathlib.Omega.{arith}
-use lib.ListN.{length, length-map}
-use borrow.Author.Tests.{ltb-true, ltb-false}
-use Rattle.search.proofs.Columns.{columns_found}
-use Rattle.profile.proofs.NamesFilled.{Filled, name_more}
+use Rattle.profile.proofs.NamesFilled.{Filled}
 use Rattle.profile.proofs.names.Given as goal
 
 abbrev pub invariant-loop-e : goal.invariant-loop-e

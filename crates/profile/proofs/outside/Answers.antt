@@ -1,5 +1,4 @@
 -- By whether a replicator was found.
-use Rattle.std.proofs.Common.{rules}
 use Rattle.profile.proofs.outside.Goals as goal
 
 pub returns-then-copies : goal.returns-then-copies

@@ -1,5 +1,4 @@
 -- By what reading answers, and the profile.
-use Rattle.std.proofs.Common.{rules}
 use mathlib.Core.Path.{refl, sym, ◌∙◌}
 use Rattle.machines.proofs.Answers.{unread_admission, outside_admission, inside_admission}
 use Rattle.machines.proofs.eventb.admit.Goals as goal

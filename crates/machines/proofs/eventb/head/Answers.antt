@@ -1,5 +1,4 @@
 -- One after the other.
-use Rattle.std.proofs.Common.{rules}
 use Rattle.output.proofs.Buffers.{before}
 use Rattle.machines.proofs.eventb.head.Goals as goal
 

@@ -1,5 +1,4 @@
 -- By the columns of names and the root.
-use Rattle.std.proofs.Common.{rules}
 use Rattle.machines.proofs.Written.{opening_written}
 use Rattle.machines.proofs.eventb.open.Goals as goal
 

@@ -1,5 +1,4 @@
 -- By what the text is.
-use Rattle.std.proofs.Common.{rules}
 use mathlib.Core.Path.{refl}
 use native.Mathlib.Omega.{arith}
 use Rattle.modelling.specs.Answers.{short}

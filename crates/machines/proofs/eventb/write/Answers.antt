@@ -1,5 +1,4 @@
 -- The numbers of the process stand in their column; then one part of the text after the other.
-use Rattle.std.proofs.Common.{rules}
 use native.Mathlib.Omega.{arith}
 use Rattle.translator.proofs.Cases.{numbers_fit, numbers_there}
 use Rattle.machines.proofs.Drawn.{as_read, its_shown}
