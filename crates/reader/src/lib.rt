@@ -13,7 +13,8 @@ use reading::{Answer, ReadResult};
 use rules::Verdict;
 use walked::Walk;
 
-// An answer that carries no diagram.
+// An answer that carries no diagram. It is kept out of line, as `judge` is: the diagrams that a call hands on would else all lie in the frame of `read`, one beside the other.
+#[inline(never)]
 fn no_diagram(answer: Answer) -> ReadResult
     ensures { result ≡ no_diagram answer }
 {
@@ -100,6 +101,7 @@ fn store(rows: &[u16; 2056], count: usize, copies: usize, events: usize) -> Diag
 }
 
 // Numbers 7 to 11, and the diagram, of a text that was walked along to its end.
+#[inline(never)]
 fn judge(text: &[u8], rows: &[u16; 2056], count: usize, lexicon: &[u8; 400]) -> ReadResult
     requires { (count ≤ 256) × Lexicon lexicon.now }
     ensures { Walked text.now count rows.now → result ≡ read_of text.now }
