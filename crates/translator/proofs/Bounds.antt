@@ -90,20 +90,21 @@ module _ (text lent : List ℕ) (r : Translated) (left : List ℕ) where
         untouched = q;
       }
 
+  short_refused : length lent < 51204 → report r ≡ report (Refused 1 0) → left ≡ lent → Refusal text lent r left
+  short_refused h e q = record {
+    number = 1;
+    place = 0;
+    is = e;
+    low = omega arith;
+    high = omega arith;
+    near = omega arith;
+    reason = short_sheet h refl refl;
+    untouched = q;
+  }
+
   -- "Every answer is a result within the limits or one numbered refusal with its place, which leaves lent memory untouched."
   pub translate_bounded : Translation text lent r left → Bounded text lent r left
-  translate_bounded (short h e q) =
-      its_refusal
-      record {
-        number = 1;
-        place = 0;
-        is = e;
-        low = omega arith;
-        high = omega arith;
-        near = omega arith;
-        reason = short_sheet h refl refl;
-        untouched = q;
-      }
+  translate_bounded (short h e q) = its_refusal (short_refused h e q)
   translate_bounded (refused number place h t e q) = its_refusal (read_refused number place h t e q)
   translate_bounded (done d count h a e w) = its_result (written_result d count h a e w)
 
