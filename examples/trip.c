@@ -1,7 +1,7 @@
 /* A trip of the tracker unit, carried through the drawing T (drawings/trip.adl): memory is taken, filled, sent and freed, and each of these is done only after
  * the guard table has taken its event. docs/FIRMWARE.md explains it.
  *
- *     rt staticlib firmware
+ *     bash .ci/made firmware
  *     gcc -std=c11 -Iinclude -Iexamples -o target/trip examples/trip.c target/staticlib/libfirmware.a && target/trip
  */
 #include "adl.h"

@@ -27,7 +27,7 @@ fn link_archives() {
         if !archive.is_file() {
             eprintln!(
                 "ADL_ARCHIVE=1 is set, but there is no archive at {}.\n\
-                 Make it with `rt staticlib {name}` in the directory above this package.",
+                 Make it with `bash .ci/made {name}` in the directory above this package.",
                 archive.display()
             );
             exit(1);

@@ -23,8 +23,8 @@
 //!   timed in one run.
 //!
 //! With ADL_ARCHIVE=1 the archives libharness.a and libfirmware.a are linked,
-//! which `rt staticlib harness` and `rt staticlib firmware` make in the
-//! directory above, in ../target/staticlib.
+//! which `bash .ci/made harness firmware` makes in the directory above, in
+//! ../target/staticlib.
 
 pub mod drawings;
 pub mod eventb;
