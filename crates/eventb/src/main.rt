@@ -3,49 +3,47 @@
 // text that is turned away it prints one line: `refused`, the number and the place.
 use machines::eventb;
 use modelling::Written;
-use std::io;
 use std::io::Write;
 
 // No event of a machine has more bytes, and nor has what stands before the first.
 const ROOM: usize = 65536;
 
-fn refuse<W: Write>(to: &mut W, number: u8, place: usize) -> io::Result<()> {
+fn refuse<W: Write>(to: &mut W, number: u8, place: usize) {
     let mut line = [0u8; 64];
     let n = output::refused(&mut line, 0, number, place);
-    to.write_all(&line[..n])
+    streams::write_there(to, &line[..n]);
 }
 
 // The events, one after the other, up to the first number that is none. A machine has at most 32.
-fn events<W: Write>(to: &mut W, text: &[u8]) -> io::Result<()> {
+fn events<W: Write>(to: &mut W, text: &[u8]) {
     let mut e = 0;
     while e < 32 {
         let mut out = [0u8; ROOM];
         let w = eventb::event(text, e, &mut out);
         let Written::Bytes(n) = w else {
-            return Ok(());
+            return;
         };
-        to.write_all(&out[..n])?;
+        streams::write_there(to, &out[..n]);
         e += 1;
     }
-    Ok(())
 }
 
-fn machine<W: Write>(to: &mut W, text: &[u8]) -> io::Result<()> {
+fn machine<W: Write>(to: &mut W, text: &[u8]) {
     let mut out = [0u8; ROOM];
     let w = eventb::opening(text, &mut out);
     match w {
         Written::Bytes(n) => {
-            to.write_all(&out[..n])?;
-            events(to, text)?;
-            to.write_all(b"end\n")
+            streams::write_there(to, &out[..n]);
+            events(to, text);
+            streams::write_there(to, b"end\n");
         }
         Written::Refused(number, place) => refuse(to, number, place),
     }
 }
 
-fn main(rt: HostRuntime) -> io::Result<()> {
+fn main(rt: HostRuntime) {
     // One byte more than a text may have: a longer text is refused, and not cut.
     let mut text = [0u8; 16385];
-    let n = input::read_full(&mut rt.stdin(), &mut text)?;
-    machine(&mut rt.stdout(), &text[..n])
+    let n = streams::read_there(&mut rt.stdin(), &mut text);
+    machine(&mut rt.stdout(), &text[..n]);
 }

@@ -5,5 +5,5 @@ use Rattle.eventb.proofs.machine.Goals as goal
 pub slice_bounds-out-end : goal.slice_bounds-out-end
 slice_bounds-out-end g c = (opening_room _ _ _ _ c.opening-w.ensures _ c.in-Bytes.is).0
 
-pub slice_bounds-write_all-end : goal.slice_bounds-write_all-end
-slice_bounds-write_all-end g c = (opening_room _ _ _ _ c.opening-w.ensures _ c.in-Bytes.is).1
+pub slice_bounds-write_there-end : goal.slice_bounds-write_there-end
+slice_bounds-write_there-end g c = (opening_room _ _ _ _ c.opening-w.ensures _ c.in-Bytes.is).1

@@ -7,5 +7,5 @@ use Rattle.listing.proofs.main.Goals as goal
 pub slice_bounds-out-end : goal.slice_bounds-out-end
 slice_bounds-out-end c = (list_room _ (replicate 32768 0) c.list-count.result _ c.list-count.ensures (length-replicate {A = ℕ} 32768 0)).0
 
-pub slice_bounds-write_all-end : goal.slice_bounds-write_all-end
-slice_bounds-write_all-end c = (list_room _ (replicate 32768 0) c.list-count.result _ c.list-count.ensures (length-replicate {A = ℕ} 32768 0)).1
+pub slice_bounds-write_there-end : goal.slice_bounds-write_there-end
+slice_bounds-write_there-end c = (list_room _ (replicate 32768 0) c.list-count.result _ c.list-count.ensures (length-replicate {A = ℕ} 32768 0)).1

@@ -5,5 +5,5 @@ use Rattle.translate.proofs.main.Goals as goal
 pub slice_bounds-table-end : goal.slice_bounds-table-end
 slice_bounds-table-end c = (translate_room _ _ _ _ c.translate-t.ensures _ c.in-Bytes.is).0
 
-pub slice_bounds-write_all-end : goal.slice_bounds-write_all-end
-slice_bounds-write_all-end c = (translate_room _ _ _ _ c.translate-t.ensures _ c.in-Bytes.is).1
+pub slice_bounds-write_there-end : goal.slice_bounds-write_there-end
+slice_bounds-write_there-end c = (translate_room _ _ _ _ c.translate-t.ensures _ c.in-Bytes.is).1

@@ -5,5 +5,5 @@ use Rattle.translate.proofs.refuse.Goals as goal
 pub slice_bounds-out-end : goal.slice_bounds-out-end
 slice_bounds-out-end g c = (written _ _ _ _ c.refused-n.ensures).0
 
-pub slice_bounds-write_all-end : goal.slice_bounds-write_all-end
-slice_bounds-write_all-end g c = (written _ _ _ _ c.refused-n.ensures).1
+pub slice_bounds-write_there-end : goal.slice_bounds-write_there-end
+slice_bounds-write_there-end g c = (written _ _ _ _ c.refused-n.ensures).1

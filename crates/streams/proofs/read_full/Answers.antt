@@ -5,7 +5,7 @@ use Rattle.std.proofs.KnownBytes.{Consumes-trans}
 use Rattle.std.specs.Io.KnownBytes.{Consumes}
 use borrow.Rule.Slice.PartMut.{put_mid, post_of}
 use lib.Seq.{take-add, take-append-le}
-use Rattle.input.proofs.read_full.Goals as goal
+use Rattle.streams.proofs.read_full.Goals as goal
 
 -- What was there stays, and after it stand the first bytes of what was put there.
 take_joined : (a k n : ℕ) (xs ys : List ℕ) → a ≤ length xs → n ≤ length ys → take (a + n) (put_mid a k xs ys) ≡ take a xs ++ take n ys
@@ -19,6 +19,6 @@ take_joined a k n xs ys within fits =
 pub loop-n-preserved : goal.loop-n-preserved
 loop-n-preserved g c =
     let at = c.loop-n.n in
-    let more = c.in_ok-more.more in
-    let joined = take_joined at (length c.loop-n.bytes - at) more c.loop-n.bytes c.read.new.buf c.loop-n.invariant.0 c.in_ok-more.ensures.bound.0 in
-    (search rules, search rules, subst (Consumes _ _) (sym joined) (Consumes-trans _ _ _ _ _ c.loop-n.invariant.2 c.in_ok-more.ensures.bytes.0))
+    let more = c.in-Ok.more in
+    let joined = take_joined at (length c.loop-n.bytes - at) more c.loop-n.bytes c.read.new.buf c.loop-n.invariant.0 c.in-Ok.ensures.bound.0 in
+    (search rules, search rules, subst (Consumes _ _) (sym joined) (Consumes-trans _ _ _ _ _ c.loop-n.invariant.2 c.in-Ok.ensures.bytes.0))
