@@ -122,7 +122,7 @@ module _ (s : Bits) (v : ℕ → Bool) where
 
   -- The parts of a joint.
   module _ (j : Joint) (p q : Process) (u k m lo : ℕ) (c : Stands (join j p q) u k m lo) where
-    -- The plans of the two parts, and their guards; first_q and second-q are the first rows of the later one.
+    -- The plans of the two parts, and their guards; first_q and second_q are the first rows of the later one.
     abbrev plan_p : Plan
     plan_p = plan_of p u
 
