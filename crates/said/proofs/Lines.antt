@@ -5,30 +5,12 @@ use mathlib.Core.List.{List, [], ◌∷◌}
 use Prim.Native.Nat.{ℕ, suc, ◌+◌, ◌-◌, ◌≤◌, ◌<◌}
 use native.Mathlib.Omega.{arith}
 use lib.Dec.{eqb}
-use lib.ListN.{length, take, drop, get_or, length-drop, drop_of_length-le}
-use Rattle.std.proofs.lemmas.List.{drop_more}
+use lib.ListN.{length, take, drop, length-drop, drop_of_length-le}
 use lib.Seq.{take_all, drop-drop, length-take-le}
 use Rattle.base.proofs.Truth.{by_cases}
+use Rattle.tokens.specs.Words.{front}
 use Rattle.said.specs.Search.{index_of}
 use Rattle.said.specs.Lines.{onto, lines, first, rest, LineEnds}
-
--- A byte that is not there is looked for up to the end.
-pub index_within : (b : ℕ) (xs : List ℕ) → index_of b xs ≤ length xs
-unfolding index_of
-index_within b [] = omega arith
-index_within b (x ∷ xs) = by_cases (eqb x b) (λ e. rw e (omega arith)) (λ e. rw e (omega (arith, index_within b xs)))
-
-pub index_here : (b x : ℕ) (xs : List ℕ) → eqb x b ≡ true → index_of b (x ∷ xs) ≡ 0
-unfolding index_of
-index_here b x xs e = rw e
-
-pub index_on : (b x : ℕ) (xs : List ℕ) → eqb x b ≡ false → index_of b (x ∷ xs) ≡ suc (index_of b xs)
-unfolding index_of
-index_on b x xs e = rw e
-
-pub index_nowhere : (b : ℕ) → index_of b [] ≡ 0
-unfolding index_of
-index_nowhere b = refl
 
 -- All bytes from a place on, as a part is taken.
 pub to_end : (at : ℕ) (s : List ℕ) → take (length s - at) (drop at s) ≡ drop at s
@@ -66,7 +48,7 @@ lines_first (b ∷ bs) h = by_cases (eqb b 10) (λ e. rw (line_here b bs e)) (λ
 
 -- The first line ends at the first byte 10.
 first_ends : (xs : List ℕ) → (take (index_of 10 xs) xs ≡ first (lines xs)) × (lines (drop (suc (index_of 10 xs)) xs) ≡ rest (lines xs))
-unfolding index_of
+unfolding front
 first_ends [] = (rw no_lines, rw no_lines)
 first_ends (b ∷ bs) =
     by_cases (eqb b 10)
@@ -96,20 +78,3 @@ ends_past s at h =
 -- The first line of all, as a part of the bytes.
 pub first_line : (s : List ℕ) (end : ℕ) → LineEnds s 0 end → (end ≡ length (take end s)) × (take end s ≡ first (lines s))
 first_line s end l = let z : end - 0 ≡ end = omega arith in (sym (length-take-le end s (omega (arith, l.within))), rw z at l.its_bytes)
-
--- The search for a byte, one place on.
-module _ (b : ℕ) (xs : List ℕ) (at i : ℕ) (q : i + index_of b (drop i xs) ≡ at + index_of b (drop at xs)) where
-  pub place_found : i < length xs → eqb (get_or xs i 0) b ≡ true → i ≡ at + index_of b (drop at xs)
-  place_found h e =
-      let z : index_of b (drop i xs) ≡ 0 = ap (index_of b) (drop_more xs i 0 h) ∙ index_here b (get_or xs i 0) (drop (i + 1) xs) e in
-      omega (arith, q, z)
-
-  pub place_passed : i < length xs → eqb (get_or xs i 0) b ≡ false → (i + 1) + index_of b (drop (i + 1) xs) ≡ at + index_of b (drop at xs)
-  place_passed h e =
-      let z : index_of b (drop i xs) ≡ suc (index_of b (drop (i + 1) xs)) = ap (index_of b) (drop_more xs i 0 h) ∙ index_on b (get_or xs i 0) (drop (i + 1) xs) e in
-      omega (arith, q, z)
-
-  pub place_past : length xs ≤ i → i ≡ at + index_of b (drop at xs)
-  place_past h =
-      let z : index_of b (drop i xs) ≡ 0 = ap (index_of b) (drop_of_length-le xs h) ∙ index_nowhere b in
-      omega (arith, q, z)

@@ -26,7 +26,7 @@ use Rattle.events.specs.Listing.{drawing_listing}
 use Rattle.events.proofs.Short.{Each, each_append, each_at, Short, events_short}
 use Rattle.events.proofs.Called.{Without, without, decimal_without, word_without, blanks_no_words, letter_high, digit_low, decimal_one, called_one}
 use Rattle.events.proofs.Answers.{short_at}
-use Rattle.said.specs.Search.{index_of}
+use Rattle.tokens.specs.Words.{front}
 use Rattle.said.specs.Lines.{lines, rest, event_lines}
 use Rattle.said.specs.Said.{number_part, label_part, says, before_saying, event_said}
 use Rattle.said.specs.Meant.{label, before_meant}
@@ -107,7 +107,7 @@ lines_listed d s =
 
 -- What stands before the first space, and after it.
 parted : (bs on : List ℕ) → Without 32 bs → (number_part (bs ++ (32 ∷ on)) ≡ bs) × (label_part (bs ++ (32 ∷ on)) ≡ on)
-unfolding number_part label_part index_of
+unfolding number_part label_part front
 parted [] on h = (refl, refl)
 parted (b ∷ bs) on h = let p = parted bs on h.1 in (rw h.0 (ap (λ (x : List ℕ). b ∷ x) p.0), rw h.0 p.1)
 

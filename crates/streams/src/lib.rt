@@ -1,14 +1,17 @@
 #![tactic(auto)]
 // What the programs read and write.
-ghost use Rattle.std.specs.Prelude.{◌<◌, ◌≤◌, IfOk, MatchResult, length, take};
-ghost use Rattle.std.specs.Io.KnownBytes.{Consumes, IsAtEnd};
+ghost use Rattle.std.specs.Prelude.{◌<◌, ◌≤◌, IfOk, length, take};
+ghost use Rattle.std.specs.Bool.{OnTrue};
+ghost use Rattle.std.specs.Io.KnownBytes.{Appends, Consumes, IsAtEnd};
+ghost use Rattle.streams.specs.There.{there};
 
 use std::io::{Read, Write};
 
 // Reads until `bytes` is full or the input ends, and says how many bytes now stand at the start; as an error, how many stood there when a read failed.
+// Either way they are what the input lost.
 pub fn read_full<R: Read>(input: &mut R, bytes: &mut [u8]) -> Result<usize, usize>
-    ensures count { MatchResult result (λ n. n ≤ length bytes.new) (λ n. n ≤ length bytes.new) }
-    ensures consumed { IfOk result (λ n. Consumes (R.remaining input.old) (R.remaining input.new) (take n bytes.new)) }
+    ensures count { there result ≤ length bytes.new }
+    ensures consumed { Consumes (R.remaining input.old) (R.remaining input.new) (take (there result) bytes.new) }
     ensures whole { IfOk result (λ n. n < length bytes.new → IsAtEnd (R.remaining input.new)) }
 {
     let mut n = 0;
@@ -28,7 +31,8 @@ pub fn read_full<R: Read>(input: &mut R, bytes: &mut [u8]) -> Result<usize, usiz
 
 // The same, where what cannot be read counts as the end of the input.
 pub fn read_there<R: Read>(input: &mut R, bytes: &mut [u8]) -> usize
-    ensures { result ≤ length bytes.new }
+    ensures count { result ≤ length bytes.new }
+    ensures consumed { Consumes (R.remaining input.old) (R.remaining input.new) (take result bytes.new) }
 {
     match read_full(input, bytes) {
         Ok(n) => n,
@@ -36,10 +40,12 @@ pub fn read_there<R: Read>(input: &mut R, bytes: &mut [u8]) -> usize
     }
 }
 
-// Writes bytes; what cannot be written is passed over.
-pub fn write_there<W: Write>(to: &mut W, bytes: &[u8]) {
+// Writes bytes, and says whether all of them stand there. The programs pass over what cannot be written.
+pub fn write_there<W: Write>(to: &mut W, bytes: &[u8]) -> bool
+    ensures { OnTrue result (Appends (W.contents to.old) (W.contents to.new) bytes.now) }
+{
     match to.write_all(bytes) {
-        Ok(()) => {}
-        Err(_) => {}
+        Ok(()) => true,
+        Err(_) => false,
     }
 }

@@ -5,12 +5,14 @@ use Prim.Native.Nat.{ℕ}
 use native.Mathlib.Omega.{arith}
 use lib.Seq.{length-take-le}
 use Rattle.base.specs.Equal.{same}
-use Rattle.said.proofs.Lines.{index_within, to_end}
+use Rattle.tokens.proofs.Front.{front_le}
+use Rattle.said.specs.Search.{other_than}
+use Rattle.said.proofs.Lines.{to_end}
 use Rattle.said.proofs.Saying.{says_number, says_label, says_nothing}
 use Rattle.said.proofs.says.Goals as goal
 
 pub slice_bounds-equal-end : goal.slice_bounds-equal-end
-slice_bounds-equal-end c = sym (length-take-le c.find-space.result c.args.line.now (omega (arith, c.find-space.ensures, index_within 32 c.args.line.now)))
+slice_bounds-equal-end c = sym (length-take-le c.find-space.result c.args.line.now (omega (arith, c.find-space.ensures, front_le (other_than 32) c.args.line.now)))
 
 pub returns-then-equal : goal.returns-then-equal
 returns-then-equal c = says_number c.args.line.now c.args.said.now c.find-space.result c.find-space.ensures c.equal.result c.equal.ensures c.if-equal.true
