@@ -39,6 +39,7 @@ fn turned_away(text: &[u8], number: u8, place: usize, lexicon: &[u8; 400]) -> An
 }
 
 // The kind for a keyword's number and a size.
+#[tactic(auto, unfolding(walked::specs::Rows::kind_of))]
 fn kind(c: u16, size: u8) -> Kind
     ensures { result ≡ kind_of c size }
 {
