@@ -1,12 +1,16 @@
 -- A number of bytes, read byte by byte: one law for every width.
 use mathlib.Core.Path.{◌≡◌, refl}
 use mathlib.Core.List.{List}
-use Prim.Native.Nat.{ℕ, zero, suc, ◌+◌, ◌*◌, ◌/◌, ◌%◌, ◌^◌, ◌≤◌}
+use Prim.Native.Nat.{ℕ, zero, suc, ◌+◌, ◌*◌, ◌/◌, ◌%◌, ◌^◌, ◌≤◌, ◌<◌}
 use native.Mathlib.Nat.{zero-add, add-zero, mul_assoc, pow-suc}
 use native.Mathlib.Omega.{arith}
 use lib.ListN.{length, take, drop, get_or, set, get_or-eq_default}
 use lib.Seq.{set_out, get_or-take, get_or-drop}
 use Rattle.base.specs.Packed.{field, put_word}
+
+pub field_none : (t : List ℕ) (at : ℕ) → 0 ≡ field 0 t at
+unfolding field
+field_none t at = refl
 
 pub field_one : (t : List ℕ) (at a : ℕ) → a ≡ get_or t at 0 → a ≡ field 1 t at
 unfolding field
@@ -26,19 +30,18 @@ field_joined s n (suc k) at =
     let r : n + suc k ≡ suc (n + k) = omega arith in
     rw (r, ← (field_joined s n k at), pow-suc 256 k, q) (omega (arith, mul_assoc (field n s at) (256 ^ k) 256))
 
-pub eight : (s : List ℕ) (at high low : ℕ) → high ≡ field 4 s at → low ≡ field 4 s (at + 4) → high * 4294967296 + low ≡ field 8 s at
-eight s at high low h l = rw (h, l) (field_joined s 4 4 at)
-
--- Two halves make a word.
-pub four : (s : List ℕ) (at high low : ℕ) → high ≡ field 2 s at → low ≡ field 2 s (at + 2) → high * 65536 + low ≡ field 4 s at
-four s at high low h l = rw (h, l) (field_joined s 2 2 at)
-
 -- A number read from a part of the bytes that holds all of it.
 pub field_part : (n k : ℕ) (s : List ℕ) (at : ℕ) → n ≤ k → field n (take k (drop at s)) 0 ≡ field n s at
 unfolding field
 field_part zero k s at h = refl
 field_part (suc n) k s at h =
     rw (field_part n k s at (omega arith), zero-add n, get_or-take k (drop at s) n 0 (omega arith), get_or-drop at s n 0)
+
+-- Bytes below 256 make a number of as many bytes.
+pub field_below : (n : ℕ) (s : List ℕ) (at : ℕ) → ((i : ℕ) → get_or s i 0 < 256) → field n s at < 256 ^ n
+unfolding field
+field_below zero s at h = omega arith
+field_below (suc n) s at h = rw (pow-suc 256 n) (omega (arith, field_below n s at h, h (at + n)))
 
 -- Four bytes stored one after the other.
 pub word_put : (i w : ℕ) (o p q r s : List ℕ)

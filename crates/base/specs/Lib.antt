@@ -3,3 +3,4 @@ pub mod Reports
 pub mod Equal
 pub mod Packed
 pub mod Text
+pub mod Refusals

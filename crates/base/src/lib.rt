@@ -1,95 +1,102 @@
 #![tactic(auto)]
 
-ghost use Rattle.std.specs.Prelude.{◌≡◌, ◌^◌, ◌<◌, get_or, set};
-ghost use Rattle.base.specs.Equal.{same};
+ghost use Rattle.std.specs.Prelude.{◌≡◌, ◌^◌, ◌<◌, ◌≤◌, get_or, set};
 ghost use Rattle.base.specs.Packed.{field, put_word as put_word_of};
+ghost use Rattle.base.specs.Refusals.{number as number_of, refusal};
 
-// A byte and a number of 16 bits, to count with.
-pub fn wide(b: u8) -> usize
-    ensures { (result ≡ b) × (result < 256) }
-{
-    b as usize
+// Why something is turned away: document 01's numbers 1 to 15 and card 2's 16, in their order.
+#[derive(Clone, Copy, Debug, PartialEq, Eq)]
+pub enum Reason {
+    Buffer,
+    Text,
+    Byte,
+    Word,
+    Token,
+    Node,
+    Name,
+    Parameter,
+    Solid,
+    Weak,
+    Count,
+    Table,
+    Record,
+    Event,
+    Guard,
+    Profile,
 }
 
-pub fn wide_short(x: u16) -> usize
-    ensures { (result ≡ x) × (result < 65536) }
-{
-    x as usize
+// A refusal with its place.
+#[derive(Clone, Copy, Debug, PartialEq, Eq)]
+pub struct Refusal {
+    pub reason: Reason,
+    pub place: usize,
 }
 
-// A number of a column; 0 past its end. One for each width.
-pub fn byte(column: &[u8], i: usize) -> u8
-    ensures { result ≡ get_or column.now i 0 }
-{
-    if column.len() <= i {
-        return 0;
+impl Reason {
+    // The number that stands for it.
+    pub fn number(self) -> u8
+        ensures { result ≡ number_of self }
+    {
+        match self {
+            Reason::Buffer => 1,
+            Reason::Text => 2,
+            Reason::Byte => 3,
+            Reason::Word => 4,
+            Reason::Token => 5,
+            Reason::Node => 6,
+            Reason::Name => 7,
+            Reason::Parameter => 8,
+            Reason::Solid => 9,
+            Reason::Weak => 10,
+            Reason::Count => 11,
+            Reason::Table => 12,
+            Reason::Record => 13,
+            Reason::Event => 14,
+            Reason::Guard => 15,
+            Reason::Profile => 16,
+        }
     }
-    column[i]
-}
 
-pub fn short(column: &[u16], i: usize) -> u16
-    ensures { result ≡ get_or column.now i 0 }
-{
-    if column.len() <= i {
-        return 0;
+    // The refusal for this reason at a place.
+    pub fn at(self, place: usize) -> Refusal
+        ensures { result ≡ refusal self place }
+    {
+        Refusal {
+            reason: self,
+            place,
+        }
     }
-    column[i]
 }
 
-pub fn number(column: &[usize], i: usize) -> usize
-    ensures { result ≡ get_or column.now i 0 }
+// The element at i of a list; `none` past its end.
+pub fn at<T: Copy>(column: &[T], i: usize, none: T) -> T
+    ensures { result ≡ get_or column.now i none }
 {
-    if column.len() <= i {
-        return 0;
-    }
-    column[i]
+    column.get(i).copied().unwrap_or(none)
 }
 
-// A store that does nothing past the end of what is lent. One for each width.
-pub fn put_byte(bytes: &mut [u8], n: usize, b: u8)
-    ensures { bytes.new ≡ set bytes.old n b }
+// A store that does nothing past the end of what is lent.
+pub fn put<T: Copy>(column: &mut [T], i: usize, value: T)
+    ensures { column.new ≡ set column.old i value }
 {
-    if bytes.len() <= n {
-        return;
+    if i < column.len() {
+        column[i] = value;
     }
-    bytes[n] = b;
 }
 
-pub fn put_number(column: &mut [usize], i: usize, v: usize)
-    ensures { column.new ≡ set column.old i v }
-{
-    if column.len() <= i {
-        return;
-    }
-    column[i] = v;
-}
-
-// The 16, the 32 and the 64 bits at i, most significant byte first; past the end there are only zeros.
-pub fn half(bytes: &[u8], i: usize) -> usize
-    ensures { (result ≡ field 2 bytes.now i) × (result < 65536) }
+// The number that the N bytes from i on make, most significant byte first; past the end there are only zeros.
+pub fn number<const N: usize>(bytes: &[u8], i: usize) -> usize
+    requires { N ≤ 8 }
+    ensures { (result ≡ field N bytes.now i) × (result < 256 ^ N) }
 {
     if bytes.len() <= i {
         return 0;
     }
-    wide(bytes[i]) * 256 + wide(byte(bytes, i + 1))
-}
-
-pub fn word(bytes: &[u8], i: usize) -> usize
-    ensures { (result ≡ field 4 bytes.now i) × (result < 2 ^ 32) }
-{
-    if bytes.len() <= i {
-        return 0;
+    let mut value = 0;
+    for k in 0..N {
+        value = value * 256 + usize::from(at(bytes, i + k, 0));
     }
-    half(bytes, i) * 65536 + half(bytes, i + 2)
-}
-
-pub fn long(bytes: &[u8], i: usize) -> u64
-    ensures { result ≡ field 8 bytes.now i }
-{
-    if bytes.len() <= i {
-        return 0;
-    }
-    word(bytes, i) as u64 * 4294967296 + word(bytes, i + 4) as u64
+    value
 }
 
 // 32 bits stored at i, as far as the bytes go.
@@ -99,25 +106,8 @@ pub fn put_word(bytes: &mut [u8], i: usize, w: usize)
     if bytes.len() <= i {
         return;
     }
-    put_byte(bytes, i, (w / 16777216 % 256) as u8);
-    put_byte(bytes, i + 1, (w / 65536 % 256) as u8);
-    put_byte(bytes, i + 2, (w / 256 % 256) as u8);
-    put_byte(bytes, i + 3, (w % 256) as u8);
-}
-
-// Whether two runs of bytes are the same.
-pub fn equal(a: &[u8], b: &[u8]) -> bool
-    ensures { result ≡ same a.now b.now }
-{
-    if a.len() != b.len() {
-        return false;
-    }
-    let mut i = 0;
-    while i < b.len() {
-        if a[i] != b[i] {
-            return false;
-        }
-        i += 1;
-    }
-    true
+    put(bytes, i, (w / 16777216 % 256) as u8);
+    put(bytes, i + 1, (w / 65536 % 256) as u8);
+    put(bytes, i + 2, (w / 256 % 256) as u8);
+    put(bytes, i + 3, (w % 256) as u8);
 }

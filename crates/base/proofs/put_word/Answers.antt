@@ -8,7 +8,7 @@ returns-then-bytes-i c = word_past _ _ _ c.if-bytes-i.true
 pub returns : goal.returns
 returns c =
     word_put _ _ _ _ _ _ _
-    c.put_byte.ensures
-    c.put_byte-2.ensures
-    c.put_byte-3.ensures
-    c.put_byte-4.ensures
+    c.put.ensures
+    c.put-2.ensures
+    c.put-3.ensures
+    c.put-4.ensures
