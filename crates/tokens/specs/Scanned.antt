@@ -1,10 +1,11 @@
 -- Document 01, "Numbers for what is turned away", numbers 2, 3 and 4: what is refused before the grammar is looked at.
-use Rattle.std.specs.Prelude.{cond, List, [], ◌∷◌, ℕ, ltb, length, get_or}
+use Rattle.std.specs.Prelude.{cond, List, [], ◌∷◌, ℕ, Result, Ok, Err, ltb, length, get_or}
+use Rattle.base.specs.Refusals.{refusal}
+use Rattle.base.specs.declared.Reason.TheVariants.{Text, Byte, Word}
+use Rattle.base.specs.declared.Refusal.{Refusal}
 use Rattle.tokens.specs.Classes.{foreign}
 use Rattle.tokens.specs.Words.{short}
 use Rattle.tokens.specs.Spans.{Span, spans_of}
-use Rattle.tokens.specs.declared.Scan.{Scan}
-use Rattle.tokens.specs.declared.Scan.TheVariants.{Tokens, Refused}
 
 -- Number 3: the place of the first token whose first byte is foreign, or the number given. A foreign byte is a token of its own, also in a
 -- remark, since what is skipped ends before it.
@@ -22,9 +23,9 @@ first_long (s ∷ ss) none = cond (short s.bytes) (first_long ss none) s.place
 
 -- How many tokens a text has, or the refusal: 2 over 16,384 bytes, 3 for a foreign byte, 4 for a word of over 24 bytes, in this
 -- order over the whole text.
-unfoldable pub scan_of : List ℕ → Scan
+unfoldable pub scan_of : List ℕ → Result ℕ Refusal
 scan_of text =
-    cond (ltb 16384 (length text)) (Refused 2 16384)
-    (cond (ltb (first_foreign text) (length text)) (Refused 3 (first_foreign text))
-    (cond (ltb (first_long (spans_of text) (length text)) (length text)) (Refused 4 (first_long (spans_of text) (length text)))
-    (Tokens (length (spans_of text)))))
+    cond (ltb 16384 (length text)) (Err (refusal Text 16384))
+    (cond (ltb (first_foreign text) (length text)) (Err (refusal Byte (first_foreign text)))
+    (cond (ltb (first_long (spans_of text) (length text)) (length text)) (Err (refusal Word (first_long (spans_of text) (length text))))
+    (Ok (length (spans_of text)))))
