@@ -1,4 +1,4 @@
--- Along the numbers of a process its value comes to stand on the stack: one law for every pass over postfix order, however it holds its stack.
+-- Along the codes of a process its value comes to stand on the stack: one law for every pass over postfix order, however it holds its stack.
 use mathlib.Core.Path.{◌≡◌, refl, subst}
 use mathlib.Core.List.{List, [], ◌∷◌, ◌++◌, foldl, foldl-append}
 use Prim.Native.Nat.{ℕ, suc, ◌+◌}
@@ -6,38 +6,40 @@ use native.Mathlib.Omega.{arith}
 use lib.ListN.{length}
 use Rattle.process.specs.Process.{Joint, seq, and, or, xor, Process, event, join, again, rounds}
 use Rattle.process.proofs.Numbered.{size, Numbered}
+use Rattle.postfix.specs.declared.Code.{Code}
+use Rattle.postfix.specs.declared.Code.TheVariants.{Leaf, Again, Rounds}
 use Rattle.postfix.specs.Postfix.{postfix, joint_code}
 use Rattle.postfix.specs.Fold.{Algebra, fold, State, state, step, run}
 use Rattle.postfix.proofs.Short.{long_join, long_rounds}
 
--- A pass takes the numbers one after the other. `Stands n c s`: c stands for the state s, and has room for n numbers more. What is asked of one number of each
+-- A pass takes the codes one after the other. `Stands n c s`: c stands for the state s, and has room for n codes more. What is asked of one code of each
 -- kind, where the values that it needs are stacked.
-pub record Follows {A C : Type 0} (g : Algebra A) (take : C → ℕ → C) (Stands : ℕ → C → State A → Type 0) : Type 0 where
-  pub leaf : (n : ℕ) (c : C) (e : ℕ) (s : List A) → Stands (suc n) c (state e s) → Stands n (take c 0) (state (suc e) (g.leaf e ∷ s))
-  pub loop : (n : ℕ) (c : C) (e : ℕ) (s : List A) → Stands (suc n) c (state e s) → Stands n (take c 1) (state (suc e) (g.loop e ∷ s))
+pub record Follows {A C : Type 0} (g : Algebra A) (take : C → Code → C) (Stands : ℕ → C → State A → Type 0) : Type 0 where
+  pub leaf : (n : ℕ) (c : C) (e : ℕ) (s : List A) → Stands (suc n) c (state e s) → Stands n (take c Leaf) (state (suc e) (g.leaf e ∷ s))
+  pub loop : (n : ℕ) (c : C) (e : ℕ) (s : List A) → Stands (suc n) c (state e s) → Stands n (take c Again) (state (suc e) (g.loop e ∷ s))
   pub turns : (n : ℕ) (c : C) (e : ℕ) (x : A) (s : List A)
-      → Stands (suc n) c (state e (x ∷ s)) → Stands n (take c 2) (state (suc e) (g.turns x e ∷ s))
+      → Stands (suc n) c (state e (x ∷ s)) → Stands n (take c Rounds) (state (suc e) (g.turns x e ∷ s))
   pub both : (n : ℕ) (c : C) (e : ℕ) (j : Joint) (x y : A) (s : List A)
       → Stands (suc n) c (state e (y ∷ x ∷ s)) → Stands n (take c (joint_code j)) (state e (g.both j x y ∷ s))
 
-module _ {A C : Type 0} (g : Algebra A) (take : C → ℕ → C) (Stands : ℕ → C → State A → Type 0) (f : Follows g take Stands) where
+module _ {A C : Type 0} (g : Algebra A) (take : C → Code → C) (Stands : ℕ → C → State A → Type 0) (f : Follows g take Stands) where
   -- A pass of which this holds leaves the process's value on the stack.
   pub along_postfix : (p : Process) (lo n : ℕ) (c : C) (s : List A) → Numbered p lo → Stands (length (postfix p) + n) c (state lo s)
       → Stands n (foldl take c (postfix p)) (state (lo + size p) (fold g p ∷ s))
   unfolding fold postfix size Numbered
   along_postfix (event e l) lo n c s m h =
       rw m
-      (subst (λ (k : ℕ). Stands n (take c 0) (state k (g.leaf lo ∷ s))) (omega arith)
+      (subst (λ (k : ℕ). Stands n (take c Leaf) (state k (g.leaf lo ∷ s))) (omega arith)
       (f.leaf n c lo s (subst (λ (k : ℕ). Stands k c (state lo s)) (omega arith) h)))
   along_postfix (again e l) lo n c s m h =
       rw m
-      (subst (λ (k : ℕ). Stands n (take c 1) (state k (g.loop lo ∷ s))) (omega arith)
+      (subst (λ (k : ℕ). Stands n (take c Again) (state k (g.loop lo ∷ s))) (omega arith)
       (f.loop n c lo s (subst (λ (k : ℕ). Stands k c (state lo s)) (omega arith) h)))
   along_postfix (rounds p r l) lo n c s m h =
       let d = foldl take c (postfix p) in
       let x = along_postfix p lo (suc n) c s m.0 (subst (λ (k : ℕ). Stands k c (state lo s)) (omega (arith, long_rounds p r l)) h) in
-      rw (foldl-append take c (postfix p) (2 ∷ []), m.1)
-      (subst (λ (k : ℕ). Stands n (take d 2) (state k (g.turns (fold g p) (lo + size p) ∷ s))) (omega arith)
+      rw (foldl-append take c (postfix p) (Rounds ∷ []), m.1)
+      (subst (λ (k : ℕ). Stands n (take d Rounds) (state k (g.turns (fold g p) (lo + size p) ∷ s))) (omega arith)
       (f.turns n d (lo + size p) (fold g p) s x))
   along_postfix (join j p q) lo n c s m h =
       let d = foldl take c (postfix p) in

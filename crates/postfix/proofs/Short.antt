@@ -18,7 +18,7 @@ pub long_rounds : (p : Process) (r : ℕ) (l : Event) → long (rounds p r l) �
 unfolding postfix
 long_rounds p r l = simp length-append
 
--- Fewer numbers than twice the events: each number is an event, or joins two parts, each of which has an event.
+-- Fewer codes than twice the events: each code is an event, or joins two parts, each of which has an event.
 pub postfix_short : (p : Process) → long p + 1 ≤ 2 * size p
 unfolding postfix size
 postfix_short (event n l) = omega arith
