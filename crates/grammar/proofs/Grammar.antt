@@ -10,6 +10,7 @@ use lib.ListN.{length, take, drop, take-append-drop}
 use lib.Seq.{take-take}
 use borrow.Author.Tests.{ltb-true, ltb-false}
 use Rattle.diagram.specs.Tree.{Name, Flow, Child, plain, loop, group, replicator, leaf, inner}
+use Rattle.base.specs.declared.Reason.{Reason}
 use Rattle.tokens.specs.Token.{Token, all_proper, sound}
 use Rattle.grammar.proofs.Spelled.{spare_name}
 use Rattle.grammar.specs.Tokens.{child_tokens, member_tokens}
@@ -62,26 +63,26 @@ derived_viable words ts d h i = (d, drop i ts, subst (λ (l : List Token). Deriv
 -- The outcome is a whole text, or 5 or 6.
 pub data Answered (ts : List Token) : Type 0 where
   read : (n : ℕ) → outcome ts ≡ whole n → Answered ts
-  strayed : (k : ℕ) → outcome ts ≡ stop 5 k → Answered ts
-  outgrown : (k : ℕ) → outcome ts ≡ stop 6 k → Answered ts
+  strayed : (k : ℕ) → outcome ts ≡ stop Reason.Token k → Answered ts
+  outgrown : (k : ℕ) → outcome ts ≡ stop Reason.Node k → Answered ts
 
 module _ (words : List Name) (fine : sound words ≡ true) (ts : List Token) (h : all_proper words ts ≡ true) where
   answer_means : (o : Outcome) → outcome ts ≡ o → Means words first ts 0 o
   unfolding outcome
   answer_means o e = subst (Means words first ts 0) e (let a = spare_name words fine in run_means words a.0 a.1 ts h first (good_root words a.0 a.1 depths) 0 0)
 
-  answered_off : (k : ℕ) → outcome ts ≡ stop 5 k → Off words first ts k
-  answered_off k e = let r = answer_means (stop 5 k) e in ⊎_elim (λ q. subst (Off words first ts) (omega (arith, r.1)) q.1) (λ q. let z : ⊥ = omega (arith, q.0) in absurd z) r.2
+  answered_off : (k : ℕ) → outcome ts ≡ stop Reason.Token k → Off words first ts k
+  answered_off k e = let r = answer_means (stop Reason.Token k) e in ⊎_elim (λ q. subst (Off words first ts) (omega (arith, r.1)) q.1) (λ q. let z : ⊥ = cc in absurd z) r.2
 
-  answered_big : (k : ℕ) → outcome ts ≡ stop 6 k → Big words first ts k
-  answered_big k e = let r = answer_means (stop 6 k) e in ⊎_elim (λ q. let z : ⊥ = omega (arith, q.0) in absurd z) (λ q. subst (Big words first ts) (omega (arith, r.1)) q.1) r.2
+  answered_big : (k : ℕ) → outcome ts ≡ stop Reason.Node k → Big words first ts k
+  answered_big k e = let r = answer_means (stop Reason.Node k) e in ⊎_elim (λ q. let z : ⊥ = cc in absurd z) (λ q. subst (Big words first ts) (omega (arith, r.1)) q.1) r.2
 
   pub answered : Answered ts
   answered = go (outcome ts) refl
     where
       go : (o : Outcome) → outcome ts ≡ o → Answered ts
       go (whole n) e = read n e
-      go (stop c k) e = ⊎_elim (λ q. strayed k (e ∙ ap (λ (c : ℕ). stop c k) q.0)) (λ q. outgrown k (e ∙ ap (λ (c : ℕ). stop c k) q.0)) (answer_means (stop c k) e).2
+      go (stop c k) e = ⊎_elim (λ q. strayed k (e ∙ ap (λ (c : Reason). stop c k) q.0)) (λ q. outgrown k (e ∙ ap (λ (c : Reason). stop c k) q.0)) (answer_means (stop c k) e).2
 
   -- A text that is read derives a diagram.
   pub read_derives : (n : ℕ) → outcome ts ≡ whole n → (d : Flow) × Derives words ts d
@@ -89,26 +90,26 @@ module _ (words : List Name) (fine : sound words ≡ true) (ts : List Token) (h 
 
   -- Where a text is off grammar, the tokens before begin some grammatical text, and with the token they begin none, and at the end the text
   -- is none.
-  pub off_viable : (k : ℕ) → outcome ts ≡ stop 5 k → (k ≤ length ts) × Viable words (take k ts)
+  pub off_viable : (k : ℕ) → outcome ts ≡ stop Reason.Token k → (k ≤ length ts) × Viable words (take k ts)
   off_viable k e = let o = answered_off k e in (o.within, viable_of words (take k ts) o.rest o.viable)
 
-  pub off_token : (k : ℕ) → outcome ts ≡ stop 5 k → k < length ts → Viable words (take (suc k) ts) → ⊥
+  pub off_token : (k : ℕ) → outcome ts ≡ stop Reason.Token k → k < length ts → Viable words (take (suc k) ts) → ⊥
   off_token k e l v = (answered_off k e).astray l v.1 (spelled words (take (suc k) ts ++ v.1) v.0 v.2)
 
-  pub off_end : (k : ℕ) → outcome ts ≡ stop 5 k → k ≡ length ts → (d : Flow) → Derives words ts d → ⊥
+  pub off_end : (k : ℕ) → outcome ts ≡ stop Reason.Token k → k ≡ length ts → (d : Flow) → Derives words ts d → ⊥
   off_end k e l d g = (answered_off k e).unfinished l (spelled words ts d g)
 
   -- A node too many or too deep is on grammar.
-  pub big_viable : (k : ℕ) → outcome ts ≡ stop 6 k → (k < length ts) × Viable words (take (suc k) ts)
+  pub big_viable : (k : ℕ) → outcome ts ≡ stop Reason.Node k → (k < length ts) × Viable words (take (suc k) ts)
   big_viable k e = let b = answered_big k e in (b.within, viable_of words (take (suc k) ts) b.rest b.viable)
 
   -- The first place where a text is off grammar is the one that is answered, unless a node too many or too deep stands before it.
   pub off_only : (k : ℕ) → Viable words (take k ts) → (k < length ts → Viable words (take (suc k) ts) → ⊥) → (k ≡ length ts → (d : Flow) → Derives words ts d → ⊥) → k ≤ length ts
-      → ((j : ℕ) × (outcome ts ≡ stop 6 j) × (j < k)) ⊎ (outcome ts ≡ stop 5 k)
+      → ((j : ℕ) × (outcome ts ≡ stop Reason.Node j) × (j < k)) ⊎ (outcome ts ≡ stop Reason.Token k)
   off_only k v astray unfinished l = go answered
     where
       Here : Type 0
-      Here = ((j : ℕ) × (outcome ts ≡ stop 6 j) × (j < k)) ⊎ (outcome ts ≡ stop 5 k)
+      Here = ((j : ℕ) × (outcome ts ≡ stop Reason.Node j) × (j < k)) ⊎ (outcome ts ≡ stop Reason.Token k)
 
       -- nothing past k is viable
       past : (j : ℕ) → k < j → j ≤ length ts → Viable words (take j ts) → ⊥
@@ -118,13 +119,13 @@ module _ (words : List Name) (fine : sound words ≡ true) (ts : List Token) (h 
       not_read d g true q = astray (ltb-true k (length ts) q) (derived_viable words ts d g (suc k))
       not_read d g false q = unfinished (omega (arith, ltb-false k (length ts) q)) d g
 
-      same_place : (j : ℕ) → outcome ts ≡ stop 5 j → (before after : Bool) → ltb j k ≡ before → ltb k j ≡ after → Here
+      same_place : (j : ℕ) → outcome ts ≡ stop Reason.Token j → (before after : Bool) → ltb j k ≡ before → ltb k j ≡ after → Here
       same_place j e true after p q = let z = ltb-true j k p in absurd (off_token j e (omega arith) (shorter words (suc j) k ts z v))
       same_place j e false true p q = let o = off_viable j e in absurd (past j (ltb-true k j q) o.0 o.1)
       same_place j e false false p q =
-          let s : j ≡ k = omega (arith, ltb-false j k p, ltb-false k j q) in inr (e ∙ ap (λ (i : ℕ). stop 5 i) s)
+          let s : j ≡ k = omega (arith, ltb-false j k p, ltb-false k j q) in inr (e ∙ ap (λ (i : ℕ). stop Reason.Token i) s)
 
-      earlier : (j : ℕ) → outcome ts ≡ stop 6 j → (b : Bool) → ltb j k ≡ b → Here
+      earlier : (j : ℕ) → outcome ts ≡ stop Reason.Node j → (b : Bool) → ltb j k ≡ b → Here
       earlier j e true p = inl (j, e, ltb-true j k p)
       earlier j e false p = let b = big_viable j e in let z = ltb-false j k p in absurd (past (suc j) (omega arith) b.0 b.1)
 

@@ -7,6 +7,7 @@ use Prim.Native.Nat.{ℕ, suc, ◌+◌, ◌≤◌, ◌<◌}
 use native.Mathlib.Omega.{arith}
 use lib.ListN.{length, take}
 use Rattle.diagram.specs.Tree.{Name}
+use Rattle.base.specs.declared.Reason.{Reason}
 use Rattle.base.proofs.Truth.{and_l, and_r}
 use Rattle.tokens.specs.Token.{Token, named, proper, all_proper}
 use Rattle.grammar.specs.Machine.{Want, Move, off, big, push, Outcome, whole, stop, expand, proceed, run}
@@ -32,12 +33,12 @@ pub record Big (words : List Name) (ws : List Want) (ts : List Token) (i : ℕ) 
 -- What an outcome means for the entries and the tokens, of which the first has the number k.
 abbrev pub Means : List Name → List Want → List Token → ℕ → Outcome → Type 0
 Means words ws ts k (whole n) = SpellsAll words ws ts []
-Means words ws ts k (stop e j) = (i : ℕ) × (j ≡ k + i) × (((e ≡ 5) × Off words ws ts i) ⊎ ((e ≡ 6) × Big words ws ts i))
+Means words ws ts k (stop e j) = (i : ℕ) × (j ≡ k + i) × (((e ≡ Reason.Token) × Off words ws ts i) ⊎ ((e ≡ Reason.Node) × Big words ws ts i))
 
 module _ (words : List Name) (a : Name) (ok : named words a ≡ true) where
   -- Nothing read, and the next token, if there is one, does not go on.
   off_here : (ws : List Want) → AllGood words ws → (ts : List Token) (k : ℕ) → (0 ≡ length ts → SpellsAll words ws ts [] → ⊥)
-      → (0 < length ts → (more : List Token) → SpellsAll words ws (take 1 ts ++ more) [] → ⊥) → Means words ws ts k (stop 5 k)
+      → (0 < length ts → (more : List Token) → SpellsAll words ws (take 1 ts ++ more) [] → ⊥) → Means words ws ts k (stop Reason.Token k)
   off_here ws g ts k u v =
       let f = all_filled words ws g [] in
       (0, omega arith, inl (refl, record { within = omega arith; rest = f.0; viable = f.1; unfinished = u; astray = v }))

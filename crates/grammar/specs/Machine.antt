@@ -1,5 +1,6 @@
 -- The reader as a machine: what it still wants is a list, of which each token replaces the first entry.
 use Rattle.std.specs.Prelude.{Bool, true, false, ◌||◌, cond, List, [], ◌∷◌, ◌++◌, ℕ, suc, ◌+◌, ◌-◌, eqb, leb}
+use Rattle.base.specs.declared.Reason.{Reason}
 use Rattle.tokens.specs.Classes.{between}
 use Rattle.tokens.specs.Token.{Sign, opening, closing, comma, colon, Keyword, flow, leaf, group, replicator, loop, Token, key, name, numeral, other, sign_code}
 
@@ -82,7 +83,7 @@ pub data Move : Type 0 where
 -- What stands at the end: a text read, with its number of nodes; or a refusal at a token.
 pub data Outcome : Type 0 where
   whole : ℕ → Outcome
-  stop : ℕ → ℕ → Outcome
+  stop : Reason → ℕ → Outcome
 
 abbrev pub ref : List Want
 ref = sign opening ∷ number 0 1 ∷ sign closing ∷ []
@@ -135,15 +136,15 @@ expand (more d) n t = cond (is_sign closing t) (push 0 []) (begin child d n t (r
 expand (others d) n t = cond (is_sign closing t) (push 0 []) (begin member d n t (others d ∷ []))
 
 abbrev pub proceed : Move → ℕ → (ℕ → List Want → Outcome) → Outcome
-proceed off k go = stop 5 k
-proceed big k go = stop 6 k
+proceed off k go = stop Reason.Token k
+proceed big k go = stop Reason.Node k
 proceed (push u ws) k go = go u ws
 
 -- The outcome, from what is wanted, the nodes so far, the number of the next token, and the tokens left.
 unfoldable pub run : List Want → ℕ → ℕ → List Token → Outcome
 run [] n k [] = whole n
-run [] n k (t ∷ ts) = stop 5 k
-run (w ∷ ws) n k [] = stop 5 k
+run [] n k (t ∷ ts) = stop Reason.Token k
+run (w ∷ ws) n k [] = stop Reason.Token k
 run (w ∷ ws) n k (t ∷ ts) = proceed (expand w n t) k (λ u vs. run (vs ++ ws) (n + u) (suc k) ts)
 
 -- A node at depth 13 is too deep.

@@ -2,6 +2,7 @@
 -- the machine comes to over their tokens.
 use Rattle.std.specs.Prelude.{◌≡◌, List, [], ◌∷◌, ◌++◌, map, ℕ, zero, suc}
 use Rattle.base.specs.Text.{bytes}
+use Rattle.base.specs.declared.Reason.TheVariants.{Node}
 use Rattle.tokens.specs.Words.{keywords}
 use Rattle.diagram.specs.Tree.{all, some, one}
 use Rattle.tokens.specs.Token.{opening, closing, comma, colon, flow, leaf, group, replicator, loop, Token, sign, key, name, numeral, other, token_of, text_tokens, code}
@@ -57,7 +58,7 @@ nested (suc n) = bytes "flow(a,1)(" ++ (nested n ++ bytes "(1))")
 -- "Root with 255 leaves read; with 256, 6 at the last leaf. Eleven nested flows and a leaf: read. Twelve: 6 at the leaf." A leaf has 7 tokens
 -- with its ref, and so has a flow up to its first child.
 abbrev pub drawings : List (List ℕ × Outcome)
-drawings = (rooted 255, whole 256) ∷ (rooted 256, stop 6 1792) ∷ (nested 11, whole 12) ∷ (nested 12, stop 6 84) ∷ []
+drawings = (rooted 255, whole 256) ∷ (rooted 256, stop Node 1792) ∷ (nested 11, whole 12) ∷ (nested 12, stop Node 84) ∷ []
 
 abbrev pub Worked : List (List ℕ × Outcome) → Type 0
 Worked ds = map (λ d. outcome (text_tokens keywords d.0)) ds ≡ map (λ d. d.1) ds
