@@ -20,8 +20,8 @@ pub const SIDE: usize = 32768;
 fn sized(t: &[u8]) -> bool
     ensures { result ≡ sized t.now }
 {
-    let n = base::half(t, 0);
-    let m = base::half(t, 2);
+    let n = base::number::<2>(t, 0);
+    let m = base::number::<2>(t, 2);
     (1 <= n) & ((n <= 512) & ((1 <= m) & ((m <= 12288) & (t.len() == 4 + 4 * n + 4 * m))))
 }
 
@@ -32,7 +32,7 @@ fn word(t: &[u8], k: usize) -> usize
 {
     let at = 4 + 4 * k;
     let end = at + 4;
-    base::word(&t[at..end], 0)
+    base::number::<4>(&t[at..end], 0)
 }
 
 // Of event e's record, where there are m rows.
@@ -62,8 +62,8 @@ fn events_sound(t: &[u8]) -> bool
     requires { sized t.now ≡ true }
     ensures { result ≡ events_sound t.now (events t.now) }
 {
-    let n = base::half(t, 0);
-    let m = base::half(t, 2);
+    let n = base::number::<2>(t, 0);
+    let m = base::number::<2>(t, 2);
     let mut ok = true;
     let mut i = 0;
     while i < n {
@@ -79,8 +79,8 @@ fn rows_sound(t: &[u8]) -> bool
     requires { sized t.now ≡ true }
     ensures { result ≡ rows_sound t.now (rows t.now) }
 {
-    let n = base::half(t, 0);
-    let m = base::half(t, 2);
+    let n = base::number::<2>(t, 0);
+    let m = base::number::<2>(t, 2);
     let mut ok = true;
     let mut i = 0;
     while i < m {
@@ -132,8 +132,8 @@ fn rows_worked(t: &[u8], bits: &[u64; 8], values: &mut [bool]) -> bool
     ensures value { result ≡ rows_sound t.now (rows t.now) }
     ensures values_after { result ≡ true → take (rows t.now) values.new ≡ values_of t.now bits.now }
 {
-    let n = base::half(t, 0);
-    let m = base::half(t, 2);
+    let n = base::number::<2>(t, 0);
+    let m = base::number::<2>(t, 2);
     let mut ok = true;
     let mut i = 0;
     while i < m {

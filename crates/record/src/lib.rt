@@ -118,14 +118,14 @@ pub fn set_past(bits: &[u64; 8], first: usize) -> bool
 pub fn load(bytes: &[u8]) -> [u64; 8]
     ensures { result ≡ words_of bytes.now }
 {
-    let a = base::long(bytes, 0);
-    let b = base::long(bytes, 8);
-    let c = base::long(bytes, 16);
-    let d = base::long(bytes, 24);
-    let e = base::long(bytes, 32);
-    let f = base::long(bytes, 40);
-    let g = base::long(bytes, 48);
-    let h = base::long(bytes, 56);
+    let a = base::number::<8>(bytes, 0) as u64;
+    let b = base::number::<8>(bytes, 8) as u64;
+    let c = base::number::<8>(bytes, 16) as u64;
+    let d = base::number::<8>(bytes, 24) as u64;
+    let e = base::number::<8>(bytes, 32) as u64;
+    let f = base::number::<8>(bytes, 40) as u64;
+    let g = base::number::<8>(bytes, 48) as u64;
+    let h = base::number::<8>(bytes, 56) as u64;
     [a, b, c, d, e, f, g, h]
 }
 
@@ -137,7 +137,7 @@ pub fn store(out: &mut [u8], bits: [u64; 8])
     while i < 64 {
         let w = bits[i / 8];
         let k = 56 - i % 8 * 8;
-        base::put_byte(out, i, ((w >> k) % 256) as u8);
+        base::put(out, i, ((w >> k) % 256) as u8);
         i += 1;
     }
 }

@@ -12,13 +12,13 @@ loop-i-init c = (omega arith, refl)
 
 pub word-w-requires : goal.word-w-requires
 word-w-requires c =
-    omega (arith, (sized_says _ c.requires).length_exact, c.half-n.ensures.0, c.loop-i-test.true)
+    omega (arith, (sized_says _ c.requires).length_exact, c.number-n.ensures.0, c.loop-i-test.true)
 
 pub loop-i-preserved : goal.loop-i-preserved
 loop-i-preserved c =
-    (omega arith, events_more _ _ _ _ _ _ c.half-m.ensures.0 c.word-w.ensures c.event_sound-this.ensures c.loop-i.invariant.1)
+    (omega arith, events_more _ _ _ _ _ _ c.number-m.ensures.0 c.word-w.ensures c.event_sound-this.ensures c.loop-i.invariant.1)
 
 pub returns : goal.returns
 returns c =
-    let q : c.loop-i.i ≡ c.half-n.result = omega arith in
-    c.loop-i.invariant.1 ∙ ap (events_sound _) (q ∙ c.half-n.ensures.0)
+    let q : c.loop-i.i ≡ c.number-n.result = omega arith in
+    c.loop-i.invariant.1 ∙ ap (events_sound _) (q ∙ c.number-n.ensures.0)

@@ -12,14 +12,14 @@ loop-i-init c = (omega arith, refl)
 
 pub word-w-requires : goal.word-w-requires
 word-w-requires c =
-    omega (arith, (sized_says _ c.requires).length_exact, c.half-n.ensures.0, c.half-m.ensures.0, c.loop-i-test.true)
+    omega (arith, (sized_says _ c.requires).length_exact, c.number-n.ensures.0, c.number-m.ensures.0, c.loop-i-test.true)
 
 pub loop-i-preserved : goal.loop-i-preserved
 loop-i-preserved c =
-    let n = c.half-n.ensures.0 in
+    let n = c.number-n.ensures.0 in
     (omega arith, rows_more _ _ _ _ _ _ n (row_read _ _ _ _ n c.word-w.ensures) c.row_sound-this.ensures c.loop-i.invariant.1)
 
 pub returns : goal.returns
 returns c =
-    let q : c.loop-i.i ≡ c.half-m.result = omega arith in
-    c.loop-i.invariant.1 ∙ ap (rows_sound _) (q ∙ c.half-m.ensures.0)
+    let q : c.loop-i.i ≡ c.number-m.result = omega arith in
+    c.loop-i.invariant.1 ∙ ap (rows_sound _) (q ∙ c.number-m.ensures.0)

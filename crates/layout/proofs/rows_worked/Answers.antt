@@ -17,12 +17,12 @@ loop-i-init c = (omega arith, c.requires.1, refl, λ y. refl)
 
 pub word-w-requires : goal.word-w-requires
 word-w-requires c =
-    omega (arith, (sized_says _ c.requires.0).length_exact, c.half-n.ensures.0, c.half-m.ensures.0, c.loop-i-test.true)
+    omega (arith, (sized_says _ c.requires.0).length_exact, c.number-n.ensures.0, c.number-m.ensures.0, c.loop-i-test.true)
 
 -- There is room for the row.
-room : (c : At-loop-i) → c.loop-i.i < c.half-m.result → c.loop-i.i < length c.loop-i.values
+room : (c : At-loop-i) → c.loop-i.i < c.number-m.result → c.loop-i.i < length c.loop-i.values
 room c h =
-    rw c.loop-i.invariant.1 (omega (arith, (sized_says _ c.requires.0).rows_most, c.half-m.ensures.0, h))
+    rw c.loop-i.invariant.1 (omega (arith, (sized_says _ c.requires.0).rows_most, c.number-m.ensures.0, h))
 
 pub row_value-v-requires : goal.row_value-v-requires
 row_value-v-requires c = (
@@ -35,11 +35,11 @@ bounds-values-i c = room (goal.at.bounds-values-i c).At-loop-i c.loop-i-test.tru
 
 pub loop-i-preserved : goal.loop-i-preserved
 loop-i-preserved c =
-    let n = c.half-n.ensures.0 in
+    let n = c.number-n.ensures.0 in
     let w = row_read _ _ _ _ n c.word-w.ensures in
     let s = c.row_sound-this.ensures in
     let more = rows_more _ _ _ _ _ _ n w s c.loop-i.invariant.2 in
-    let on : c.loop-i.i + 1 ≤ c.half-m.result = omega arith in
+    let on : c.loop-i.i + 1 ≤ c.number-m.result = omega arith in
     elim c.if-ok.branch [
       | then-ok y ↦ (
         on,
@@ -55,6 +55,6 @@ shape_of-values c = c.loop-i.invariant.1 ∙ sym c.requires.1
 
 pub returns : goal.returns
 returns c =
-    let i : c.loop-i.i ≡ c.half-m.result = omega arith in
-    let q = i ∙ c.half-m.ensures.0 in
+    let i : c.loop-i.i ≡ c.number-m.result = omega arith in
+    let q = i ∙ c.number-m.ensures.0 in
     rw (← q) (record { value = c.loop-i.invariant.2; values_after = c.loop-i.invariant.3 })

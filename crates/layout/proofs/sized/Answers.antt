@@ -4,4 +4,4 @@ use Rattle.layout.proofs.sized.Goals as goal
 
 pub returns : goal.returns
 unfolding sized
-returns c = rw (c.half-n.ensures.0, c.half-m.ensures.0)
+returns c = rw (c.number-n.ensures.0, c.number-m.ensures.0)

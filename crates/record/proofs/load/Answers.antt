@@ -4,5 +4,5 @@ use Rattle.record.proofs.load.Goals as goal
 
 pub returns : goal.returns
 returns c =
-    loaded _ _ _ _ _ _ _ _ _ c.long-a.ensures c.long-b.ensures c.long-c.ensures c.long-d.ensures c.long-e.ensures c.long-f.ensures
-    c.long-g.ensures c.long-h.ensures
+    loaded _ _ _ _ _ _ _ _ _ c.number-a.ensures.0 c.number-b.ensures.0 c.number-c.ensures.0 c.number-d.ensures.0 c.number-e.ensures.0 c.number-f.ensures.0
+    c.number-g.ensures.0 c.number-h.ensures.0

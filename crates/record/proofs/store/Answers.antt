@@ -15,8 +15,8 @@ loop-i-preserved c =
     let a = c.args in
     let l = c.loop-i in (
       search rules,
-      store_more a.bits a.out.now l.out c.put_byte.new.bytes l.i (omega (arith, c.loop-i-test.true)) l.invariant.1
-          c.put_byte.ensures,
+      store_more a.bits a.out.now l.out c.put.new.column l.i (omega (arith, c.loop-i-test.true)) l.invariant.1
+          c.put.ensures,
     )
 
 pub shape_of-out : goal.shape_of-out
