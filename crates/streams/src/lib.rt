@@ -17,13 +17,9 @@ pub fn read_full<R: Read>(input: &mut R, bytes: &mut [u8]) -> Result<usize, usiz
     let mut n = 0;
     while n < bytes.len() {
         match input.read(&mut bytes[n..]) {
+            Ok(0) => return Ok(n),
+            Ok(more) => n += more,
             Err(_) => return Err(n),
-            Ok(more) => {
-                if more == 0 {
-                    return Ok(n);
-                }
-                n += more;
-            }
         }
     }
     Ok(n)
@@ -34,18 +30,12 @@ pub fn read_there<R: Read>(input: &mut R, bytes: &mut [u8]) -> usize
     ensures count { result ≤ length bytes.new }
     ensures consumed { Consumes (R.remaining input.old) (R.remaining input.new) (take result bytes.new) }
 {
-    match read_full(input, bytes) {
-        Ok(n) => n,
-        Err(n) => n,
-    }
+    read_full(input, bytes).unwrap_or_else(|n| n)
 }
 
 // Writes bytes, and says whether all of them stand there. The programs pass over what cannot be written.
 pub fn write_there<W: Write>(to: &mut W, bytes: &[u8]) -> bool
     ensures { OnTrue result (Appends (W.contents to.old) (W.contents to.new) bytes.now) }
 {
-    match to.write_all(bytes) {
-        Ok(()) => true,
-        Err(_) => false,
-    }
+    to.write_all(bytes).is_ok()
 }
