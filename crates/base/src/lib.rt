@@ -1,6 +1,6 @@
 #![tactic(auto)]
 
-ghost use Rattle.std.specs.Prelude.{◌≡◌, ◌^◌, ◌<◌, ◌≤◌, get_or, set};
+ghost use Rattle.std.specs.Prelude.{◌≡◌, ◌^◌, ◌<◌, get_or, set, min};
 ghost use Rattle.base.specs.Packed.{field, put_word as put_word_of};
 ghost use Rattle.base.specs.Refusals.{number as number_of, refusal};
 
@@ -84,16 +84,15 @@ pub fn put<T: Copy>(column: &mut [T], i: usize, value: T)
     }
 }
 
-// The number that the N bytes from i on make, most significant byte first; past the end there are only zeros.
+// The number that the N bytes from i on make, of which there are at most 8, most significant byte first; past the end there are only zeros.
 pub fn number<const N: usize>(bytes: &[u8], i: usize) -> usize
-    requires { N ≤ 8 }
-    ensures { (result ≡ field N bytes.now i) × (result < 256 ^ N) }
+    ensures { (result ≡ field (min N 8) bytes.now i) × (result < 256 ^ min N 8) }
 {
     if bytes.len() <= i {
         return 0;
     }
     let mut value = 0;
-    for k in 0..N {
+    for k in 0..N.min(8) {
         value = value * 256 + usize::from(at(bytes, i + k, 0));
     }
     value

@@ -1,5 +1,5 @@
 -- `base::number` meets its contract: byte by byte, each below 256; past the end there are only zeros.
-use Rattle.std.proofs.Common.{ℕ, suc, ◌+◌, ◌*◌, ◌^◌, ◌<◌, ◌≤◌, arith, Fits, w8, get_or, List, ◌∙◌, ◌≡◌, refl, subst, sym, add-one, rules}
+use Rattle.std.proofs.Common.{ℕ, suc, ◌+◌, ◌*◌, ◌^◌, ◌<◌, ◌≤◌, arith, Fits, w8, get_or, List, ◌∙◌, ◌≡◌, refl, subst, sym, add-one, rules, min}
 use Rattle.std.proofs.Math.Nat.{pow-le-pow_right, pow-suc}
 use Rattle.base.proofs.Fields.{field_past, field_more, field_below, field_none}
 use Rattle.base.specs.Packed.{field}
@@ -18,8 +18,8 @@ below k s at v h e = subst (λ (n : ℕ). n < 256 ^ k) (sym e) (field_below k s 
 
 pub returns-then-bytes-i : goal.returns-then-bytes-i
 returns-then-bytes-i g c =
-    let z = field_past g.row.N _ _ c.if-bytes-i.true in
-    (z, below g.row.N c.args.bytes.now c.args.i 0 c.type_inv.bytes z)
+    let z = field_past (min g.row.N 8) _ _ c.if-bytes-i.true in
+    (z, below (min g.row.N 8) c.args.bytes.now c.args.i 0 c.type_inv.bytes z)
 
 pub loop-k-init : goal.loop-k-init
 loop-k-init g c = field_none _ _
@@ -27,12 +27,12 @@ loop-k-init g c = field_none _ _
 pub overflow_mul-value : goal.overflow_mul-value
 overflow_mul-value g c =
     let b = below c.loop-k.k c.args.bytes.now c.args.i _ c.type_inv.bytes c.loop-k.invariant in
-    omega (arith, fits_more c.loop-k.k _ _ 0 b c.loop-k-test.true c.requires (omega arith))
+    omega (arith, fits_more c.loop-k.k _ _ 0 b c.loop-k-test.true (omega (arith, c.min-k-end.ensures)) (omega arith))
 
 pub overflow_add-value : goal.overflow_add-value
 overflow_add-value g c =
     let b = below c.loop-k.k c.args.bytes.now c.args.i _ c.type_inv.bytes c.loop-k.invariant in
-    let f = fits_more c.loop-k.k g.row.N c.loop-k.value c.from.result b c.loop-k-test.true c.requires (rw c.from.ensures c.at.type_inv) in
+    let f = fits_more c.loop-k.k c.min-k-end.result c.loop-k.value c.from.result b c.loop-k-test.true (omega (arith, c.min-k-end.ensures)) (rw c.from.ensures c.at.type_inv) in
     search (rules, f)
 
 pub loop-k-preserved : goal.loop-k-preserved
@@ -41,6 +41,6 @@ loop-k-preserved g c =
 
 pub returns : goal.returns
 returns g c =
-    let n : c.loop-k.k ≡ g.row.N = omega (arith, c.loop-k.auto.k-end, c.loop-k-test.false) in
+    let n : c.loop-k.k ≡ min g.row.N 8 = omega (arith, c.loop-k.auto.k-end, c.loop-k-test.false, c.min-k-end.ensures) in
     let v = subst (λ (k : ℕ). c.loop-k.value ≡ field k c.args.bytes.now c.args.i) n c.loop-k.invariant in
-    (v, below g.row.N c.args.bytes.now c.args.i _ c.type_inv.bytes v)
+    (v, below (min g.row.N 8) c.args.bytes.now c.args.i _ c.type_inv.bytes v)
