@@ -4,8 +4,9 @@ use mathlib.Core.List.{List, [], ◌∷◌, ◌++◌, append-nil}
 use Prim.Native.Nat.{ℕ, ◌+◌, ◌≤◌, ◌<◌}
 use native.Mathlib.Omega.{arith}
 use lib.Dec.{ltb}
-use lib.ListN.{length, take, set, length-append, length-set}
-use lib.Seq.{append_snoc, length-take-le}
+use lib.ListN.{length, get_or, take, set, length-append, length-set}
+use native.Mathlib.Numerals.{add-one}
+use lib.Seq.{append_snoc, take-suc, length-take-le}
 use borrow.Author.Tests.{lt-ltb, le-ltb, ltb-true}
 use Rattle.base.specs.Fill.{fill}
 use Rattle.base.proofs.Filled.{fill_length, fill_none, fill_next}
@@ -39,12 +40,12 @@ put_within b s h =
     (λ e. let l = ltb-true s.at (length s.bytes) e in rw e (rw (length-set s.bytes s.at b) (omega arith)))
     (λ e. rw e h)
 
-put_all_within : (bs : List ℕ) (s : Buffer) → s.at ≤ length s.bytes → (put_all bs s).at ≤ length (put_all bs s).bytes
+pub put_all_within : (bs : List ℕ) (s : Buffer) → s.at ≤ length s.bytes → (put_all bs s).at ≤ length (put_all bs s).bytes
 unfolding put_all
 put_all_within [] s h = h
 put_all_within (b ∷ bs) s h = put_all_within bs (put b s) (put_within b s h)
 
-abbrev Within : Buffer → Type 0
+abbrev pub Within : Buffer → Type 0
 Within s = s.at ≤ length s.bytes
 
 -- As a caller finds one byte more, and takes the bytes that were written.
@@ -60,6 +61,11 @@ pub put_all_append : (bs cs : List ℕ) (s : Buffer) → put_all (bs ++ cs) s �
 unfolding put_all
 put_all_append [] cs s = refl
 put_all_append (b ∷ bs) cs s = put_all_append bs cs (put b s)
+
+-- One byte more of a list.
+pub put_all_next : (bs : List ℕ) (i : ℕ) (s : Buffer) → i < length bs → put_all (take (i + 1) bs) s ≡ put (get_or bs i 0) (put_all (take i bs) s)
+unfolding put_all
+put_all_next bs i s h = rw (add-one, take-suc bs i 0 h) (put_all_append (take i bs) (get_or bs i 0 ∷ []) s)
 
 -- These, and then those.
 pub before : (s : Buffer) (bs cs : List ℕ) {t u : Buffer} → t ≡ put_all bs s → u ≡ put_all cs t → u ≡ put_all (bs ++ cs) s

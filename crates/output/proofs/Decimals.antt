@@ -1,5 +1,5 @@
 -- The digits of a number: read back they are the number, there is no leading zero, and a small number has few.
-use mathlib.Core.Path.{◌≡◌, refl, sym, ◌∙◌}
+use mathlib.Core.Path.{◌≡◌, refl, ◌∙◌}
 use mathlib.Core.List.{List, [], ◌∷◌, ◌++◌, foldl-append}
 use Prim.Native.Nat.{ℕ, zero, suc, ◌+◌, ◌-◌, ◌/◌, ◌%◌, ◌^◌, ◌≤◌, ◌<◌}
 use native.Mathlib.Nat.{pow-suc}
@@ -8,9 +8,7 @@ use lib.Dec.{ltb}
 use lib.ListN.{length, get_or, length-append, get_or-append}
 use borrow.Author.Tests.{ltb-true, ltb-false}
 use Rattle.base.proofs.Truth.{by_cases}
-use Rattle.output.specs.Buffer.{Buffer, put, put_all}
 use Rattle.output.specs.Decimal.{digits, decimal, value}
-use Rattle.output.proofs.Buffers.{put_all_append}
 
 -- One digit, or those of the tenth and one more.
 by_digits : (P : List ℕ → Type 0) (n v : ℕ) → (v < 10 → P ((48 + v) ∷ [])) → (10 ≤ v → P (digits n (v / 10) ++ ((48 + v % 10) ∷ []))) → P (digits (suc n) v)
@@ -34,24 +32,6 @@ digits_more zero v p h = absurd (omega arith)
 digits_more (suc n) v p h =
     let e : suc n - 1 ≡ n = omega arith in
     rw e (by_digits (λ bs. bs ≡ digits n (v / 10) ++ ((48 + v % 10) ∷ [])) n v (λ l. absurd (omega arith)) (λ l. refl))
-
--- The only digit written, and the last of several.
-module _ (n v : ℕ) (s : Buffer) where
-  pub only_digit : digits n v ≡ (48 + v % 10) ∷ [] → put (48 + v % 10) s ≡ put_all (digits n v) s
-  unfolding put_all
-  only_digit e = rw e
-
-  pub last_digit : {t : Buffer} → digits n v ≡ digits (n - 1) (v / 10) ++ ((48 + v % 10) ∷ []) → t ≡ put_all (digits (n - 1) (v / 10)) s
-      → put (48 + v % 10) t ≡ put_all (digits n v) s
-  unfolding put_all
-  last_digit e q = rw (e, q) (sym (put_all_append (digits (n - 1) (v / 10)) _ s))
-
-  -- As the code writes them, by what it tests.
-  pub one_put : {t : Buffer} → v ≤ 9 → t ≡ put (48 + v % 10) s → t ≡ put_all (digits n v) s
-  one_put h q = q ∙ only_digit (digits_few n v h)
-
-  pub more_put : {t u : Buffer} → 0 < n → 9 < v → t ≡ put_all (digits (n - 1) (v / 10)) s → u ≡ put (48 + v % 10) t → u ≡ put_all (digits n v) s
-  more_put p h q w = w ∙ last_digit (digits_more n v p h) q
 
 tenth : (n v : ℕ) → v < 10 ^ suc n → v / 10 < 10 ^ n
 tenth n v h = omega (arith, rw pow-suc at h)

@@ -1,3 +1,4 @@
 pub mod Buffer
 pub mod Decimal
 pub mod Lines
+pub mod Writes

@@ -1,87 +1,105 @@
 #![tactic(auto)]
 
-ghost use Rattle.std.specs.Prelude.{◌≡◌, ◌+◌, ◌%◌};
+ghost use Rattle.std.specs.Prelude.{◌≡◌, [], ◌∷◌, ◌+◌, ◌%◌, take};
+ghost use Rattle.base.specs.Refusals.{number as number_of};
 ghost use Rattle.output.specs.Buffer.{buffer, put, put_all};
 ghost use Rattle.output.specs.Decimal.{digits as digits_of, decimal};
 ghost use Rattle.output.specs.Lines.{two_numbers, refused_line};
+ghost use Rattle.output.specs.Writes.{Writes, written};
 
-// One byte more over the buffer, where there is room; answers how many are written.
-pub fn byte(out: &mut [u8], at: usize, b: u8) -> usize
-    ensures { buffer result out.new ≡ put b (buffer at out.old) }
-{
-    if out.len() <= at {
-        return at;
-    }
-    let next = at + 1;
-    out[at] = b;
-    next
+use base::Refusal;
+
+// Bytes written one after the other into a lent buffer, as far as it goes: the buffer, and how many are written.
+#[derive(Drop)]
+pub struct Writer<'a> {
+    pub out: &'a mut [u8],
+    pub at: usize,
 }
 
-// The bytes of `source`, one after the other.
-pub fn bytes(out: &mut [u8], at: usize, source: &[u8]) -> usize
-    ensures { buffer result out.new ≡ put_all source.now (buffer at out.old) }
-{
-    let mut n = at;
-    let mut i = 0;
-    while i < source.len() {
-        n = byte(out, n, source[i]);
-        i += 1;
+impl<'a> Writer<'a> {
+    // Nothing is written yet.
+    pub fn new(out: &'a mut [u8]) -> Writer<'a>
+        ensures same { result.out.ghost_name ≡ out.entry.ghost_name }
+        ensures none { written result ≡ buffer 0 out.old }
+    {
+        Writer { out, at: 0 }
     }
-    n
-}
 
-// The last digit of a number.
-fn last(out: &mut [u8], at: usize, v: usize) -> usize
-    ensures { buffer result out.new ≡ put (48 + v % 10) (buffer at out.old) }
-{
-    byte(out, at, b'0' + (v % 10) as u8)
-}
-
-// The digits of a number, at most one more than `left`: those of its tenth, and the last.
-fn digits(out: &mut [u8], at: usize, v: usize, left: usize) -> usize
-    ensures { buffer result out.new ≡ put_all (digits_of left v) (buffer at out.old) }
-{
-    let mut n = at;
-    if left > 0 && v > 9 {
-        n = digits(out, at, v / 10, left - 1);
+    // One byte more, where there is room.
+    #[tactic(auto, using(crate::proofs::Buffers::put_full, crate::proofs::Buffers::put_room), unfolding(crate::specs::Buffer::put_all))]
+    pub fn byte(&mut self, b: u8)
+        ensures { Writes self.old self.new (b ∷ []) }
+    {
+        if self.at < self.out.len() {
+            self.out[self.at] = b;
+            self.at += 1;
+        }
     }
-    last(out, n, v)
-}
 
-// A number in decimal. One of up to three digits is written straight on.
-pub fn number(out: &mut [u8], at: usize, v: usize) -> usize
-    ensures { buffer result out.new ≡ put_all (decimal v) (buffer at out.old) }
-{
-    if v <= 9 {
-        return last(out, at, v);
+    // The bytes of `source`, one after the other.
+    #[tactic(auto, using(crate::proofs::Buffers::put_all_next), unfolding(crate::specs::Buffer::put_all))]
+    pub fn bytes(&mut self, source: &[u8])
+        ensures { Writes self.old self.new source.now }
+    {
+        for b in source {
+            self.byte(*b);
+        }
     }
-    let tenth = v / 10;
-    if tenth <= 9 {
-        let a = last(out, at, tenth);
-        return last(out, a, v);
-    }
-    if tenth <= 99 {
-        let a = last(out, at, tenth / 10);
-        let b = last(out, a, tenth);
-        return last(out, b, v);
-    }
-    digits(out, at, v, 19)
-}
 
-// A line of two numbers, each after some words.
-pub fn numbers(out: &mut [u8], at: usize, words: &[u8], m: usize, between: &[u8], n: usize) -> usize
-    ensures { buffer result out.new ≡ put_all (two_numbers words.now m between.now n) (buffer at out.old) }
-{
-    let a = bytes(out, at, words);
-    let b = number(out, a, m);
-    let c = bytes(out, b, between);
-    let d = number(out, c, n);
-    bytes(out, d, b"\n")
-}
+    // The last digit of a number.
+    fn last(&mut self, v: usize)
+        ensures { Writes self.old self.new ((48 + v % 10) ∷ []) }
+    {
+        self.byte(b'0' + (v % 10) as u8);
+    }
 
-// `refused`, number and place.
-pub fn refused(out: &mut [u8], at: usize, number: u8, place: usize) -> usize
-    ensures { buffer result out.new ≡ put_all (refused_line number place) (buffer at out.old) }
-{
-    numbers(out, at, b"refused ", number as usize, b" ", place)
+    // The digits of a number, at most one more than `left`: those of its tenth, and the last.
+    #[tactic(auto, using(crate::proofs::Decimals::digits_none, crate::proofs::Decimals::digits_few, crate::proofs::Decimals::digits_more, crate::proofs::Buffers::put_all_append))]
+    fn digits(&mut self, v: usize, left: usize)
+        ensures { Writes self.old self.new (digits_of left v) }
+    {
+        if v <= 9 {
+            return self.last(v);
+        }
+        if left > 0 {
+            self.digits(v / 10, left - 1);
+        }
+        self.last(v);
+    }
+
+    // A number in decimal.
+    pub fn number(&mut self, v: usize)
+        ensures { Writes self.old self.new (decimal v) }
+    {
+        self.digits(v, 19);
+    }
+
+    // A line of two numbers, each after some words.
+    #[tactic(auto, using(crate::proofs::Buffers::put_all_append))]
+    pub fn numbers(&mut self, words: &[u8], m: usize, between: &[u8], n: usize)
+        ensures { Writes self.old self.new (two_numbers words.now m between.now n) }
+    {
+        self.bytes(words);
+        self.number(m);
+        self.bytes(between);
+        self.number(n);
+        self.bytes(b"\n");
+    }
+
+    // The bytes written so far.
+    pub fn written(&self) -> &[u8]
+        ensures { result.now ≡ take self.now.at self.now.out.now }
+    {
+        let n = self.at.min(self.out.len());
+        &self.out[..n]
+    }
+
+    // The line of a refusal.
+    #[tactic(auto, unfolding(crate::specs::Lines::refused_line))]
+    pub fn refused(&mut self, why: Refusal)
+        ensures { Writes self.old self.new (refused_line (number_of why.reason) why.place) }
+    {
+        let number = usize::from(why.reason.number());
+        self.numbers(b"refused ", number, b" ", why.place);
+    }
 }
