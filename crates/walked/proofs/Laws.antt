@@ -8,6 +8,12 @@ use native.Mathlib.Omega.{arith}
 use lib.Dec.{eqb, leb}
 use lib.ListN.{length, get_or}
 use borrow.Author.Tests.{lt-ltb, le-ltb, le-leb, lt-leb, eq-eqb, ne_eqb}
+use Rattle.std.specs.Prelude.{Some, None, Result, Ok, Err}
+use Rattle.std.specs.Result.{IsErr, IsErrAnd}
+use Rattle.std.proofs.lemmas.Result.{err_from_is_err_and}
+use Rattle.base.specs.Refusals.{refusal}
+use Rattle.base.specs.declared.Reason.{Reason}
+use Rattle.base.specs.declared.Refusal.{Refusal}
 use Rattle.diagram.specs.Tree.{Name}
 use Rattle.base.proofs.Truth.{by_cases, and_l}
 use Rattle.tokens.specs.Classes.{between, foreign}
@@ -21,13 +27,11 @@ use Rattle.tokens.proofs.Cut.{rest_lexed}
 use Rattle.grammar.specs.Machine.{Place, root, member, child, Want, sign, named, number, params, param, node, more, others, Move, off, big, push, ref, flow_parts, leaf_parts, group_parts, replicator_parts, loop_parts, full, depths, is_name, expand}
 use Rattle.grammar.specs.code.Coded.{top, coded_parts, coded_begin, coded}
 use Rattle.grammar.proofs.Coded.{sign_small, sign_coded, expand_coded}
-use Rattle.walked.specs.declared.Step.{Step}
-use Rattle.walked.specs.declared.Step.TheVariants.{Go, Stop}
-use Rattle.walked.specs.declared.Walk.TheVariants.{Refused}
-use Rattle.walked.specs.Walk.{State, state, begun, waiting, beginning, switching, spelled, effect, End, whole, stop, proceed, walk, from, ending}
+use Rattle.walked.specs.declared.Position.{Position}
+use Rattle.walked.specs.Walk.{State, state, begun, waiting, beginning, switching, spelled, effect, End, stop, proceed, walk, from, ending}
 use Rattle.walked.specs.code.Coded.{coded_effect}
 use Rattle.walked.proofs.Past.{name_bytes}
-use Rattle.walked.specs.code.Readers.{Closing, left_at, Turns, Writes, Fills, Opens, Begins, told}
+use Rattle.walked.specs.code.Readers.{Closing, Step, position, left_at, Turns, Writes, Fills, Opens, Begins, told}
 
 and_no : (b : Bool) → (b && false) ≡ false
 and_no true = refl
@@ -55,15 +59,23 @@ none_takes w n = useless w n 0 (omega arith) (λ s e. omega (arith, sign_small s
 push_not_off : {A : Type 0} {u : ℕ} {vs : List Want} → push u vs ≡ off → A
 push_not_off e = let z : ◌≡◌ {A = ℕ} 0 1 = cc in absurd (omega arith)
 
-pub go_not_stop : {A : Type 0} {c i j m : ℕ} → Stop c i ≡ Go j m → A
-go_not_stop e = let z : ◌≡◌ {A = ℕ} 0 1 = cc in absurd (omega arith)
+pub err_not_ok : {A : Type 0} {T E : Type 0} {x : E} {p : T} → ◌≡◌ {A = Result T E} (Err x) (Ok p) → A
+err_not_ok e = let z : ⊥ = cc in absurd z
+
+-- What `?` passes on is the refusal that it met.
+pub passed : {T E : Type 0} {x : E} {r : Result T E} → IsErr r × IsErrAnd r (λ y. y ≡ x) → r ≡ Err x
+passed {T} {E} {x} {r} h = let e = err_from_is_err_and {Q = λ (y : E). y ≡ x} r h.1 in e.1 ∙ ap (λ (y : E). Err y) e.2
 
 -- What a look at the next byte says of a `)`.
-pub none_closing : {text : List ℕ} {at : ℕ} {t : Lexeme} → Next text at t → (t.code ≡ 2 → ⊥) → Closing text at 0
-none_closing {text} {at} {t} q f = record { shut = λ z. absurd (omega arith); another = λ e. (t, (q, f)) }
+pub none_closing : {text : List ℕ} {at : ℕ} {t : Lexeme} → Next text at t → (t.code ≡ 2 → ⊥) → Closing text at None
+none_closing {text} {at} {t} q f = record { shut = λ e z. let y : ⊥ = cc in absurd y; another = λ e. (t, (q, f)) }
 
-pub is_closing : {text : List ℕ} {at i : ℕ} → Next text at (record { code = 2; start = i; end = i + 1 }) → Closing text at (i + 1)
-is_closing {text} {at} {i} q = let z : i + 1 - 1 ≡ i = omega arith in record { shut = λ l. rw z q; another = λ e. absurd (omega arith) }
+pub is_closing : {text : List ℕ} {at i : ℕ} → Next text at (record { code = 2; start = i; end = i + 1 }) → Closing text at (Some (i + 1))
+is_closing {text} {at} {i} q =
+    record {
+      shut = λ e s. let z : i + 1 ≡ e = cc in let y : i + 1 - 1 ≡ i = omega arith in rw (← z, y) q;
+      another = λ e. let y : ⊥ = cc in absurd y;
+    }
 
 -- The machine at the next token. Whatever is wanted of it, the number of its bytes decides as the token does.
 module _ (w : Want) (n : ℕ) (b : Name) (T : token b ≡ true) where
@@ -161,49 +173,51 @@ stands e = rw e starts
 
 module _ {text : List ℕ} {ws : List Want} {n k : ℕ} {st : State} {m j : ℕ} {st₁ : State} where
   -- A reader of what is wanted first refuses, or goes on; one of all that is wanted ends it.
-  pub halts : {vs xs : List Want} {r : Step} {c i : ℕ} {st₂ st₃ : State} → Turns text vs m j st₁ r xs st₂ → r ≡ Stop c i
+  pub halts : {vs xs : List Want} {r : Step} {x : Refusal} {st₂ st₃ : State} → Turns text vs m j st₁ (Err x) xs st₂ → r ≡ Err x
       → (us : List Want) → Leads text ws n k st (vs ++ us) m j st₁ → Writes text ws n k st r st₃
-  halts {vs} {xs} {r} {c} {i} {st₂} {st₃} q e us l = record {
-    machine = λ rest. l.machine rest ∙ ap (λ (x : List Want). from text x m st₁ j) (append_assoc vs us rest) ∙ q.machine (us ++ rest)
-        ∙ ap (left_at text (xs ++ (us ++ rest)) st₂) e ∙ sym (ap (left_at text rest st₃) e);
-    onward = λ j' m' g. go_not_stop (sym e ∙ g);
+  halts {vs} {xs} {r} {x} {st₂} {st₃} q e us l = record {
+    machine = λ rest. l.machine rest ∙ ap (λ (y : List Want). from text y m st₁ j) (append_assoc vs us rest) ∙ q.machine (us ++ rest)
+        ∙ sym (ap (left_at text rest st₃) e);
+    onward = λ p g. err_not_ok (sym e ∙ g);
   }
 
-  pub goes : {vs : List Want} {r : Step} {j' m' : ℕ} {st₂ : State} → Writes text vs m j st₁ r st₂ → r ≡ Go j' m'
-      → (us : List Want) → Leads text ws n k st (vs ++ us) m j st₁ → Leads text ws n k st us m' j' st₂
-  goes {vs} {r} {j'} {m'} {st₂} q e us l = record {
-    machine = λ rest. l.machine rest ∙ ap (λ (x : List Want). from text x m st₁ j) (append_assoc vs us rest) ∙ q.machine (us ++ rest)
-        ∙ ap (left_at text (us ++ rest) st₂) e;
-    onward = let o = q.onward j' m' e in let b = l.onward in omega arith;
+  pub goes : {vs : List Want} {p : Position} {st₂ : State} → Writes text vs m j st₁ (Ok p) st₂
+      → (us : List Want) → Leads text ws n k st (vs ++ us) m j st₁ → Leads text ws n k st us p.nodes p.at st₂
+  goes {vs} {p} {st₂} q us l = record {
+    machine = λ rest. l.machine rest ∙ ap (λ (y : List Want). from text y m st₁ j) (append_assoc vs us rest) ∙ q.machine (us ++ rest);
+    onward = let o = q.onward p refl in let b = l.onward in omega arith;
   }
 
   pub ends : {vs : List Want} {r : Step} {st₂ : State} → Writes text vs m j st₁ r st₂ → Leads text ws n k st vs m j st₁ → Writes text ws n k st r st₂
   ends q l = record {
     machine = λ rest. l.machine rest ∙ q.machine rest;
-    onward = λ j' m' e. let o = q.onward j' m' e in let b = l.onward in (omega arith, o.1);
+    onward = λ p e. let o = q.onward p e in let b = l.onward in (omega arith, o.1);
   }
 
-  pub arrives : {vs : List Want} → Leads text ws n k st vs m j st₁ → k < j → j ≤ length text → Turns text ws n k st (Go j m) vs st₁
+  pub arrives : {vs : List Want} → Leads text ws n k st vs m j st₁ → k < j → j ≤ length text → Turns text ws n k st (Ok (position j m)) vs st₁
   arrives l a b = record {
     machine = l.machine;
-    onward = λ j' m' e. let z : j ≡ j' = cc in (omega arith, omega arith);
+    onward = λ p e. let z : position j m ≡ p = cc in rw (← z) (a, b);
   }
 
   -- The next token, t, is refused, or taken.
   module _ {w : Want} {vs : List Want} (l : Leads text ws n k st (w ∷ vs) m j st₁) {t : Lexeme} (q : Next text j t) where
-    stops : {v : Move} {xs : List Want} {st₃ : State} (x : ℕ) → coded w m t.code ≡ v
-        → ((go : ℕ → List Want → End) → proceed v t.start go ≡ stop x t.start) → Turns text ws n k st (Stop x t.start) xs st₃
-    stops x e f = record {
+    stops : {v : Move} {xs : List Want} {st₃ : State} (c : Reason) → coded w m t.code ≡ v
+        → ((go : ℕ → List Want → End) → proceed v t.start go ≡ stop c t.start) → {x : Refusal} → x ≡ refusal c t.start
+        → Turns text ws n k st (Err x) xs st₃
+    stops c e f g = rw g record {
       machine = λ rest. l.machine rest ∙ at_token q w (vs ++ rest) m st₁
           ∙ rw e (f (λ u us. from text (us ++ (vs ++ rest)) (m + u) (written_by w m t st₁) t.end));
-      onward = λ j' m' g. go_not_stop g;
+      onward = λ p h. err_not_ok h;
     }
 
-    pub off_grammar : {xs : List Want} {st₃ : State} → coded w m t.code ≡ off → Turns text ws n k st (Stop 5 t.start) xs st₃
-    off_grammar e = stops 5 e (λ go. refl)
+    pub off_grammar : {x : Refusal} {xs : List Want} {st₃ : State} → x ≡ refusal Reason.Token t.start → coded w m t.code ≡ off
+        → Turns text ws n k st (Err x) xs st₃
+    off_grammar g e = stops Reason.Token e (λ go. refl) g
 
-    pub over_limit : {xs : List Want} {st₃ : State} → coded w m t.code ≡ big → Turns text ws n k st (Stop 6 t.start) xs st₃
-    over_limit e = stops 6 e (λ go. refl)
+    pub over_limit : {x : Refusal} {xs : List Want} {st₃ : State} → x ≡ refusal Reason.Node t.start → coded w m t.code ≡ big
+        → Turns text ws n k st (Err x) xs st₃
+    over_limit g e = stops Reason.Node e (λ go. refl) g
 
     some : {u : ℕ} {us : List Want} → coded w m t.code ≡ push u us → (j < t.end) × (t.end ≤ length text)
     some e = q.onward (λ z. push_not_off (sym e ∙ ap (coded w m) z ∙ none_takes w m))
@@ -219,7 +233,7 @@ module _ {text : List ℕ} {ws : List Want} {n k : ℕ} {st : State} {m j : ℕ}
 
 -- The next token is taken as the last that is wanted.
 pub closes : {text : List ℕ} {ws : List Want} {n k m j : ℕ} {st st₁ : State} {w : Want} → Leads text ws n k st (w ∷ []) m j st₁ → {t : Lexeme} → Next text j t
-    → coded w m t.code ≡ push 0 [] → Writes text ws n k st (Go t.end m) (written_by w m t st₁)
+    → coded w m t.code ≡ push 0 [] → Writes text ws n k st (Ok (position t.end m)) (written_by w m t st₁)
 closes l q e = let b = l.onward in let o = some l q e in arrives (taken l q e) (omega arith) o.1
 
 -- What each want does at a token: the tests that the readers make decide it.
@@ -331,11 +345,9 @@ module _ {text : List ℕ} {ws : List Want} {n k m j : ℕ} {st st₁ : State} {
   sw_taken h a b = rw (ne_eqb t.code 6 h) at (taken l q (sw_takes m t.code h a b))
 
 -- Another token than the sign that is wanted.
-pub other_sign : {text : List ℕ} {n k i : ℕ} {st st₃ : State} (s : Sign) → (t : Lexeme) × (Next text k t × (t.start ≡ i) × (t.code ≡ sign_code s → ⊥))
-    → Writes text (sign s ∷ []) n k st (Stop 5 i) st₃
-other_sign {text} {n} {k} {i} {st} {st₃} s x =
-    let o : Writes text (sign s ∷ []) n k st (Stop 5 x.0.start) st₃ = off_grammar starts x.1.0 (sign_other n x.0.code s x.1.2) in
-    rw x.1.1 at o
+pub other_sign : {text : List ℕ} {n k i : ℕ} {x : Refusal} {st st₃ : State} (s : Sign) → x ≡ refusal Reason.Token i
+    → (t : Lexeme) × (Next text k t × (t.start ≡ i) × (t.code ≡ sign_code s → ⊥)) → Writes text (sign s ∷ []) n k st (Err x) st₃
+other_sign {text} {n} {k} {i} {x} {st} {st₃} s g y = off_grammar starts y.1.0 (rw y.1.1 g) (sign_other n y.0.code s y.1.2)
 
 -- The parts of a node go by its group of keywords alone.
 module _ (c d : ℕ) where
@@ -401,7 +413,7 @@ module _ {text : List ℕ} {ws : List Want} {n k m j : ℕ} {st st₁ : State} {
 -- A keyword that is taken leaves the parts of its node, with its row begun.
 pub opens : {text : List ℕ} {n k : ℕ} {rows rows₁ pending : List ℕ} {t : Lexeme} (p : Place) (d : ℕ) → Next text k t
     → rows₁ ≡ begun rows n t.code t.start d → 7 ≤ t.code → t.code ≤ top p → (d ≡ 0 → ⊥) → n < 256
-    → Turns text (node p d ∷ []) n k (state rows pending) (Go t.end (n + 1)) (coded_parts t.code (d - 1)) (state rows₁ (waiting p n pending))
+    → Turns text (node p d ∷ []) n k (state rows pending) (Ok (position t.end (n + 1))) (coded_parts t.code (d - 1)) (state rows₁ (waiting p n pending))
 unfolding coded_effect
 opens {text} {n} {k} {rows} {rows₁} {pending} {t} p d q r l h f g =
     let b = beginning p d n t.code t.start (state rows pending) in
@@ -412,52 +424,52 @@ opens {text} {n} {k} {rows} {rows₁} {pending} {t} p d q r l h f g =
     rw r (arrives v w.0 w.1)
 
 -- A node of which the keyword was looked at: it is refused with it, or its parts are read after it.
-module _ {t : Lexeme} {last d n : ℕ} {rows rows₁ : List ℕ} {r : Step} (b : Begins t last d n rows r rows₁) (p : Place) (e : top p ≡ last) {text : List ℕ} {k : ℕ}
-    (q : Next text k t) where
-  pub node_refused : {c i : ℕ} {rows₂ : List ℕ} → r ≡ Stop c i → Opens text p d n k rows r rows₂
-  node_refused g s = halts (b.turns p e q s) g [] starts
+module _ {t : Lexeme} {last d n : ℕ} {rows rows₁ : List ℕ} (p : Place) (e : top p ≡ last) {text : List ℕ} {k : ℕ} (q : Next text k t) where
+  pub node_refused : {x : Refusal} {r : Step} {rows₂ : List ℕ} → Begins t last d n rows (Err x) rows₁ → r ≡ Err x → Opens text p d n k rows r rows₂
+  node_refused b g s = halts (b.turns p e q s) g [] starts
 
-  pub node_read : {j m : ℕ} {ws : List Want} {r₂ : Step} {rows₂ : List ℕ} → r ≡ Go j m → coded_parts t.code (d - 1) ≡ ws → Fills text ws m j rows₁ r₂ rows₂
-      → Opens text p d n k rows r₂ rows₂
-  node_read {j} {m} {ws} g f h s =
-      let o = b.turns p e q s in
+  pub node_read : {o : Position} {ws : List Want} {r : Step} {rows₂ : List ℕ} → Begins t last d n rows (Ok o) rows₁ → coded_parts t.code (d - 1) ≡ ws
+      → Fills text ws o.nodes o.at rows₁ r rows₂ → Opens text p d n k rows r rows₂
+  node_read {o} {ws} b f h s =
+      let u = b.turns p e q s in
       ends (h (waiting p n s)) (record {
-        machine = λ rest. o.machine rest ∙ ap (left_at text (coded_parts t.code (d - 1) ++ rest) (state rows₁ (waiting p n s))) g
-            ∙ ap (λ (x : List Want). from text (x ++ rest) m (state rows₁ (waiting p n s)) j) f;
-        onward = let z = o.onward j m g in omega arith;
+        machine = λ rest. u.machine rest ∙ ap (λ (x : List Want). from text (x ++ rest) o.nodes (state rows₁ (waiting p n s)) o.at) f;
+        onward = let z = u.onward o refl in omega arith;
       })
 
 -- The `)` of a flow and of a group writes nothing.
 module _ {text : List ℕ} {ws : List Want} {n k m j : ℕ} {st st₁ : State} {t : Lexeme} (q : Next text j t) where
   closes_same : {w : Want} → Leads text ws n k st (w ∷ []) m j st₁ → coded w m t.code ≡ push 0 [] → written_by w m t st₁ ≡ st₁
-      → Writes text ws n k st (Go t.end m) st₁
+      → Writes text ws n k st (Ok (position t.end m)) st₁
   closes_same l e f = rw f at (closes l q e)
 
-  pub flow_ends : {d : ℕ} → Leads text ws n k st (more d ∷ []) m j st₁ → t.code ≡ 2 → Writes text ws n k st (Go t.end m) st₁
+  pub flow_ends : {d : ℕ} → Leads text ws n k st (more d ∷ []) m j st₁ → t.code ≡ 2 → Writes text ws n k st (Ok (position t.end m)) st₁
   unfolding coded_effect
   flow_ends {d} l e = closes_same l (more_ends m t.code d e) (rw (eq-eqb t.code 2 e))
 
-  pub group_ends : {d : ℕ} → Leads text ws n k st (others d ∷ []) m j st₁ → t.code ≡ 2 → Writes text ws n k st (Go t.end m) st₁
+  pub group_ends : {d : ℕ} → Leads text ws n k st (others d ∷ []) m j st₁ → t.code ≡ 2 → Writes text ws n k st (Ok (position t.end m)) st₁
   unfolding coded_effect
   group_ends {d} l e = closes_same l (others_end m t.code d e) (rw (eq-eqb t.code 2 e))
 
 -- The end of the text, where nothing is wanted any more.
-at_end : (n : ℕ) (st : State) (e : ℕ) (ss : List Span) → front_place e ss < e → walk [] n st e ss ≡ stop 5 (front_place e ss)
+at_end : (n : ℕ) (st : State) (e : ℕ) (ss : List Span) → front_place e ss < e → walk [] n st e ss ≡ stop Reason.Token (front_place e ss)
 unfolding walk
 at_end n st e [] h = let z : ⊥ = omega arith in absurd z
 at_end n st e (s ∷ ss) h = refl
 
-module _ {text rows rows₁ : List ℕ} {r : Step} (q : Writes text (node root depths ∷ []) 0 0 (state rows []) r (state rows₁ [])) where
-  pub refused : {c i : ℕ} → r ≡ Stop c i → ending text rows ≡ told (Refused c i) rows₁
+abbrev Root : List ℕ → List ℕ → Step → List ℕ → Type 0
+Root text rows r rows' = Writes text (node root depths ∷ []) 0 0 (state rows []) r (state rows' [])
+
+module _ {text rows rows₁ : List ℕ} where
+  pub refused : {x : Refusal} {r : Result ℕ Refusal} → Root text rows (Err x) rows₁ → r ≡ Err x → ending text rows ≡ told r rows₁
   unfolding ending
-  refused {c} {i} e = q.machine [] ∙ ap (left_at text [] (state rows₁ [])) e
+  refused q e = rw e (q.machine [])
 
-  module _ {p m : ℕ} (e : r ≡ Go p m) {t : Lexeme} (x : Next text p t) where
-    pub trailing : t.start < length text → ending text rows ≡ stop 5 t.start
+  module _ {p : Position} (q : Root text rows (Ok p) rows₁) {t : Lexeme} (n : Next text p.at t) where
+    pub trailing : {x : Refusal} → x ≡ refusal Reason.Token t.start → t.start < length text → ending text rows ≡ told (Err x) rows₁
     unfolding ending
-    trailing h = q.machine [] ∙ ap (left_at text [] (state rows₁ [])) e
-        ∙ rw x.placed (at_end m (state rows₁ []) (length text) (rest text p) (rw x.placed at h))
+    trailing e h = q.machine [] ∙ rw (e, n.placed) (at_end p.nodes (state rows₁ []) (length text) (rest text p.at) (rw n.placed at h))
 
-    pub read_all : length text ≤ t.start → ending text rows ≡ whole m (state rows₁ [])
+    pub read_all : length text ≤ t.start → ending text rows ≡ told (Ok p.nodes) rows₁
     unfolding ending walk
-    read_all h = q.machine [] ∙ ap (left_at text [] (state rows₁ [])) e ∙ rw (x.ended h)
+    read_all h = q.machine [] ∙ rw (n.ended h)

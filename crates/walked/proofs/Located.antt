@@ -4,6 +4,7 @@ use mathlib.Core.List.{List, [], ◌∷◌, ◌++◌, map}
 use Prim.Native.Nat.{ℕ, suc, ◌+◌}
 use native.Mathlib.Nat.{zero-add, add-zero, add-suc, suc-add}
 use lib.ListN.{length, get_or}
+use Rattle.base.specs.declared.Reason.{Reason}
 use Rattle.tokens.specs.Words.{keywords}
 use Rattle.tokens.specs.Spans.{Span, spans_of, places}
 use Rattle.tokens.specs.Token.{Token, token_of, text_tokens}
@@ -26,16 +27,16 @@ Gives f e k ss = (i : ℕ) → f (k + i) ≡ get_or (map (λ (s : Span). s.place
 
 proceed_same : (v : Move) (f : ℕ → ℕ) (k p : ℕ) (go : ℕ → List Want → End) (run_on : ℕ → List Want → Machine.Outcome) → f k ≡ p
     → ((u : ℕ) (vs : List Want) → unwritten (go u vs) ≡ placed_by f (run_on u vs)) → unwritten (proceed v p go) ≡ placed_by f (Machine.proceed v k run_on)
-proceed_same off f k p go run_on e h = ap (λ (x : ℕ). Machine.stop 5 x) (sym e)
-proceed_same big f k p go run_on e h = ap (λ (x : ℕ). Machine.stop 6 x) (sym e)
+proceed_same off f k p go run_on e h = ap (λ (x : ℕ). Machine.stop Reason.Token x) (sym e)
+proceed_same big f k p go run_on e h = ap (λ (x : ℕ). Machine.stop Reason.Node x) (sym e)
 proceed_same (push u vs) f k p go run_on e h = h u vs
 
 pub located : (f : ℕ → ℕ) (ws : List Want) (n k : ℕ) (st : State) (e : ℕ) (ss : List Span) → Gives f e k ss
     → unwritten (walk ws n st e ss) ≡ placed_by f (run ws n k (map token ss))
 unfolding walk run
 located f [] n k st e [] g = refl
-located f [] n k st e (s ∷ ss) g = ap (λ (x : ℕ). Machine.stop 5 x) (sym (ap f (sym (add-zero k)) ∙ g 0))
-located f (w ∷ ws) n k st e [] g = ap (λ (x : ℕ). Machine.stop 5 x) (sym (ap f (sym (add-zero k)) ∙ g 0))
+located f [] n k st e (s ∷ ss) g = ap (λ (x : ℕ). Machine.stop Reason.Token x) (sym (ap f (sym (add-zero k)) ∙ g 0))
+located f (w ∷ ws) n k st e [] g = ap (λ (x : ℕ). Machine.stop Reason.Token x) (sym (ap f (sym (add-zero k)) ∙ g 0))
 located f (w ∷ ws) n k st e (s ∷ ss) g =
     proceed_same (expand w n (token s)) f k s.place (λ u vs. walk (vs ++ ws) (n + u) (effect w n (token s) s.place st) e ss)
     (λ u vs. run (vs ++ ws) (n + u) (suc k) (map token ss)) (ap f (sym (add-zero k)) ∙ g 0)

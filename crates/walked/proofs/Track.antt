@@ -8,6 +8,7 @@ use native.Mathlib.Numerals.{add-one}
 use native.Mathlib.Omega.{arith}
 use lib.ListN.{length, get_or}
 use borrow.Author.Tests.{ne_eqb, lt-leb}
+use Rattle.base.specs.declared.Reason.{Reason}
 use Rattle.diagram.specs.Tree.{Name}
 use Rattle.tokens.specs.Words.{keywords}
 use Rattle.tokens.specs.Spans.{Span}
@@ -20,8 +21,8 @@ use Rattle.walked.specs.Rows.{mark}
 use Rattle.walked.proofs.Past.{start_of}
 
 proceed_same : (v : Move) {p q : ℕ} → p ≡ q → (go on : ℕ → List Want → End) → ((u : ℕ) (vs : List Want) → go u vs ≡ on u vs) → proceed v p go ≡ proceed v q on
-proceed_same off e go on h = ap (λ (x : ℕ). stop 5 x) e
-proceed_same big e go on h = ap (λ (x : ℕ). stop 6 x) e
+proceed_same off e go on h = ap (λ (x : ℕ). stop Reason.Token x) e
+proceed_same big e go on h = ap (λ (x : ℕ). stop Reason.Node x) e
 proceed_same (push u vs) e go on h = h u vs
 
 -- A node with what is wanted after it is a node and then that.
@@ -41,8 +42,8 @@ module _ (text : List ℕ) where
 
   unfoldable pub track : List Want → ℕ → State → ℕ → List Token → End
   track [] n st k [] = whole n st
-  track [] n st k (t ∷ ts) = stop 5 (pl k)
-  track (w ∷ ws) n st k [] = stop 5 (length text)
+  track [] n st k (t ∷ ts) = stop Reason.Token (pl k)
+  track (w ∷ ws) n st k [] = stop Reason.Token (length text)
   track (w ∷ ws) n st k (t ∷ ts) = proceed (expand w n t) (pl k) (λ u vs. track (vs ++ ws) (n + u) (effect w n t (pl k) st) (suc k) ts)
 
   -- It is the walk over tokens at these places.
@@ -50,7 +51,7 @@ module _ (text : List ℕ) where
       → walk ws n st (length text) ss ≡ track ws n st k (map (λ (s : Span). token_of keywords s.bytes) ss)
   unfolding walk track
   walk_track [] n st k [] g = refl
-  walk_track [] n st k (s ∷ ss) g = ap (λ (p : ℕ). stop 5 p) (sym (g 0) ∙ ap pl (add-zero k))
+  walk_track [] n st k (s ∷ ss) g = ap (λ (p : ℕ). stop Reason.Token p) (sym (g 0) ∙ ap pl (add-zero k))
   walk_track (w ∷ ws) n st k [] g = refl
   walk_track (w ∷ ws) n st k (s ∷ ss) g =
       let q : s.place ≡ pl k = sym (ap pl (sym (add-zero k)) ∙ g 0) in

@@ -1,5 +1,6 @@
 -- The machine of the grammar along a text: it stops at places of bytes, and each token that it takes may write into the rows of the nodes.
 use Rattle.std.specs.Prelude.{cond, List, [], ◌∷◌, ◌++◌, ℕ, ◌+◌, ◌*◌, ◌-◌, eqb, ltb, length, drop, get_or, set}
+use Rattle.base.specs.declared.Reason.{Reason}
 use Rattle.diagram.specs.Tree.{Name}
 use Rattle.tokens.specs.Words.{keywords}
 use Rattle.tokens.specs.Spans.{Span}
@@ -78,18 +79,18 @@ effect (others d) n t p st = cond (is_sign closing t) st (beginning member d n (
 -- What stands at the end: a text read, with its number of nodes and their rows; or a refusal at a place.
 pub data End : Type 0 where
   whole : ℕ → State → End
-  stop : ℕ → ℕ → End
+  stop : Reason → ℕ → End
 
 abbrev pub proceed : Move → ℕ → (ℕ → List Want → End) → End
-proceed off k go = stop 5 k
-proceed big k go = stop 6 k
+proceed off k go = stop Reason.Token k
+proceed big k go = stop Reason.Node k
 proceed (push u ws) k go = go u ws
 
 -- `grammar.specs.Machine.run` with places for the tokens' numbers, and with what is written. e is the text's end.
 unfoldable pub walk : List Want → ℕ → State → ℕ → List Span → End
 walk [] n st e [] = whole n st
-walk [] n st e (s ∷ ss) = stop 5 s.place
-walk (w ∷ ws) n st e [] = stop 5 e
+walk [] n st e (s ∷ ss) = stop Reason.Token s.place
+walk (w ∷ ws) n st e [] = stop Reason.Token e
 walk (w ∷ ws) n st e (s ∷ ss) =
     proceed (expand w n (token_of keywords s.bytes)) s.place
     (λ u vs. walk (vs ++ ws) (n + u) (effect w n (token_of keywords s.bytes) s.place st) e ss)

@@ -1,30 +1,35 @@
 -- What a reader says of the machine along a text: for the contracts of private functions.
-use Rattle.std.specs.Prelude.{◌≡◌, List, [], ◌∷◌, ◌++◌, ℕ, ◌-◌, ◌≤◌, ◌<◌, length}
+use Rattle.std.specs.Prelude.{◌≡◌, List, [], ◌∷◌, ◌++◌, ℕ, ◌-◌, ◌≤◌, ◌<◌, length, Option, Some, None, Result, Ok, Err}
+use Rattle.base.specs.declared.Refusal.{Refusal}
 use Rattle.tokens.specs.Rest.{Next}
 use Rattle.tokens.specs.declared.Lexeme.{Lexeme}
 use Rattle.grammar.specs.Machine.{Place, Want, node, ref}
 use Rattle.grammar.specs.code.Coded.{top, coded_parts}
 use Rattle.walked.specs.Walk.{State, state, waiting, End, whole, stop, from}
-use Rattle.walked.specs.declared.Step.{Step}
-use Rattle.walked.specs.declared.Step.TheVariants.{Go, Stop}
-use Rattle.walked.specs.declared.Walk.{Walk}
-use Rattle.walked.specs.declared.Walk.TheVariants.{Whole, Refused}
+use Rattle.walked.specs.declared.Position.{Position}
 
--- Whether a `)` comes next: the position past it, or 0.
-pub record Closing (text : List ℕ) (at r : ℕ) : Type 0 where
-  pub shut : 0 < r → Next text at (record { code = 2; start = r - 1; end = r })
-  pub another : r ≡ 0 → (t : Lexeme) × (Next text at t × (t.code ≡ 2 → ⊥))
+-- Whether a `)` comes next: the position past it.
+pub record Closing (text : List ℕ) (at : ℕ) (r : Option ℕ) : Type 0 where
+  pub shut : (e : ℕ) → r ≡ Some e → Next text at (record { code = 2; start = e - 1; end = e })
+  pub another : r ≡ None → (t : Lexeme) × (Next text at t × (t.code ≡ 2 → ⊥))
+
+-- What a reader answers: the position from which the next token is looked for, with the number of nodes read so far, or the refusal.
+abbrev pub Step : Type 0
+Step = Result Position Refusal
+
+abbrev pub position : ℕ → ℕ → Position
+position at nodes = record { at = at; nodes = nodes }
 
 -- Where a step leaves the machine that still wants ws.
 abbrev pub left_at : List ℕ → List Want → State → Step → End
-left_at text ws st (Go at n) = from text ws n st at
-left_at text ws st (Stop c at) = stop c at
+left_at text ws st (Ok p) = from text ws p.nodes st p.at
+left_at text ws st (Err r) = stop r.reason r.place
 
 -- A step from the position `at`, where n nodes were read and st is written, makes vs of what is wanted first and leaves st' written, whatever is
 -- wanted after it; and one that goes on has gone past a byte at least.
 pub record Turns (text : List ℕ) (ws : List Want) (n at : ℕ) (st : State) (r : Step) (vs : List Want) (st' : State) : Type 0 where
   pub machine : (rest : List Want) → from text (ws ++ rest) n st at ≡ left_at text (vs ++ rest) st' r
-  pub onward : (j m : ℕ) → r ≡ Go j m → (at < j) × (j ≤ length text)
+  pub onward : (p : Position) → r ≡ Ok p → (at < p.at) × (p.at ≤ length text)
 
 -- One that reads all of it.
 abbrev pub Writes : List ℕ → List Want → ℕ → ℕ → State → Step → State → Type 0
@@ -47,11 +52,11 @@ Marks text i n at rows r rows' = (s : List ℕ) → Writes text ref n at (state 
 -- A node's keyword t, where d depths are left for the node and n nodes stand before it: it is refused, or its row is begun and its parts are wanted, at
 -- each position where it comes next and in each place whose last keyword is `last`.
 pub record Begins (t : Lexeme) (last d n : ℕ) (rows : List ℕ) (r : Step) (rows' : List ℕ) : Type 0 where
-  pub taken : (j m : ℕ) → r ≡ Go j m → (7 ≤ t.code) × (t.code ≤ last) × (0 < d)
+  pub taken : (p : Position) → r ≡ Ok p → (7 ≤ t.code) × (t.code ≤ last) × (0 < d)
   pub turns : {text : List ℕ} {at : ℕ} (place : Place) → top place ≡ last → Next text at t → (s : List ℕ)
       → Turns text (node place d ∷ []) n at (state rows s) r (coded_parts t.code (d - 1)) (state rows' (waiting place n s))
 
 -- What the answer for a whole text and the rows after it say of the end.
-abbrev pub told : Walk → List ℕ → End
-told (Whole n) rows = whole n (state rows [])
-told (Refused c at) rows = stop c at
+abbrev pub told : Result ℕ Refusal → List ℕ → End
+told (Ok n) rows = whole n (state rows [])
+told (Err r) rows = stop r.reason r.place
