@@ -3,8 +3,12 @@
 ghost use Rattle.std.specs.Prelude.{◌<◌, ◌≤◌, IfOk, length, take};
 ghost use Rattle.std.specs.Bool.{OnTrue};
 ghost use Rattle.std.specs.Io.KnownBytes.{Appends, Consumes, IsAtEnd};
+ghost use Rattle.base.specs.Refusals.{number};
+ghost use Rattle.output.specs.Lines.{refused_line};
 ghost use Rattle.streams.specs.There.{there};
 
+use base::Refusal;
+use output::Writer;
 use std::io::{Read, Write};
 
 // Reads until `bytes` is full or the input ends, and says how many bytes now stand at the start; as an error, how many stood there when a read failed.
@@ -38,4 +42,14 @@ pub fn write_there<W: Write>(to: &mut W, bytes: &[u8]) -> bool
     ensures { OnTrue result (Appends (W.contents to.old) (W.contents to.new) bytes.now) }
 {
     to.write_all(bytes).is_ok()
+}
+
+// Writes the line of a refusal, and says whether all of it stands there.
+pub fn write_refused<W: Write>(to: &mut W, why: Refusal) -> bool
+    ensures { OnTrue result (Appends (W.contents to.old) (W.contents to.new) (refused_line (number why.reason) why.place)) }
+{
+    let mut line = [0u8; 64];
+    let mut w = Writer::new(&mut line);
+    w.refused(why);
+    write_there(to, w.written())
 }
