@@ -1,4 +1,5 @@
 -- Whether a search finds nothing, as a test, and what that comes to part by part of a tree.
+use Rattle.std.specs.Prelude.{Option, Some, None}
 use mathlib.Core.Path.{◌≡◌, refl, sym, ◌∙◌, ap}
 use mathlib.Core.Logic.{◌↔◌}
 use mathlib.Core.Bool.{Bool, true, false, false≢true, ◌&&◌, and-true, and_assoc, cond}
@@ -6,21 +7,20 @@ use mathlib.Core.List.{List, [], ◌∷◌}
 use Prim.Native.Nat.{ℕ}
 use Rattle.diagram.specs.TreeNodes.{TreeNode}
 use Rattle.rules.specs.Broken.{first_broken}
-use Rattle.rules.specs.Found.{Found, At, Nothing}
 
-abbrev pub clean : Found → Bool
-clean (At i) = false
-clean Nothing = true
+abbrev pub clean : Option ℕ → Bool
+clean (Some i) = false
+clean None = true
 
-pub clean_cond : (t : Bool) (x : Found) (i : ℕ) → clean (cond t x (At i)) ≡ (t && clean x)
+pub clean_cond : (t : Bool) (x : Option ℕ) (i : ℕ) → clean (cond t x (Some i)) ≡ (t && clean x)
 clean_cond true x i = refl
 clean_cond false x i = refl
 
-clean_nothing : (x : Found) → clean x ≡ true → x ≡ Nothing
-clean_nothing (At i) e = absurd (false≢true e)
-clean_nothing Nothing e = refl
+clean_nothing : (x : Option ℕ) → clean x ≡ true → x ≡ None
+clean_nothing (Some i) e = absurd (false≢true e)
+clean_nothing None e = refl
 
-pub clean_iff : (x : Found) (b : Bool) → clean x ≡ b → (x ≡ Nothing) ↔ (b ≡ true)
+pub clean_iff : (x : Option ℕ) (b : Bool) → clean x ≡ b → (x ≡ None) ↔ (b ≡ true)
 clean_iff x b e = (λ h. sym e ∙ ap clean h, λ h. clean_nothing x (e ∙ h))
 
 module _ (fit : TreeNode → Bool) where
@@ -40,6 +40,6 @@ module _ (fit : TreeNode → Bool) where
   unfolding first_broken
   passes_node h e = record { law = λ vs. clean_cond (fit h) (first_broken fit vs) h.own.number ∙ rw e }
 
-  pub passes_iff : {p : List TreeNode → List TreeNode} {ok : Bool} → Passes p ok → (first_broken fit (p []) ≡ Nothing) ↔ (ok ≡ true)
+  pub passes_iff : {p : List TreeNode → List TreeNode} {ok : Bool} → Passes p ok → (first_broken fit (p []) ≡ None) ↔ (ok ≡ true)
   unfolding first_broken
   passes_iff {p} {ok} x = clean_iff (first_broken fit (p [])) ok (x.law [] ∙ and-true ok)

@@ -1,4 +1,5 @@
 -- Numbers 9 and 10 alike: a rule that is asked of flows alone is broken nowhere just where each flow keeps it.
+use Rattle.std.specs.Prelude.{None}
 use mathlib.Core.Path.{◌≡◌, refl}
 use mathlib.Core.Logic.{◌↔◌}
 use mathlib.Core.Bool.{Bool, true, false, cond, ◌&&◌}
@@ -8,7 +9,6 @@ use Rattle.diagram.specs.Tree.{Name, Flow, flow, Children, none, next, Child, pl
 use Rattle.diagram.specs.Flows.{each_flow, children_flows, child_flows, member_flows, members_flows}
 use Rattle.diagram.specs.TreeNodes.{TreeNode, flowing, solid_kinds, flow_text_node, tree_node, nodes_by, flow_tree_nodes, children_tree_nodes, child_tree_nodes, member_tree_nodes, members_tree_nodes}
 use Rattle.rules.specs.Broken.{first_broken}
-use Rattle.rules.specs.Found.{Nothing}
 use Rattle.rules.proofs.Clean.{Passes, passes_none, passes_then, passes_node, passes_iff}
 use Rattle.rules.proofs.GroupKinds.{group_flows, replicator_flows}
 
@@ -58,5 +58,5 @@ module _ (ask : TreeNode → Bool) (ok : Flow → Bool) (rule : Rule ask ok) whe
     members_fits end A d i = passes_none flow_fit
     members_fits (also m ms) A d i = both (member_fits m A false d i) (members_fits ms A d _)
 
-  pub kept_iff : (d : Flow) → (first_broken flow_fit (nodes_by (λ h. h) d) ≡ Nothing) ↔ (each_flow d ok ≡ true)
+  pub kept_iff : (d : Flow) → (first_broken flow_fit (nodes_by (λ h. h) d) ≡ None) ↔ (each_flow d ok ≡ true)
   kept_iff d = passes_iff flow_fit (flow_fits d [] false 1 0)

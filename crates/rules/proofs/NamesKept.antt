@@ -1,4 +1,5 @@
 -- Number 7 stands nowhere just where the names all differ.
+use Rattle.std.specs.Prelude.{None}
 use mathlib.Core.Path.{◌≡◌, refl, sym}
 use mathlib.Core.Logic.{◌↔◌}
 use mathlib.Core.Bool.{Bool, true, false, not, ◌&&◌, cond, and-true, and_assoc, and_comm}
@@ -11,7 +12,6 @@ use Rattle.base.proofs.Truth.{agree}
 use Rattle.base.proofs.Decided.{same_decides}
 use Rattle.rules.specs.Kept.{names_kept, fault}
 use Rattle.rules.specs.Broken.{all_new, first_twice}
-use Rattle.rules.specs.Found.{Nothing}
 use Rattle.rules.proofs.GroupKinds.{group_titled, replicator_titled}
 use Rattle.rules.proofs.Clean.{clean, clean_cond, clean_iff}
 use Rattle.rules.proofs.NamesPlaced.{used, passes, names_placed}
@@ -100,5 +100,5 @@ clean_flow d =
     let s : used (nodes_by own d) ≡ flow_names d [] = (flow_says d [] false 1 0 (record { same_names = refl })).same_names in
     rw (clean_names (nodes_by own d) [], s, all_new_first (flow_names d []))
 
-pub names_kept_iff : (d : Flow) → (first_twice [] (nodes_by (λ h. h) d) ≡ Nothing) ↔ (differ (flow_names d []) ≡ true)
+pub names_kept_iff : (d : Flow) → (first_twice [] (nodes_by (λ h. h) d) ≡ None) ↔ (differ (flow_names d []) ≡ true)
 names_kept_iff d = clean_iff (first_twice [] (nodes_by (λ h. h) d)) (differ (flow_names d [])) (rw (names_placed d) at (clean_flow d))

@@ -1,4 +1,5 @@
 -- The parameter rules are kept just where no node breaks one.
+use Rattle.std.specs.Prelude.{None}
 use mathlib.Core.Path.{◌≡◌, refl}
 use mathlib.Core.Logic.{◌↔◌}
 use mathlib.Core.Bool.{Bool, true, false, ◌&&◌, and-true}
@@ -9,7 +10,6 @@ use Rattle.diagram.specs.Names.{new}
 use Rattle.diagram.specs.Parameters.{surrounded, flow_parameters, children_parameters, child_parameters, member_parameters, members_parameters}
 use Rattle.diagram.specs.TreeNodes.{TreeNode, copying, flowing, nodes_by, flow_tree_nodes, children_tree_nodes, child_tree_nodes, member_tree_nodes, members_tree_nodes}
 use Rattle.rules.specs.Broken.{parameters_fit, first_broken}
-use Rattle.rules.specs.Found.{Nothing}
 use Rattle.rules.proofs.Clean.{Passes, passes_none, passes_then, passes_node, passes_iff}
 use Rattle.rules.proofs.GroupKinds.{group_copies, replicator_copies, group_flows, replicator_flows}
 
@@ -56,5 +56,5 @@ mutual
   members_fits end A d i = passes_none parameters_fit
   members_fits (also m ms) A d i = both (member_fits m A false d i) (members_fits ms A d _)
 
-pub parameters_kept_iff : (d : Flow) → (first_broken parameters_fit (nodes_by (λ h. h) d) ≡ Nothing) ↔ (flow_parameters d [] ≡ true)
+pub parameters_kept_iff : (d : Flow) → (first_broken parameters_fit (nodes_by (λ h. h) d) ≡ None) ↔ (flow_parameters d [] ≡ true)
 parameters_kept_iff d = passes_iff parameters_fit (flow_fits d [] false 1 0)

@@ -1,4 +1,5 @@
 -- Number 9 stands nowhere just where each flow has exactly one solid child, of a kind that may be one.
+use Rattle.std.specs.Prelude.{None}
 use mathlib.Core.Path.{◌≡◌, refl, sym}
 use mathlib.Core.Logic.{◌↔◌}
 use mathlib.Core.Bool.{Bool, true, false, ◌&&◌, and-true, and-false}
@@ -10,7 +11,6 @@ use Rattle.diagram.specs.TreeNodes.{may_be_solid, child_kind, solid_kinds, nodes
 use Rattle.diagram.specs.declared.Kind.{Kind}
 use Rattle.rules.specs.Kept.{one_of}
 use Rattle.rules.specs.Broken.{solids_fit, first_broken}
-use Rattle.rules.specs.Found.{Nothing}
 use Rattle.rules.proofs.FlowsKept.{kept_iff}
 
 -- The rule by the kinds is the rule by the children.
@@ -43,5 +43,5 @@ one_kinds none = refl
 one_kinds (next c true cs) = rw (one_first (child_kind c) (solid_kinds cs), kind_may_be c, none_kinds cs)
 one_kinds (next c false cs) = one_kinds cs
 
-pub solids_kept_iff : (d : Flow) → (first_broken solids_fit (nodes_by (λ h. h) d) ≡ Nothing) ↔ (each_flow d flows.solid ≡ true)
+pub solids_kept_iff : (d : Flow) → (first_broken solids_fit (nodes_by (λ h. h) d) ≡ None) ↔ (each_flow d flows.solid ≡ true)
 solids_kept_iff = kept_iff (λ h. one_of h.solids) flows.solid (λ n ps sw c r cs A b d i. one_kinds (next c r cs))

@@ -1,5 +1,5 @@
 -- Numbers 6 to 10 on trees: which node of a diagram is too many or too deep, or is the first that breaks a rule beyond grammar.
-use Rattle.std.specs.Prelude.{Bool, true, ◌&&◌, ◌||◌, cond, List, [], ◌∷◌, ◌++◌, ℕ, suc, leb, length, get_or, take}
+use Rattle.std.specs.Prelude.{Bool, true, ◌&&◌, ◌||◌, cond, List, [], ◌∷◌, ◌++◌, ℕ, suc, leb, length, get_or, take, Option, Some, None}
 use Rattle.diagram.specs.Tree.{Name, Flow}
 use Rattle.diagram.specs.Names.{equal, same, new}
 use Rattle.diagram.specs.Parameters.{surrounded}
@@ -8,7 +8,6 @@ use Rattle.tokens.specs.Token.{other}
 use Rattle.grammar.specs.Machine.{is_key}
 use Rattle.grammar.specs.Tokens.{flow_tokens}
 use Rattle.grammar.specs.Keys.{keys_from}
-use Rattle.rules.specs.Found.{Found, At, Nothing}
 use Rattle.rules.specs.Kept.{one_of}
 
 -- The depths of the nodes of a diagram.
@@ -32,9 +31,9 @@ abbrev pub all_new : List Name → List Name → Bool
 all_new [] seen = true
 all_new (n ∷ ns) seen = new n seen && all_new ns seen
 
-unfoldable pub first_twice : List Name → List TreeNode → Found
-first_twice seen [] = Nothing
-first_twice seen (h ∷ hs) = cond (all_new (names_of h) seen) (first_twice (names_of h ++ seen) hs) (At h.own.number)
+unfoldable pub first_twice : List Name → List TreeNode → Option ℕ
+first_twice seen [] = None
+first_twice seen (h ∷ hs) = cond (all_new (names_of h) seen) (first_twice (names_of h ++ seen) hs) (Some h.own.number)
 
 -- Number 8: "A replicator's par differs from those of replicators around it; at most 3 replicators surround a node. A flow lists exactly
 -- the pars of the replicators around it, outermost first."
@@ -53,6 +52,6 @@ abbrev pub strongs_fit : TreeNode → Bool
 strongs_fit h = cond (flowing h.own.kind) h.own.strong true
 
 -- Numbers 8, 9 and 10: the first node that does not pass.
-unfoldable pub first_broken : (TreeNode → Bool) → List TreeNode → Found
-first_broken fit [] = Nothing
-first_broken fit (h ∷ hs) = cond (fit h) (first_broken fit hs) (At h.own.number)
+unfoldable pub first_broken : (TreeNode → Bool) → List TreeNode → Option ℕ
+first_broken fit [] = None
+first_broken fit (h ∷ hs) = cond (fit h) (first_broken fit hs) (Some h.own.number)

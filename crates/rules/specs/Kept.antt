@@ -1,11 +1,10 @@
 -- Document 01, "Rules beyond grammar", asked of each node in the order of the text: those before it, the nearest first, are given with those
 -- after it. Numbers 7 to 10 stand at the first node that breaks the rule.
-use Rattle.std.specs.Prelude.{Bool, true, false, not, ◌&&◌, cond, List, [], ◌∷◌, reverse, ℕ, suc, eqb, ltb, leb, length}
+use Rattle.std.specs.Prelude.{Bool, true, false, not, ◌&&◌, cond, List, [], ◌∷◌, reverse, ℕ, suc, eqb, ltb, leb, length, Option, Some, None}
 use Rattle.diagram.specs.Tree.{Name}
 use Rattle.diagram.specs.Names.{equal, same, new}
 use Rattle.diagram.specs.TreeNodes.{TextNode, flowing, copying, titled, may_be_solid}
 use Rattle.diagram.specs.declared.Kind.{Kind}
-use Rattle.rules.specs.Found.{Found, At, Nothing}
 
 -- Number 7: "leaf and flow names all differ." No leaf or flow among those before has this name.
 abbrev pub unused : Name → List TextNode → Bool
@@ -50,6 +49,6 @@ abbrev pub strongs_kept : List TextNode → TextNode → List TextNode → Bool
 strongs_kept before h after = cond (flowing h.kind) h.strong true
 
 -- The number of the first node that breaks a rule.
-unfoldable pub fault : (List TextNode → TextNode → List TextNode → Bool) → List TextNode → List TextNode → Found
-fault kept before [] = Nothing
-fault kept before (h ∷ after) = cond (kept before h after) (fault kept (h ∷ before) after) (At h.number)
+unfoldable pub fault : (List TextNode → TextNode → List TextNode → Bool) → List TextNode → List TextNode → Option ℕ
+fault kept before [] = None
+fault kept before (h ∷ after) = cond (kept before h after) (fault kept (h ∷ before) after) (Some h.number)

@@ -1,4 +1,3 @@
-pub mod Found
 pub mod Kept
 pub mod Counted
 pub mod Judged
