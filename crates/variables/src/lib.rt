@@ -1,94 +1,95 @@
-#![tactic(auto)]
+#![tactic(auto, using(output::proofs::Buffers::put_all_append), unfolding(output::specs::Buffer::put_all))]
 
-ghost use Rattle.std.specs.Prelude.{◌≡◌, cond, ◌+◌, ◌<◌};
-ghost use Rattle.output.specs.Buffer.{buffer, put_all};
+ghost use Rattle.std.specs.Prelude.{◌≡◌, ◌+◌, ◌<◌};
+ghost use Rattle.output.specs.Writes.{Writes};
 ghost use Rattle.formulas.specs.Formulas.{is as is_of};
 ghost use Rattle.formulas.specs.Lines.{truth as truth_of, formula};
 ghost use Rattle.variables.specs.code.Spelled.{mark as mark_of, spelled, connective as connective_of, lead as lead_of, over};
 
-// Where the name of each of the first 32 events stands in the text, and whether it is a reset, 1, or a leaf, 0.
-#[derive(Clone, Copy)]
-pub struct Variables {
-    pub places: [usize; 32],
-    pub resets: [u8; 32],
+use output::Writer;
+
+// Where the name of an event stands in the text, and whether it is a reset or a leaf.
+#[derive(Clone, Copy, Debug, PartialEq, Eq)]
+pub struct Variable {
+    pub place: usize,
+    pub reset: bool,
 }
 
-// The one or the other.
-pub fn one_of(first: bool, one: &[u8], other: &[u8], out: &mut [u8], at: usize) -> usize
-    ensures { buffer result out.new ≡ put_all (cond first one.now other.now) (buffer at out.old) }
-{
-    if first {
-        return output::bytes(out, at, one);
-    }
-    output::bytes(out, at, other)
+// What the variables of the first 32 events are called: the text, and where their names stand in it.
+#[derive(Clone, Copy)]
+pub struct Spelling<'a> {
+    pub text: &'a [u8],
+    pub variables: [Variable; 32],
 }
 
 // `r_` for a reset, and `v_`.
-fn mark(reset: u8, out: &mut [u8], at: usize) -> usize
-    ensures { buffer result out.new ≡ put_all (mark_of reset) (buffer at out.old) }
+fn mark(reset: bool) -> &'static [u8]
+    ensures { result.now ≡ mark_of reset }
 {
-    one_of(reset == 1, b"r_", b"v_", out, at)
-}
-
-// The variable of event n.
-pub fn name(text: &[u8], v: Variables, n: usize, out: &mut [u8], at: usize) -> usize
-    ensures { buffer result out.new ≡ put_all (spelled text.now v n) (buffer at out.old) }
-{
-    let a = mark(base::byte(&v.resets, n), out, at);
-    output::bytes(out, a, lexer::word(text, base::number(&v.places, n)))
+    if reset { b"r_" } else { b"v_" }
 }
 
 // A value as it is written.
-pub fn truth(value: bool, out: &mut [u8], at: usize) -> usize
-    ensures { buffer result out.new ≡ put_all (truth_of value) (buffer at out.old) }
+fn truth(value: bool) -> &'static [u8]
+    ensures { result.now ≡ truth_of value }
 {
-    one_of(value, b"TRUE", b"FALSE", out, at)
-}
-
-// The variable of event n has a value.
-pub fn is(text: &[u8], v: Variables, n: usize, value: bool, out: &mut [u8], at: usize) -> usize
-    ensures { buffer result out.new ≡ put_all (formula (spelled text.now v) (is_of n value)) (buffer at out.old) }
-{
-    let a = name(text, v, n, out, at);
-    let b = output::bytes(out, a, b" = ");
-    truth(value, out, b)
+    if value { b"TRUE" } else { b"FALSE" }
 }
 
 // Between two formulas: either of them, or both.
-pub fn connective(either: bool, out: &mut [u8], at: usize) -> usize
-    ensures { buffer result out.new ≡ put_all (connective_of either) (buffer at out.old) }
+pub fn connective(either: bool) -> &'static [u8]
+    ensures { result.now ≡ connective_of either }
 {
-    one_of(either, b" or ", b" & ", out, at)
+    if either { b" or " } else { b" & " }
 }
 
-// A formula of two up to its second: the variable of event n has a value.
-fn lead(text: &[u8], v: Variables, n: usize, value: bool, out: &mut [u8], at: usize) -> usize
-    ensures { buffer result out.new ≡ put_all (lead_of (spelled text.now v) n value) (buffer at out.old) }
-{
-    let a = output::bytes(out, at, b"(");
-    let b = is(text, v, n, value, out, a);
-    connective(value, out, b)
-}
+impl Spelling<'_> {
+    // The variable of event n.
+    #[tactic(auto, using(output::proofs::Buffers::put_all_append), unfolding(crate::specs::code::Spelled::spelled))]
+    pub fn name(&self, n: usize, w: &mut Writer)
+        ensures { Writes w.old w.new (spelled self.now.text.now self.now.variables n) }
+    {
+        let none = Variable {
+            place: 0,
+            reset: false,
+        };
+        let variable = base::at(&self.variables, n, none);
+        w.bytes(mark(variable.reset));
+        w.bytes(lexer::word(self.text, variable.place));
+    }
 
-// Of the variables from event `from` on and of so many after it: some is TRUE, or each is FALSE. There are at most 512 events.
-pub fn range(
-    text: &[u8],
-    v: Variables,
-    from: usize,
-    after: usize,
-    value: bool,
-    out: &mut [u8],
-    at: usize,
-) -> usize
-    ensures { from + after < 512 → buffer result out.new ≡ put_all (formula (spelled text.now v) (over value from after)) (buffer at out.old) }
-{
-    if after == 0 {
-        return is(text, v, from, value, out, at);
+    // The variable of event n has a value.
+    #[tactic(auto, using(output::proofs::Buffers::put_all_append, crate::proofs::Over::is_text), unfolding(output::specs::Buffer::put_all))]
+    pub fn is(&self, n: usize, value: bool, w: &mut Writer)
+        ensures { Writes w.old w.new (formula (spelled self.now.text.now self.now.variables) (is_of n value)) }
+    {
+        self.name(n, w);
+        w.bytes(b" = ");
+        w.bytes(truth(value));
     }
-    if 511 < from {
-        return at;
+
+    // A formula of two up to its second: the variable of event n has a value.
+    fn lead(&self, n: usize, value: bool, w: &mut Writer)
+        ensures { Writes w.old w.new (lead_of (spelled self.now.text.now self.now.variables) n value) }
+    {
+        w.bytes(b"(");
+        self.is(n, value, w);
+        w.bytes(connective(value));
     }
-    let a = lead(text, v, from, value, out, at);
-    let b = range(text, v, from + 1, after - 1, value, out, a);
-    output::bytes(out, b, b")")
+
+    // Of the variables from event `from` on and of so many after it: some is TRUE, or each is FALSE. There are at most 512 events.
+    #[tactic(auto, using(output::proofs::Buffers::put_all_append, crate::proofs::Over::over_one, crate::proofs::Over::over_more), unfolding(output::specs::Buffer::put_all))]
+    pub fn range(&self, from: usize, after: usize, value: bool, w: &mut Writer)
+        ensures { from + after < 512 → Writes w.old w.new (formula (spelled self.now.text.now self.now.variables) (over value from after)) }
+    {
+        if after == 0 {
+            return self.is(from, value, w);
+        }
+        if 511 < from {
+            return;
+        }
+        self.lead(from, value, w);
+        self.range(from + 1, after - 1, value, w);
+        w.bytes(b")");
+    }
 }

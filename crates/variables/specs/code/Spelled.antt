@@ -1,18 +1,22 @@
--- Variables and formulas over them as the functions write them, by the columns of names.
-use Rattle.std.specs.Prelude.{Bool, cond, List, ◌++◌, ℕ, eqb, get_or}
+-- Variables and formulas over them as the functions write them, by where the names stand.
+use Rattle.std.specs.Prelude.{Bool, false, cond, List, ◌++◌, ℕ, get_or}
 use Rattle.base.specs.Text.{bytes}
 use Rattle.tokens.specs.Words.{word_at}
 use Rattle.formulas.specs.Formulas.{Formula, is}
 use Rattle.formulas.specs.Lines.{Naming, formula}
 use Rattle.formulas.specs.Conditions.{some_true, all_false}
-use Rattle.variables.specs.declared.Variables.{Variables}
+use Rattle.variables.specs.declared.Variable.{Variable}
 
-abbrev pub mark : ℕ → List ℕ
-mark reset = cond (eqb reset 1) (bytes "r_") (bytes "v_")
+abbrev pub mark : Bool → List ℕ
+mark reset = cond reset (bytes "r_") (bytes "v_")
+
+-- Of an event past the last.
+abbrev pub none : Variable
+none = record { place = 0; reset = false }
 
 -- The variable of event n, its name as it stands in the text.
-unfoldable pub spelled : List ℕ → Variables → Naming
-spelled text v n = mark (get_or v.resets n 0) ++ word_at text (get_or v.places n 0)
+unfoldable pub spelled : List ℕ → List Variable → Naming
+spelled text variables n = mark (get_or variables n none).reset ++ word_at text (get_or variables n none).place
 
 abbrev pub connective : Bool → List ℕ
 connective either = cond either (bytes " or ") (bytes " & ")

@@ -1,5 +1,5 @@
 -- The measure is how many variables come after the first.
-use Rattle.variables.proofs.+range.Given as goal
+use Rattle.variables.proofs.Spelling.+range.Given as goal
 
 abbrev pub decreases-range : goal.decreases-range
 decreases-range l = l.after
