@@ -6,9 +6,13 @@ use mathlib.Core.Logic.{◌↔◌}
 use Prim.Native.Nat.{ℕ, zero, suc, ◌+◌, ◌/◌, ◌≤◌, ◌<◌}
 use native.Mathlib.Nat.{zero-div}
 use native.Mathlib.Omega.{arith}
-use lib.Dec.{leb, ltb, eqb, lit<, lit≤}
+use lib.Dec.{leb, ltb, eqb, lit<}
 use lib.ListN.{length, drop, replicate, get_or-replicate}
 use borrow.Author.Tests.{ltb-true, ltb-false, leb-true, lt-ltb, le-ltb, le-leb, eqb-true, eqb-false, eq-eqb, ne_eqb}
+use Rattle.std.specs.Prelude.{⊤, Result, Ok, Err}
+use Rattle.base.specs.Refusals.{refusal}
+use Rattle.base.specs.declared.Reason.TheVariants as Reason
+use Rattle.base.specs.declared.Refusal.{Refusal}
 use Rattle.base.proofs.Truth.{by_cases, is_false, and_l, and_r, and_i, agree}
 use Rattle.base.proofs.Filled.{fill_length, fill_past}
 use Rattle.record.specs.Bits.{Words, bit_at, set_bit, clear_between, set_past}
@@ -19,17 +23,14 @@ use Rattle.record.proofs.PastEvents.{each_clear, clear_each}
 use Rattle.record.proofs.Bytes.{bytes_length}
 use Rattle.record.proofs.RoundTrip.{words_back}
 use Rattle.layout.specs.Fields.{events, rows, event_word, first_of, count_of}
-use Rattle.layout.specs.Values.{values_of, allows, ended}
+use Rattle.layout.specs.Values.{values_of, allows}
 use Rattle.table.specs.Steps.{admit_of, taken, refused, step_of, finished_of, offered, offer_of, offer_left}
-use Rattle.table.specs.declared.Answer.{Answer}
-use Rattle.table.specs.declared.Answer.TheVariants.{Done, Refused}
-use Rattle.table.specs.declared.Finish.TheVariants.{Yes}
 use Rattle.table.specs.declared.Stepped.{Stepped}
 use Rattle.layout.proofs.Sizes.{sound_shaped}
 use Rattle.layout.proofs.Events.{run_below, sound_event}
-use Rattle.table.specs.Bounds.{Ready, Takes, Ends, unsound, bit_past, StepAnswer, event_taken, step_not_ready, past_events, guard_says_no}
-use Rattle.table.proofs.Bounds.{first_look, refused_step, ready_admitted, step_answered}
-use Rattle.table.proofs.Answered.{not_done, step_done, offer_1, finished_passed, finished_as}
+use Rattle.table.specs.Bounds.{Ready, Takes, Ends, NotReady, unsound, bit_past, StepAnswer, event_taken, step_not_ready, past_events, guard_says_no, FinishAnswer, run_finished, run_open, finished_not_ready}
+use Rattle.table.proofs.Bounds.{first_look, ready_admitted, step_answered, finished_answered}
+use Rattle.table.proofs.Answered.{take_done, step_as, offer_1, finished_as}
 
 -- The run of bits that event e clears: from the first on, up to the end and without it.
 abbrev pub run_first : List ℕ → ℕ → ℕ
@@ -38,49 +39,49 @@ run_first t e = first_of (event_word t e)
 abbrev pub run_end : List ℕ → ℕ → ℕ
 run_end t e = first_of (event_word t e) + count_of (event_word t e)
 
-admitted : (t bits : List ℕ) → admit_of t bits ≡ Done → Ready t bits
-admitted t bits d = first_look t bits (λ r a. r) (λ number a w. absurd (not_done number 0 (sym a ∙ d)))
+admitted : (t bits : List ℕ) → admit_of t bits ≡ Ok tt → Ready t bits
+admitted t bits d = first_look t bits (λ r a. r) (λ r a n. let q = a ∙ d in cc)
 
 -- ---- a step
+not_ready_place : (t bits : List ℕ) (r : Refusal) → NotReady t bits r → r.place ≡ 0
+not_ready_place t bits r (unsound q y) = ap (λ (x : Refusal). x.place) q
+not_ready_place t bits r (bit_past q y p) = ap (λ (x : Refusal). x.place) q
+
 by_answer {ℓ} : {P : Type ℓ} (t : List ℕ) (before : Record) (e : ℕ) (s : Stepped) → (Takes t before e → P)
-    → ((number : ℕ) → refused before (Refused number 0) ≡ s → P) → StepAnswer t before e s → P
-by_answer t before e s done refusal (event_taken q k) = done k
-by_answer t before e s done refusal (step_not_ready (unsound q x) k) = refusal 12 (sym (refused_step before s 12 (lit≤ tt) q k))
-by_answer t before e s done refusal (step_not_ready (bit_past q x y) k) = refusal 13 (sym (refused_step before s 13 (lit≤ tt) q k))
-by_answer t before e s done refusal (past_events q k r h) = refusal 14 (sym (refused_step before s 14 (lit≤ tt) q k))
-by_answer t before e s done refusal (guard_says_no q k r h y) = refusal 15 (sym (refused_step before s 15 (lit≤ tt) q k))
+    → ((r : Refusal) → r.place ≡ 0 → s ≡ refused before r → P) → StepAnswer t before e s → P
+by_answer t before e s done not (event_taken q k) = done k
+by_answer t before e s done not (step_not_ready r q n) = not r (not_ready_place t before.bits r n) q
+by_answer t before e s done not (past_events q r h) = not (refusal Reason.Event 0) refl q
+by_answer t before e s done not (guard_says_no q r h y) = not (refusal Reason.Guard 0) refl q
 
 module _ (t : List ℕ) (before : Record) (e : ℕ) where
-  taken_done : Takes t before e → record { answer = Done; after = record { bits = taken t before.bits e } } ≡ step_of t before e
-  unfolding taken
-  taken_done k =
-      step_done t before e (ready_admitted t before.bits k.ready) k.below (event_word t e) (set_bit before.bits e)
-      (taken t before.bits e) k.allowed refl refl refl
+  taken_done : Takes t before e → record { answer = Ok tt; after = record { bits = taken t before.bits e } } ≡ step_of t before e
+  taken_done k = step_as t before e _ (take_done t before e (ready_admitted t before.bits k.ready) k.below k.allowed)
 
   -- It takes the event, or it refuses, at place 0.
-  by_step {ℓ} : {P : Type ℓ} → (Takes t before e → P) → ((number : ℕ) → refused before (Refused number 0) ≡ step_of t before e → P) → P
-  by_step done refusal = by_answer t before e (step_of t before e) done refusal (step_answered t before e)
+  by_step {ℓ} : {P : Type ℓ} → (Takes t before e → P) → ((r : Refusal) → r.place ≡ 0 → step_of t before e ≡ refused before r → P) → P
+  by_step done not = by_answer t before e (step_of t before e) done not (step_answered t before e)
 
   -- A step is done exactly if the table is sound, the record has no set bit at or past E, there is such an event and its guard row says yes.
-  pub done_exactly : ((step_of t before e).answer ≡ Done) ↔ Takes t before e
+  pub done_exactly : ((step_of t before e).answer ≡ Ok tt) ↔ Takes t before e
   done_exactly = (
-    λ d. by_step (λ k. k) (λ number q. absurd (not_done number 0 (ap (λ (s : Stepped). s.answer) q ∙ d))),
+    λ d. by_step (λ k. k) (λ r z q. let clash = sym (ap (λ (s : Stepped). s.answer) q) ∙ d in cc),
     λ k. sym (ap (λ (s : Stepped). s.answer) (taken_done k)),
   )
 
   -- A refused step leaves the record, and its place is 0.
-  pub step_refused : (number place : ℕ) → (step_of t before e).answer ≡ Refused number place
-      → (step_of t before e ≡ refused before (Refused number place)) × (place ≡ 0)
-  step_refused number place d =
-      by_step (λ k. absurd (not_done number place (sym d ∙ done_exactly.1 k)))
-      (λ n q. let a = ap (λ (s : Stepped). s.answer) q in (sym q ∙ ap (refused before) (a ∙ d), cc))
+  pub step_refused : (r : Refusal) → (step_of t before e).answer ≡ Err r → (step_of t before e ≡ refused before r) × (r.place ≡ 0)
+  step_refused r d =
+      by_step (λ k. let clash = sym d ∙ done_exactly.1 k in cc)
+      (λ x z q. let same : Err x ≡ Err r = sym (ap (λ (s : Stepped). s.answer) q) ∙ d in
+      let same_refusal : x ≡ r = cc in (q ∙ ap (refused before) same_refusal, sym (ap (λ (y : Refusal). y.place) same_refusal) ∙ z))
 
   -- The record after a step that is done is the one before with the event's bit set and its run of bits cleared.
-  pub step_after : (step_of t before e).answer ≡ Done → (step_of t before e).after.bits ≡ taken t before.bits e
+  pub step_after : (step_of t before e).answer ≡ Ok tt → (step_of t before e).after.bits ≡ taken t before.bits e
   step_after d = sym (ap (λ (s : Stepped). s.after.bits) (taken_done (done_exactly.0 d)))
 
   -- ---- the record after a step that is done, bit by bit
-  module _ (d : (step_of t before e).answer ≡ Done) (l : length before.bits ≡ 8) where
+  module _ (d : (step_of t before e).answer ≡ Ok tt) (l : length before.bits ≡ 8) where
     in_record : e < 512
     in_record = let k = done_exactly.0 d in let s = sound_shaped t k.ready.its_table in omega (arith, k.below, s.events_most)
 
@@ -134,7 +135,7 @@ step_words t before e w =
     by_step t before e
     (λ k. rw (step_after t before e ((done_exactly t before e).1 k))
     (clear_words (set_bit before.bits e) (run_first t e) (count_of (event_word t e)) (set_words before.bits e w)))
-    (λ number q. rw (← q) w)
+    (λ r z q. rw q w)
 
 -- So has the record whose bits are an offer.
 pub offered_words : (t : List ℕ) (vs : List Bool) (n : ℕ) → Words (offered t vs n)
@@ -169,24 +170,25 @@ abbrev pub offer_leaves : List ℕ → Record → List ℕ → List ℕ
 offer_leaves t before lent = offer_left t before lent (offer_of t before lent)
 
 module _ (t : List ℕ) (before : Record) (lent : List ℕ) where
-  offer_done : offer_of t before lent ≡ Done → (64 ≤ length lent) × (admit_of t before.bits ≡ Done)
+  offer_done : offer_of t before lent ≡ Ok tt → (64 ≤ length lent) × (admit_of t before.bits ≡ Ok tt)
   unfolding offer_of
   offer_done d =
-      by_cases (ltb (length lent) 64) (λ l. absurd (not_done 1 0 ((offer_1 t before lent (ltb-true _ _ l)).0 ∙ d)))
+      by_cases (ltb (length lent) 64)
+      (λ l. let clash = (offer_1 t before lent (ltb-true _ _ l)).0 ∙ d in cc)
       (λ l. (ltb-false _ _ l, rw l at d))
 
-  its_bit : offer_of t before lent ≡ Done → (e : ℕ) → e < 512
+  its_bit : offer_of t before lent ≡ Ok tt → (e : ℕ) → e < 512
       → bit_at (words_of (offer_leaves t before lent)) e ≡ (ltb e (events t) && allows t (values_of t before.bits) e)
   its_bit d e h =
       let o = offered_words t (values_of t before.bits) (events t) in
       let s = sound_shaped t (admitted t before.bits (offer_done d).1).its_table in
-      ap (λ (a : Answer). bit_at (words_of (offer_left t before lent a)) e) d
+      ap (λ (a : Result ⊤ Refusal). bit_at (words_of (offer_left t before lent a)) e) d
       ∙ ap (λ (ws : List ℕ). bit_at ws e) (words_back (offered t (values_of t before.bits) (events t)) lent o (offer_done d).0)
       ∙ offered_bit t (values_of t before.bits) (events t) e s.events_most h
 
   -- Its bit e is exactly whether a step with e would be done.
-  pub offer_exactly : offer_of t before lent ≡ Done → (e : ℕ) → e < 512
-      → (bit_at (words_of (offer_leaves t before lent)) e ≡ true) ↔ ((step_of t before e).answer ≡ Done)
+  pub offer_exactly : offer_of t before lent ≡ Ok tt → (e : ℕ) → e < 512
+      → (bit_at (words_of (offer_leaves t before lent)) e ≡ true) ↔ ((step_of t before e).answer ≡ Ok tt)
   offer_exactly d e h =
       let a = admitted t before.bits (offer_done d).1 in (
         λ b. let y = sym (its_bit d e h) ∙ b in
@@ -203,23 +205,25 @@ module _ (t : List ℕ) (before : Record) (lent : List ℕ) where
   pub offer_past : (drop 64 (offer_leaves t before lent) ≡ drop 64 lent) × (length (offer_leaves t before lent) ≡ length lent)
   offer_past = after (offer_of t before lent)
     where
-      after : (a : Answer) → (drop 64 (offer_left t before lent a) ≡ drop 64 lent) × (length (offer_left t before lent a) ≡ length lent)
-      after Done =
+      after : (a : Result ⊤ Refusal) → (drop 64 (offer_left t before lent a) ≡ drop 64 lent) × (length (offer_left t before lent a) ≡ length lent)
+      after (Ok made) =
           let o = offered t (values_of t before.bits) (events t) in
           (rw (bytes_length o 64) at (fill_past lent (bytes_of o)), fill_length lent (bytes_of o))
-      after (Refused number place) = (refl, refl)
+      after (Err r) = (refl, refl)
 
   -- An offer that is refused leaves the buffer.
-  pub offer_refused : (number place : ℕ) → offer_of t before lent ≡ Refused number place → offer_leaves t before lent ≡ lent
-  offer_refused number place d = ap (offer_left t before lent) d
+  pub offer_refused : (r : Refusal) → offer_of t before lent ≡ Err r → offer_leaves t before lent ≡ lent
+  offer_refused r d = ap (offer_left t before lent) d
 
 -- ---- a finished run
 -- A run is finished exactly if the table is sound, the record has no set bit at or past E and the last row says yes.
-pub finished_exactly : (t : List ℕ) (before : Record) → (finished_of t before ≡ Yes) ↔ Ends t before
+pub finished_exactly : (t : List ℕ) (before : Record) → (finished_of t before ≡ Ok true) ↔ Ends t before
 finished_exactly t before = (
-  λ y. first_look t before.bits
-      (λ r a. by_cases (ended t (values_of t before.bits)) (λ g. record { ready = r; says_so = g })
-      (λ g. let q = finished_as t before false a g in let z : ◌≡◌ {A = ℕ} 0 1 = cc in absurd (omega arith)))
-      (λ number a w. let q = finished_passed t before (Refused number 0) number 0 refl (sym a) in let z : ◌≡◌ {A = ℕ} 0 1 = cc in absurd (omega arith)),
+  λ y. ends (finished_answered t before) y,
   λ k. sym (finished_as t before true (ready_admitted t before.bits k.ready) k.says_so),
 )
+  where
+    ends : FinishAnswer t before (finished_of t before) → finished_of t before ≡ Ok true → Ends t before
+    ends (run_finished q k) y = k
+    ends (run_open q r n) y = let clash = sym q ∙ y in cc
+    ends (finished_not_ready r q n) y = let clash = sym q ∙ y in cc

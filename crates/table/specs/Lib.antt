@@ -2,4 +2,3 @@ pub mod Steps
 pub mod Bounds
 pub mod Reports
 pub mod Worked
-pub mod code

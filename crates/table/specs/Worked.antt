@@ -1,11 +1,11 @@
 -- One table in bytes, worked through by hand from document 01, "The run record and the table": the fields of an event record, the kinds of rows and what
 -- each call answers. Its runs: event 0, then rounds of event 1, of event 2 once or more, and of event 3, the reset, which clears bits 1 and 2.
-use Rattle.std.specs.Prelude.{◌≡◌, List, [], ◌∷◌, ◌++◌, map, ℕ, ◌*◌, ◌^◌, take, set, replicate}
+use Rattle.std.specs.Prelude.{◌≡◌, List, [], ◌∷◌, ◌++◌, map, ℕ, ◌*◌, ◌^◌, take, set, replicate, ⊤, Result}
 use Rattle.base.specs.Reports.{Report}
+use Rattle.base.specs.declared.Refusal.{Refusal}
 use Rattle.record.specs.declared.Record.{Record}
 use Rattle.table.specs.Steps.{check_of, step_of, finished_of, offer_of, offer_left}
 use Rattle.table.specs.Reports.{report, finish_report}
-use Rattle.table.specs.declared.Answer.{Answer}
 use Rattle.table.specs.declared.Stepped.{Stepped}
 
 abbrev pub worked : List ℕ
@@ -128,7 +128,7 @@ Each {C = C} does numbered ls = map (λ (l : Line C). does l.table l.call) ls �
 abbrev stepped : Stepped → Shown Report
 stepped s = shown (report s.answer) s.after.bits
 
-abbrev offered : List ℕ → Record → List ℕ → Answer → Shown Report
+abbrev offered : List ℕ → Record → List ℕ → Result ⊤ Refusal → Shown Report
 offered t before lent a = shown (report a) (offer_left t before lent a)
 
 abbrev pub does : List ℕ → Call → Shown Report
