@@ -5,6 +5,9 @@ use mathlib.Core.Bool.{false, cond}
 use mathlib.Core.List.{List, map}
 use Prim.Native.Nat.{ℕ, ◌+◌}
 use lib.ListN.{length, get_or}
+use Rattle.std.specs.Prelude.{Result, Ok, Err}
+use Rattle.base.specs.Refusals.{refusal}
+use Rattle.base.specs.declared.Refusal.{Refusal}
 use Rattle.diagram.specs.Tree.{Flow}
 use Rattle.diagram.specs.TreeNodes.{TextNode, own, has_name, nodes_by}
 use Rattle.diagram.specs.declared.Node.{Node}
@@ -12,16 +15,13 @@ use Rattle.tokens.specs.Words.{keywords}
 use Rattle.tokens.specs.Spans.{Span, spans_of, places}
 use Rattle.tokens.specs.Token.{token_of, text_tokens}
 use Rattle.tokens.specs.Scanned.{scan_of}
-use Rattle.tokens.specs.declared.Scan.{Scan}
-use Rattle.tokens.specs.declared.Scan.TheVariants.{Tokens, Refused as Unscanned}
 use Rattle.reading.proofs.Blanked.{blanked_length, blanked_spans}
 use Rattle.grammar.specs.Keys.{keys_from, keyword_at, name_at}
 use Rattle.grammar.specs.Machine.{Outcome, whole, stop, outcome}
-use Rattle.rules.specs.declared.Verdict.{Verdict}
-use Rattle.rules.specs.declared.Verdict.TheVariants.{Kept, Refused as Unkept}
+use Rattle.rules.specs.Judged.{Verdict}
 use Rattle.reading.specs.Blanked.{blanked}
 use Rattle.reading.specs.Nodes.{name_place, node_of, stored}
-use Rattle.reading.specs.Answers.{refused, judged, read_of}
+use Rattle.reading.specs.Answers.{judged, read_of}
 use Rattle.reading.specs.Refused.{place_of, Usual, Clean, Derived}
 use Rattle.reading.proofs.Scans.{scan_clean, none_strange}
 use Rattle.reading.proofs.Verdicts.{tree_verdict}
@@ -63,8 +63,8 @@ module _ (s t : List ℕ) (e : spans_of s ≡ spans_of t) (l : length s ≡ leng
 
   judged_alike : (hs : List TextNode) (v : Verdict) → judged s hs v ≡ judged t hs v
   unfolding stored
-  judged_alike hs (Unkept number place) = refl
-  judged_alike hs (Kept copies events) = rw nodes_alike
+  judged_alike hs (Err r) = refl
+  judged_alike hs (Ok counts) = rw nodes_alike
 
   verdicts_alike : (d : Flow) → tree_verdict s d ≡ tree_verdict t d
   verdicts_alike d = rw (keywords_alike, names_alike)
@@ -88,15 +88,15 @@ module _ (s t : List ℕ) (e : spans_of s ≡ spans_of t) (l : length s ≡ leng
       go : (o : Outcome) → outcome (text_tokens keywords s) ≡ o → read_of s ≡ read_of t
       go (whole n) q = let r = whole_derived s n a.size q in derived_alike r.0 r.1
       go (stop c k) q =
-          stopped s c k a q ∙ ap (refused c) (place_alike k) ∙ sym (stopped t c k b (sym (ap outcome tokens_alike) ∙ q))
+          stopped s c k a q ∙ ap (λ (p : ℕ). Err (refusal c p)) (place_alike k) ∙ sym (stopped t c k b (sym (ap outcome tokens_alike) ∙ q))
 
   -- Texts of one length with the same tokens at the same places get the same answer, diagram and places included.
   pub read_alike : read_of s ≡ read_of t
   read_alike = go (scan_of s) refl
     where
-      go : (r : Scan) → scan_of s ≡ r → read_of s ≡ read_of t
-      go (Tokens n) q = clean_alike (scan_clean s n q) (scan_clean t n (sym scans_alike ∙ q))
-      go (Unscanned c at) q = scanned_as s (Unscanned c at) q ∙ sym (scanned_as t (Unscanned c at) (sym scans_alike ∙ q))
+      go : (r : Result ℕ Refusal) → scan_of s ≡ r → read_of s ≡ read_of t
+      go (Ok n) q = clean_alike (scan_clean s n q) (scan_clean t n (sym scans_alike ∙ q))
+      go (Err r) q = scanned_as s (Err r) q ∙ sym (scanned_as t (Err r) (sym scans_alike ∙ q))
 
 pub remarks_as_blanks : (text : List ℕ) → Usual text → read_of (blanked false text) ≡ read_of text
 remarks_as_blanks text u = read_alike (blanked false text) text (blanked_spans text (none_strange text u)) (blanked_length false text)

@@ -1,5 +1,5 @@
 -- Property 1, for reading.
-use mathlib.Core.Path.{◌≡◌, sym, ◌∙◌, ap, ap₂, subst}
+use mathlib.Core.Path.{◌≡◌, sym, ◌∙◌, ap, subst}
 use mathlib.Core.Logic.{⊎_elim}
 use mathlib.Core.Bool.{Bool, true, false}
 use mathlib.Core.List.{List, [], ◌∷◌, head-eq_of_cons-eq}
@@ -9,6 +9,8 @@ use lib.Dec.{ltb}
 use lib.ListN.{length, get_or, get_or-eq_default}
 use lib.Seq.{drop-cons}
 use borrow.Author.Tests.{ltb-true, ltb-false}
+use Rattle.std.specs.Prelude.{Ok}
+use Rattle.base.specs.Refusals.{number}
 use Rattle.base.specs.Reports.{result as result_report}
 use Rattle.diagram.specs.Tree.{Flow}
 use Rattle.diagram.specs.Count.{flow_nodes, flow_copies, flow_events}
@@ -18,16 +20,12 @@ use Rattle.base.proofs.Truth.{cases}
 use Rattle.tokens.specs.Spans.{places}
 use Rattle.tokens.proofs.Spans.{tokens_length, places_length, places_below}
 use Rattle.grammar.specs.Keys.{key_token, keyword_at, name_at}
-use Rattle.reading.specs.Accepted.{Accepted}
-use Rattle.reading.specs.Answers.{read_of}
+use Rattle.reading.specs.Answers.{Read, read_of}
 use Rattle.reading.specs.Reports.{report}
 use Rattle.reading.specs.Shows.{Shows}
-use Rattle.reading.specs.declared.Answer.{Answer}
-use Rattle.reading.specs.declared.Answer.TheVariants.{Done}
-use Rattle.reading.specs.declared.ReadResult.{ReadResult}
 use Rattle.reading.specs.Refused.{Derived, Breaks, RefusedAt, by_size, by_byte, by_word, by_token, by_limit, by_name, by_parameter, by_solid, by_strong, by_count}
 use Rattle.reading.specs.Bounds.{Bounded, result, refusal}
-use Rattle.reading.proofs.Exact.{accepted_read, refused_at_read, Fate, taken, refused_at, fate}
+use Rattle.reading.proofs.Exact.{held, accepted_read, turned_away_exactly, Fate, taken, refused_at, fate}
 use Rattle.reading.proofs.Shown.{accepted_shown}
 use Rattle.reading.proofs.Placed.{accepted_placed, one_diagram}
 
@@ -85,35 +83,36 @@ refused_at_near text c at (by_count e d h) = near text c at 11 e (omega arith) (
 pub read_bounded : (text : List ℕ) → Bounded text (read_of text)
 read_bounded text = go (fate text)
   where
-    counts : (d : Flow) → Accepted text d → Shows text d (read_of text).diagram → (read_of text).answer ≡ Done
+    counts : (d : Flow) → Shows text d (held text d) → read_of text ≡ Ok (held text d)
         → report (read_of text) ≡ result_report (flow_nodes d ∷ flow_copies d ∷ flow_events d ∷ [])
-    counts d a s e = rw (e, s.count, s.copies, s.events)
+    counts d s e = rw (e, s.count, s.copies, s.events)
 
     go : Fate text → Bounded text (read_of text)
     go (taken d a) =
         let e = accepted_read text d a in
-        let s = accepted_shown text d a in
-        let done = ap (λ (o : ReadResult). o.answer) e in
+        let s = accepted_shown text d a e in
         result
         record {
           tree = d;
           limits = a;
-          reported = counts d a s done;
-          done = done;
+          reported = counts d s e;
+          diagram = held text d;
+          done = e;
           shown = s;
-          placed = accepted_placed text d a;
+          placed = accepted_placed text d a e;
         }
     go (refused_at c at t) =
-        let n = refused_at_near text c at t in
-        let e = refused_at_read text c at t in
-        refusal record { number = c; place = at; why = t; reported = ap report e; is = e; low = n.low; high = n.high; near = n.close }
+        let n = refused_at_near text (number c) at t in
+        let e = (turned_away_exactly text c at).1 t in
+        refusal record { reason = c; place = at; why = t; reported = ap report e; is = e; low = n.low; high = n.high; near = n.close }
 
 -- And there is no other: the text alone says whether it is read, with which diagram, and else the number and the place.
-pub one_answer : (text : List ℕ) (o : ReadResult) → Bounded text o → o ≡ read_of text
+pub one_answer : (text : List ℕ) (o : Read) → Bounded text o → o ≡ read_of text
 one_answer text o (result r) =
     let d = r.tree in
     let a = r.limits in
-    ap₂ (λ (a : Answer) (g : Diagram). record { answer = a; diagram = g })
-    (r.done ∙ sym (ap (λ (o : ReadResult). o.answer) (accepted_read text d a)))
-    (one_diagram text d o.diagram (read_of text).diagram r.shown r.placed (accepted_shown text d a) (accepted_placed text d a))
-one_answer text o (refusal r) = r.is ∙ sym (refused_at_read text r.number r.place r.why)
+    let e = accepted_read text d a in
+    r.done
+    ∙ ap (λ (g : Diagram). Ok g) (one_diagram text d r.diagram (held text d) r.shown r.placed (accepted_shown text d a e) (accepted_placed text d a e))
+    ∙ sym e
+one_answer text o (refusal r) = r.is ∙ sym ((turned_away_exactly text r.reason r.place).1 r.why)

@@ -1,10 +1,11 @@
 -- The nodes of an accepted text's diagram stand in the text where those of its tree do.
-use mathlib.Core.Path.{◌≡◌, refl, sym, ◌∙◌, ap, ap₂, subst}
+use mathlib.Core.Path.{◌≡◌, refl, sym, ◌∙◌, ap, ap₂}
 use mathlib.Core.Bool.{Bool}
 use mathlib.Core.List.{List, [], ◌∷◌, ◌++◌, map, cons≢nil, nil≢cons, head-eq_of_cons-eq, tail-eq_of_cons-eq}
 use Prim.Native.Nat.{ℕ, ◌-◌}
 use lib.ListN.{length, take, drop, replicate, length-map, take-append-drop}
 use lib.Seq.{drop_at}
+use Rattle.std.specs.Prelude.{Ok}
 use Rattle.diagram.specs.Tree.{Flow}
 use Rattle.diagram.specs.Count.{flow_copies, flow_events}
 use Rattle.diagram.specs.Stored.{blank_node}
@@ -18,8 +19,7 @@ use Rattle.reading.specs.Answers.{read_of}
 use Rattle.reading.specs.Accepted.{Accepted}
 use Rattle.reading.specs.Shows.{Shows, shown_node, shown_nodes}
 use Rattle.reading.specs.Places.{Placed}
-use Rattle.reading.specs.declared.ReadResult.{ReadResult}
-use Rattle.reading.proofs.Exact.{accepted_read}
+use Rattle.reading.proofs.Exact.{held, its_diagram}
 use Rattle.reading.proofs.Shown.{nodes_kept}
 
 abbrev ats : List Node → List ℕ
@@ -28,18 +28,20 @@ ats ns = map (λ (n : Node). n.at) ns
 abbrev names : List Node → List ℕ
 names ns = map (λ (n : Node). n.name) ns
 
-pub accepted_placed : (text : List ℕ) (d : Flow) → Accepted text d → Placed text d (read_of text).diagram
+held_placed : (text : List ℕ) (d : Flow) → Placed text d (held text d)
 unfolding stored node_of
-accepted_placed text d a =
+held_placed text d =
     let hs = nodes_by own d in
     let its : TreeNode → Node = λ h. node_of text h.own in
     let kept = nodes_kept text hs (flow_copies d) (flow_events d) ∙ mapped (node_of text) own d in
-    subst (λ (o : ReadResult). Placed text d o.diagram) (sym (accepted_read text d a))
     record {
       keywords = ap ats kept ∙ mapped (λ (n : Node). n.at) its d;
       names = ap names kept ∙ mapped (λ (n : Node). n.name) its d;
       blank = drop_at (map (node_of text) hs) (replicate (256 - length hs) blank_node) (length hs) (length-map hs (node_of text));
     }
+
+pub accepted_placed : (text : List ℕ) (d : Flow) → Accepted text d → {g : Diagram} → read_of text ≡ Ok g → Placed text d g
+accepted_placed text d a e = rw (its_diagram text d a e) (held_placed text d)
 
 -- Nodes that are shown alike and have the same places are the same.
 same_node : (text : List ℕ) (m n : Node) → shown_node text m ≡ shown_node text n → m.at ≡ n.at → m.name ≡ n.name → m ≡ n

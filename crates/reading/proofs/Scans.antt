@@ -8,12 +8,14 @@ use native.Mathlib.Omega.{arith}
 use lib.Dec.{ltb, leb}
 use lib.ListN.{length, get_or, length-map, get_or-map}
 use borrow.Author.Tests.{lt-ltb, le-ltb, le-leb, lt-leb, ltb-true, ltb-false, leb-true, leb-false, not-false}
+use Rattle.std.specs.Prelude.{Result, Ok, Err}
+use Rattle.base.specs.Refusals.{refusal}
+use Rattle.base.specs.declared.Reason.TheVariants.{Text, Byte, Word}
+use Rattle.base.specs.declared.Refusal.{Refusal}
 use Rattle.base.proofs.Truth.{clash, cases, by_cases, not_i, not_e}
 use Rattle.tokens.specs.Remarks.{opened, open_at, foreign_at, stretch}
 use Rattle.tokens.specs.Spans.{Span, spans_of, tokens, places}
 use Rattle.tokens.specs.Scanned.{first_foreign, first_long, scan_of}
-use Rattle.tokens.specs.declared.Scan.{Scan}
-use Rattle.tokens.specs.declared.Scan.TheVariants.{Tokens, Refused}
 use Rattle.tokens.proofs.Stretch.{stretch_nil, stretch_cons, stretch_le}
 use Rattle.tokens.proofs.Foreign.{usual, foreign_along}
 use Rattle.tokens.proofs.Spans.{no_span, tokens_length, token_at, place_at, places_below}
@@ -131,22 +133,22 @@ module _ (text : List ℕ) where
       } in
       long_first false (spans_of text) (length text) k f ∙ sym (h.place ∙ place_at text k)
 
-  pub clean_scan : Clean text → scan_of text ≡ Tokens (length (spans_of text))
+  pub clean_scan : Clean text → scan_of text ≡ Ok (length (spans_of text))
   unfolding scan_of
   clean_scan h =
       let n = length text in
       rw (le-ltb 16384 n h.size, le-ltb (first_foreign text) n (usual_none h.usual), words_none h, le-ltb n n (omega arith))
 
   module _ (at : ℕ) where
-    pub long_scan : Long text at → scan_of text ≡ Refused 2 at
+    pub long_scan : Long text at → scan_of text ≡ Err (refusal Text at)
     unfolding scan_of
     long_scan h = rw (lt-ltb 16384 (length text) h.over, h.place)
 
-    pub foreign_scan : Foreign text at → scan_of text ≡ Refused 3 at
+    pub foreign_scan : Foreign text at → scan_of text ≡ Err (refusal Byte at)
     unfolding scan_of
     foreign_scan h = rw (le-ltb 16384 (length text) h.size, foreign_first h, lt-ltb at (length text) h.inside)
 
-    pub wordy_scan : Wordy text at → scan_of text ≡ Refused 4 at
+    pub wordy_scan : Wordy text at → scan_of text ≡ Err (refusal Word at)
     unfolding scan_of
     wordy_scan h =
         let n = length text in
@@ -207,28 +209,31 @@ module _ (text : List ℕ) where
       (cases (ltb 16384 (length text)))
 
 -- What the scan says holds of the text.
-same_refusal : {r : Scan} {m n i j : ℕ} → r ≡ Refused m i → r ≡ Refused n j → (m ≡ n) × (i ≡ j)
-same_refusal p q = (cc, cc)
+same_refusal : {s : Result ℕ Refusal} {q r : Refusal} → s ≡ Err q → s ≡ Err r → q ≡ r
+same_refusal x y = cc
 
-no_refusal : {r : Scan} {m n i : ℕ} → r ≡ Refused m i → r ≡ Tokens n → ⊥
-no_refusal p q = let z : ◌≡◌ {A = ℕ} 0 1 = cc in omega arith
+no_refusal : {s : Result ℕ Refusal} {r : Refusal} {n : ℕ} → s ≡ Err r → s ≡ Ok n → ⊥
+no_refusal x y = cc
 
-refused_at_by : {text : List ℕ} (c at : ℕ) → Sorted text → scan_of text ≡ Refused c at
-    → ((c ≡ 2) × Long text at) ⊎ (((c ≡ 3) × Foreign text at) ⊎ ((c ≡ 4) × Wordy text at))
-refused_at_by {text} c at (long i h) e = let q = same_refusal e (long_scan text i h) in inl (q.0, rw q.1 h)
-refused_at_by {text} c at (foreign_byte i h) e = let q = same_refusal e (foreign_scan text i h) in inr (inl (q.0, rw q.1 h))
-refused_at_by {text} c at (wordy_text i h) e = let q = same_refusal e (wordy_scan text i h) in inr (inr (q.0, rw q.1 h))
-refused_at_by {text} c at (clean h) e = absurd (no_refusal e (clean_scan text h))
+-- The sentence of a refusal before the grammar is looked at.
+abbrev pub Unread : List ℕ → Refusal → Type 0
+Unread text r =
+    ((r.reason ≡ Text) × Long text r.place) ⊎ (((r.reason ≡ Byte) × Foreign text r.place) ⊎ ((r.reason ≡ Word) × Wordy text r.place))
 
-pub scan_refused_at : (text : List ℕ) (c at : ℕ) → scan_of text ≡ Refused c at
-    → ((c ≡ 2) × Long text at) ⊎ (((c ≡ 3) × Foreign text at) ⊎ ((c ≡ 4) × Wordy text at))
-scan_refused_at text c at e = refused_at_by c at (sorted text) e
+refused_at_by : {text : List ℕ} (r : Refusal) → Sorted text → scan_of text ≡ Err r → Unread text r
+refused_at_by {text} r (long i h) e = rw (same_refusal e (long_scan text i h)) (inl (refl, h))
+refused_at_by {text} r (foreign_byte i h) e = rw (same_refusal e (foreign_scan text i h)) (inr (inl (refl, h)))
+refused_at_by {text} r (wordy_text i h) e = rw (same_refusal e (wordy_scan text i h)) (inr (inr (refl, h)))
+refused_at_by {text} r (clean h) e = absurd (no_refusal e (clean_scan text h))
 
-clean_by : {text : List ℕ} (n : ℕ) → Sorted text → scan_of text ≡ Tokens n → Clean text
+pub scan_refused_at : (text : List ℕ) (r : Refusal) → scan_of text ≡ Err r → Unread text r
+scan_refused_at text r e = refused_at_by r (sorted text) e
+
+clean_by : {text : List ℕ} (n : ℕ) → Sorted text → scan_of text ≡ Ok n → Clean text
 clean_by {text} n (long i h) e = absurd (no_refusal (long_scan text i h) e)
 clean_by {text} n (foreign_byte i h) e = absurd (no_refusal (foreign_scan text i h) e)
 clean_by {text} n (wordy_text i h) e = absurd (no_refusal (wordy_scan text i h) e)
 clean_by {text} n (clean h) e = h
 
-pub scan_clean : (text : List ℕ) (n : ℕ) → scan_of text ≡ Tokens n → Clean text
+pub scan_clean : (text : List ℕ) (n : ℕ) → scan_of text ≡ Ok n → Clean text
 scan_clean text n e = clean_by n (sorted text) e

@@ -1,9 +1,10 @@
 -- The diagram of an accepted text is the one derived.
-use mathlib.Core.Path.{◌≡◌, refl, sym, ◌∙◌, ap, ap₂, subst}
+use mathlib.Core.Path.{◌≡◌, refl, sym, ◌∙◌, ap, ap₂}
 use mathlib.Core.List.{List, [], ◌∷◌, map}
 use Prim.Native.Nat.{ℕ, suc, ◌-◌}
 use lib.ListN.{length, take, replicate, length-map}
 use lib.Seq.{take_at}
+use Rattle.std.specs.Prelude.{Ok}
 use Rattle.diagram.specs.Tree.{Flow}
 use Rattle.diagram.specs.Count.{flow_copies, flow_events}
 use Rattle.diagram.specs.Stored.{blank_node}
@@ -15,9 +16,9 @@ use Rattle.reading.specs.Nodes.{name_place, node_of, stored}
 use Rattle.reading.specs.Answers.{read_of}
 use Rattle.reading.specs.Accepted.{Accepted}
 use Rattle.reading.specs.Shows.{Shows, ShowsOnly, shown_node, shown_nodes}
-use Rattle.reading.specs.declared.ReadResult.{ReadResult}
+use Rattle.diagram.specs.declared.Diagram.{Diagram}
 use Rattle.reading.proofs.Derived.{derived_rows}
-use Rattle.reading.proofs.Exact.{accepted_derived, accepted_read}
+use Rattle.reading.proofs.Exact.{held, accepted_derived, accepted_read, its_diagram}
 
 -- What a diagram shows of a node, by its own tokens.
 abbrev text_shown : TextNode → ShownNode
@@ -41,12 +42,11 @@ pub nodes_kept : (text : List ℕ) (hs : List TextNode) (x y : ℕ) → take (st
 unfolding stored
 nodes_kept text hs x y = take_at (map (node_of text) hs) (replicate (256 - length hs) blank_node) (length hs) (length-map hs (node_of text))
 
-pub accepted_shown : (text : List ℕ) (d : Flow) → Accepted text d → Shows text d (read_of text).diagram
+held_shown : (text : List ℕ) (d : Flow) → Accepted text d → Shows text d (held text d)
 unfolding stored shown_nodes
-accepted_shown text d a =
+held_shown text d a =
     let hs = nodes_by own d in
     let r = derived_rows text d (accepted_derived text d a) in
-    subst (λ (o : ReadResult). Shows text d o.diagram) (sym (accepted_read text d a))
     record {
       nodes = ap (map (shown_node text)) (nodes_kept text hs (flow_copies d) (flow_events d)) ∙ (rows_shown text r.0 0 hs r.1 ∙ tree_shown d);
       count = nodes_counted own d;
@@ -54,8 +54,14 @@ accepted_shown text d a =
       events = refl;
     }
 
--- "its diagram is the one derived": what reading answers for an accepted text shows the tree that derives it, and no other.
-pub accepted_shows_only : (text : List ℕ) (d : Flow) → Accepted text d → ShowsOnly text d (read_of text).diagram
-accepted_shows_only text d a =
-    let h = accepted_shown text d a in
+pub accepted_shown : (text : List ℕ) (d : Flow) → Accepted text d → {g : Diagram} → read_of text ≡ Ok g → Shows text d g
+accepted_shown text d a e = rw (its_diagram text d a e) (held_shown text d a)
+
+pub shows_only : (text : List ℕ) (d : Flow) → Accepted text d → {g : Diagram} → read_of text ≡ Ok g → ShowsOnly text d g
+shows_only text d a q =
+    let h = accepted_shown text d a q in
     record { this = h; no_other = λ e p k. one_tree e d p a.keeps.parameters (sym k.nodes ∙ h.nodes) }
+
+-- "its diagram is the one derived": what reading answers for an accepted text is a diagram that shows the tree that derives it, and no other.
+pub accepted_shows_only : (text : List ℕ) (d : Flow) → Accepted text d → (g : Diagram) × (read_of text ≡ Ok g) × ShowsOnly text d g
+accepted_shows_only text d a = let e = accepted_read text d a in (held text d, e, shows_only text d a e)

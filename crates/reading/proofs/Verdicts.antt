@@ -7,17 +7,17 @@ use Prim.Native.Nat.{ℕ, ◌≤◌, ◌<◌}
 use native.Mathlib.Omega.{arith}
 use lib.Dec.{ltb}
 use borrow.Author.Tests.{lt-ltb, le-ltb, ltb-true, ltb-false}
+use Rattle.std.specs.Prelude.{Option, Ok, Err}
+use Rattle.base.specs.Refusals.{refusal}
+use Rattle.base.specs.declared.Reason.{Reason}
 use Rattle.diagram.specs.Tree.{Flow}
 use Rattle.diagram.specs.Count.{flow_copies, flow_events}
 use Rattle.diagram.specs.TreeNodes.{own, nodes_by}
 use Rattle.base.proofs.Truth.{cases}
 use Rattle.grammar.specs.Keys.{keyword_at, name_at}
 use Rattle.rules.specs.Counted.{capped}
-use Rattle.rules.specs.Judged.{refuse, counted, verdict}
+use Rattle.rules.specs.Judged.{Verdict, refuse, counted, verdict}
 use Rattle.rules.specs.Broken.{first_twice, parameters_fit, solids_fit, strongs_fit, first_broken}
-use Rattle.rules.specs.Found.{Found}
-use Rattle.rules.specs.declared.Verdict.{Verdict}
-use Rattle.rules.specs.declared.Verdict.TheVariants.{Kept, Refused}
 use Rattle.rules.proofs.NamesPlaced.{names_placed}
 use Rattle.rules.proofs.ParametersPlaced.{parameters_placed}
 use Rattle.rules.proofs.SolidsPlaced.{solids_placed}
@@ -25,24 +25,24 @@ use Rattle.rules.proofs.StrongsPlaced.{strongs_placed}
 use Rattle.rules.proofs.Totals.{copies_counted, events_counted}
 
 -- Where each rule is broken first.
-abbrev pub twice : Flow → Found
+abbrev pub twice : Flow → Option ℕ
 twice d = first_twice [] (nodes_by (λ h. h) d)
 
-abbrev pub misplaced : Flow → Found
+abbrev pub misplaced : Flow → Option ℕ
 misplaced d = first_broken parameters_fit (nodes_by (λ h. h) d)
 
-abbrev pub unsolid : Flow → Found
+abbrev pub unsolid : Flow → Option ℕ
 unsolid d = first_broken solids_fit (nodes_by (λ h. h) d)
 
-abbrev pub weak : Flow → Found
+abbrev pub weak : Flow → Option ℕ
 weak d = first_broken strongs_fit (nodes_by (λ h. h) d)
 
 abbrev pub tree_verdict : List ℕ → Flow → Verdict
 tree_verdict text d =
-    refuse 7 (name_at text) (twice d)
-    (refuse 8 (keyword_at text) (misplaced d)
-    (refuse 9 (keyword_at text) (unsolid d)
-    (refuse 10 (keyword_at text) (weak d) (counted (capped (flow_copies d)) (capped (flow_events d))))))
+    refuse Reason.Name (name_at text) (twice d)
+    (refuse Reason.Parameter (keyword_at text) (misplaced d)
+    (refuse Reason.Solid (keyword_at text) (unsolid d)
+    (refuse Reason.Weak (keyword_at text) (weak d) (counted (capped (flow_copies d)) (capped (flow_events d))))))
 
 pub tree_judged : (text : List ℕ) (d : Flow) → verdict text (nodes_by own d) ≡ tree_verdict text d
 unfolding verdict
@@ -56,14 +56,20 @@ capped_over k n h = ⊎_elim (λ e. let l = ltb-true 768 n e in rw e (lt-ltb k 7
 capped_small : (n : ℕ) → n ≤ 768 → capped n ≡ n
 capped_small n h = rw (le-ltb 768 n h)
 
+abbrev pub kept : ℕ → ℕ → Verdict
+kept x y = Ok (record { copies = x; events = y })
+
+abbrev many : Verdict
+many = Err (refusal Reason.Count 0)
+
 -- The limits of number 11.
-pub counted_few : (x y : ℕ) → x ≤ 768 → y ≤ 512 → counted (capped x) (capped y) ≡ Kept x y
+pub counted_few : (x y : ℕ) → x ≤ 768 → y ≤ 512 → counted (capped x) (capped y) ≡ kept x y
 counted_few x y h k = rw (capped_small x h, capped_small y (omega arith), le-ltb 768 x h, le-ltb 512 y k)
 
-pub counted_many : (x y : ℕ) → (768 < x) ⊎ (512 < y) → counted (capped x) (capped y) ≡ Refused 11 0
+pub counted_many : (x y : ℕ) → (768 < x) ⊎ (512 < y) → counted (capped x) (capped y) ≡ many
 counted_many x y h = rw (capped_over 768 x (omega arith), capped_over 512 y (omega arith)) (over h)
   where
-    over : (768 < x) ⊎ (512 < y) → cond (ltb 768 x || ltb 512 y) (Refused 11 0) (Kept (capped x) (capped y)) ≡ Refused 11 0
+    over : (768 < x) ⊎ (512 < y) → cond (ltb 768 x || ltb 512 y) many (kept (capped x) (capped y)) ≡ many
     over (inl l) = rw (lt-ltb 768 x l)
     over (inr l) = rw (lt-ltb 512 y l, or-true (ltb 768 x))
 

@@ -1,5 +1,5 @@
 -- Document 01, "Numbers for what is turned away", numbers 2 to 11: the condition of each, with its place, where none before it holds.
-use Rattle.std.specs.Prelude.{◌≡◌, ◌⊎◌, Bool, true, false, List, [], ◌++◌, ℕ, suc, ◌≤◌, ◌<◌, length, get_or, take}
+use Rattle.std.specs.Prelude.{◌≡◌, ◌⊎◌, Bool, true, false, List, [], ◌++◌, ℕ, suc, ◌≤◌, ◌<◌, length, get_or, take, Some}
 use Rattle.diagram.specs.Tree.{Flow}
 use Rattle.diagram.specs.Count.{flow_nodes, flow_copies, flow_events}
 use Rattle.diagram.specs.Depth.{flow_depth}
@@ -14,7 +14,6 @@ use Rattle.tokens.specs.Token.{Token, text_tokens}
 use Rattle.grammar.specs.Derives.{Derives, Viable}
 use Rattle.grammar.specs.Keys.{keyword_at, name_at}
 use Rattle.rules.specs.Broken.{too_big, first_twice, parameters_fit, solids_fit, strongs_fit, first_broken}
-use Rattle.rules.specs.Found.{At}
 
 -- The place of a token, or the text's length where the text ends.
 abbrev pub place_of : List ℕ → ℕ → ℕ
@@ -90,14 +89,14 @@ pub record Derived (text : List ℕ) (d : Flow) : Type 0 where
 pub record Twice (text : List ℕ) (at : ℕ) (d : Flow) : Type 0 where
   pub derived : Derived text d
   pub node : ℕ
-  pub here : first_twice [] (nodes_by (λ h. h) d) ≡ At node
+  pub here : first_twice [] (nodes_by (λ h. h) d) ≡ Some node
   pub place : at ≡ name_at text node
 
 -- The first node that does not pass stands at this place, that of its keyword.
 pub record Breaks (text : List ℕ) (at : ℕ) (d : Flow) (fit : TreeNode → Bool) : Type 0 where
   pub derived : Derived text d
   pub node : ℕ
-  pub here : first_broken fit (nodes_by (λ h. h) d) ≡ At node
+  pub here : first_broken fit (nodes_by (λ h. h) d) ≡ Some node
   pub place : at ≡ keyword_at text node
 
 -- 8: "a parameter rule broken", at the "keyword of the first such node".
