@@ -4,7 +4,7 @@ ghost use Rattle.std.specs.Prelude.{◌≡◌};
 ghost use Rattle.diagram.specs.Stored.{blank_diagram};
 
 // What a node is. A replicator has its size.
-#[derive(Clone, Copy)]
+#[derive(Clone, Copy, Debug, PartialEq, Eq)]
 pub enum Kind {
     Flow,
     Leaf,
@@ -19,7 +19,7 @@ pub enum Kind {
 
 // A node as it stands in the text: `solid` says whether it is a solid child; `strong` whether a flow's sw is 1, and is false for a node that is no
 // flow; `at` is the place of its keyword; `name` is the place of a leaf's or flow's name or of a replicator's par, and 0 for any other node.
-#[derive(Clone, Copy)]
+#[derive(Clone, Copy, Debug, PartialEq, Eq)]
 pub struct Node {
     pub kind: Kind,
     pub solid: bool,
@@ -30,7 +30,7 @@ pub struct Node {
 }
 
 // The nodes of a text in its order, and how many node copies and events they have. Only the first `count` nodes count.
-#[derive(Clone, Copy)]
+#[derive(Clone, Copy, Debug, PartialEq, Eq)]
 pub struct Diagram {
     pub nodes: [Node; 256],
     pub count: usize,
@@ -38,7 +38,7 @@ pub struct Diagram {
     pub events: usize,
 }
 
-// No nodes: what a refused answer carries.
+// No nodes: the diagram of a text is filled from here.
 pub fn empty() -> Diagram
     ensures { result ≡ blank_diagram }
 {
