@@ -5,3 +5,4 @@ pub mod Fields
 pub mod Decided
 pub mod Compared
 pub mod Lists
+pub mod Reports
