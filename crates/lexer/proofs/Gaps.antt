@@ -6,6 +6,9 @@ use Prim.Native.Nat.{ℕ, suc, ◌+◌, ◌≤◌, ◌<◌}
 use native.Mathlib.Nat.{zero-add}
 use native.Mathlib.Numerals.{add-one}
 use native.Mathlib.Omega.{arith}
+use Rattle.std.proofs.Common.{⊎_elim}
+use Rattle.std.proofs.lemmas.Bool.{cases_lt}
+use Rattle.std.proofs.lemmas.List.{get_or_past}
 use lib.Dec.{eqb}
 use lib.ListN.{length, drop, get_or}
 use lib.Seq.{drop-cons, drop-drop}
@@ -106,3 +109,12 @@ module _ (text : List ℕ) where
 
     pub reached_end : length text ≤ i → i ≡ at + blanks (drop at text)
     reached_end h = sym (r.same ∙ stretch_end skipped false text i h)
+
+    pub reached_all : (get_or text i 0 ≡ 35 → ⊥) → i ≡ at + blanks (drop at text)
+    reached_all f = ⊎_elim (λ h. reached_stop h f) (λ h. reached_end h) (cases_lt i (length text))
+
+-- A # stands inside the text.
+pub mark_inside : (text : List ℕ) (i : ℕ) {b : ℕ} → b ≡ get_or text i 0 → b ≡ 35 → (i < length text) × (get_or text i 0 ≡ 35)
+mark_inside text i e q =
+    let m : get_or text i 0 ≡ 35 = sym e ∙ q in
+    (⊎_elim (λ h. h) (λ h. absurd (omega (arith, m, get_or_past text i 0 h))) (cases_lt i (length text)), m)

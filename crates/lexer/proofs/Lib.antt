@@ -1,5 +1,5 @@
 mod Ways
-mod Rows
 mod Along
 pub mod Positions
 mod Gaps
+pub mod Keywords

@@ -2,8 +2,10 @@
 use mathlib.Core.Path.{◌≡◌, refl}
 use mathlib.Core.Bool.{Bool, true, false, cond}
 use mathlib.Core.List.{List, [], ◌∷◌}
-use Prim.Native.Nat.{ℕ, suc, ◌+◌, ◌-◌, ◌≤◌, ◌<◌}
+use Prim.Native.Nat.{ℕ, suc, ◌+◌, ◌-◌, ◌≤◌, ◌<◌, max}
 use native.Mathlib.Omega.{arith}
+use Rattle.std.proofs.Common.{⊎_elim}
+use Rattle.std.proofs.lemmas.Bool.{cases_lt}
 use lib.ListN.{length, drop, get_or, length-drop}
 use Rattle.diagram.specs.Tree.{Name}
 use Rattle.tokens.specs.Classes.{between, class_of, worded}
@@ -63,3 +65,6 @@ module _ (text : List ℕ) (at e : ℕ) (E : e ≡ at + front worded (drop at te
       let f : front worded (drop at text) ≤ 0 = omega arith in
       let l : 0 < length (drop at text) = rw (length-drop at text) (omega arith) in
       rw (width_sign (drop at text) l f)
+
+  pub ends_token : (m : ℕ) → at < length text → m ≡ max e (at + 1) → m ≡ at + width (drop at text)
+  ends_token m h M = ⊎_elim (λ l. omega (arith, ends_word l)) (λ l. omega (arith, ends_sign h l)) (cases_lt at e)

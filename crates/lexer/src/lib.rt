@@ -1,21 +1,21 @@
 #![tactic(auto)]
 
-ghost use Rattle.std.specs.Prelude.{◌≡◌, cond, ◌+◌, ◌-◌, ◌≤◌, ◌<◌, get_or, length, take, drop};
+ghost use Rattle.std.specs.Prelude.{◌≡◌, cond, ℕ, Bool, position, ◌+◌, ◌-◌, ◌≤◌, ◌<◌, get_or, length, take, drop};
 ghost use Rattle.diagram.specs.Names.{same as alike};
 ghost use Rattle.tokens.specs.Classes.{between, class_of, within, worded as worded_byte, unbroken};
 ghost use Rattle.tokens.specs.Remarks.{blanks};
-ghost use Rattle.tokens.specs.Words.{front, word_at, keyword_in, numeral as numeral_of, word_code};
+ghost use Rattle.tokens.specs.Words.{front, word_at, keywords, numeral as numeral_of, word_code};
 ghost use Rattle.tokens.specs.Parts.{Word};
 ghost use Rattle.tokens.specs.Spans.{width, spans_of};
 ghost use Rattle.tokens.specs.Rest.{Next};
 ghost use Rattle.tokens.specs.Scanned.{first_foreign, first_long};
-ghost use Rattle.lexer.specs.Lexicon.{Lexicon, word_in, words_in};
+ghost use Rattle.lexer.specs.Lexicon.{Lexicon};
 
 use tokens::Lexeme;
 
-// The class of each byte: 0 foreign, 1 to 4 the signs ( ) , : in this order, 5 letter, 6 digit, 7 underscore, 8 blank, 9 the start of a remark. Then,
-// from 256 on, a row of 16 numbers for each keyword: how many letters it has, and its letters.
-const LEXICON: [u8; 400] = [
+// Document 01's "constant table of 256 class numbers", the class of each byte: 0 foreign, 1 to 4 the signs ( ) , : in this order, 5 letter, 6 digit,
+// 7 underscore, 8 blank, 9 the start of a remark.
+const CLASSES: [u8; 256] = [
     0, 0, 0, 0, 0, 0, 0, 0, 0, 0, 8, 0, 0, 0, 0, 0, 0, 0, 0, 0, 0, 0, 0, 0, 0, 0, 0, 0, 0, 0, 0, 0,
     8, 0, 0, 9, 0, 0, 0, 0, 1, 2, 0, 0, 3, 0, 0, 0, 6, 6, 6, 6, 6, 6, 6, 6, 6, 6, 4, 0, 0, 0, 0, 0,
     0, 5, 5, 5, 5, 5, 5, 5, 5, 5, 5, 5, 5, 5, 5, 5, 5, 5, 5, 5, 5, 5, 5, 5, 5, 5, 5, 0, 0, 0, 0, 7,
@@ -24,128 +24,181 @@ const LEXICON: [u8; 400] = [
     0, 0, 0, 0, 0, 0, 0, 0, 0, 0, 0, 0, 0, 0, 0, 0, 0, 0, 0, 0, 0, 0, 0, 0, 0, 0, 0, 0, 0, 0, 0, 0,
     0, 0, 0, 0, 0, 0, 0, 0, 0, 0, 0, 0, 0, 0, 0, 0, 0, 0, 0, 0, 0, 0, 0, 0, 0, 0, 0, 0, 0, 0, 0, 0,
     0, 0, 0, 0, 0, 0, 0, 0, 0, 0, 0, 0, 0, 0, 0, 0, 0, 0, 0, 0, 0, 0, 0, 0, 0, 0, 0, 0, 0, 0, 0, 0,
-    4, 102, 108, 111, 119, 0, 0, 0, 0, 0, 0, 0, 0, 0, 0, 0, 4, 108, 101, 97, 102, 0, 0, 0, 0, 0, 0,
-    0, 0, 0, 0, 0, 3, 97, 110, 100, 0, 0, 0, 0, 0, 0, 0, 0, 0, 0, 0, 0, 2, 111, 114, 0, 0, 0, 0, 0,
-    0, 0, 0, 0, 0, 0, 0, 0, 3, 120, 111, 114, 0, 0, 0, 0, 0, 0, 0, 0, 0, 0, 0, 0, 3, 97, 108, 108,
-    0, 0, 0, 0, 0, 0, 0, 0, 0, 0, 0, 0, 4, 115, 111, 109, 101, 0, 0, 0, 0, 0, 0, 0, 0, 0, 0, 0, 3,
-    111, 110, 101, 0, 0, 0, 0, 0, 0, 0, 0, 0, 0, 0, 0, 4, 108, 111, 111, 112, 0, 0, 0, 0, 0, 0, 0,
-    0, 0, 0, 0,
 ];
 
-// The table, made once by who reads a text.
-pub fn lexicon() -> [u8; 400]
-    ensures { Lexicon result }
+// The classes of a byte and the numbers of a token that code asks for; numerals follow `0` by their value.
+pub const FOREIGN: u8 = 0;
+
+pub const OPENING: u8 = 1;
+
+pub const CLOSING: u8 = 2;
+
+pub const COMMA: u8 = 3;
+
+pub const COLON: u8 = 4;
+
+pub const LETTER: u8 = 5;
+
+pub const UNDERSCORE: u8 = 7;
+
+pub const BLANK: u8 = 8;
+
+pub const OTHER: u8 = 5;
+
+pub const NAME: u8 = 6;
+
+pub const FLOW: u8 = 7;
+
+pub const LEAF: u8 = 8;
+
+pub const XOR: u8 = 11;
+
+pub const ALL: u8 = 12;
+
+pub const ONE: u8 = 14;
+
+pub const LOOP: u8 = 15;
+
+pub const ZERO: u8 = 16;
+
+// Past the bytes from `at` on that pass a test.
+fn past<F: Fn(u8) -> bool>(text: &[u8], at: usize, passes: F) -> usize
+    requires { F.IsAlwaysCallable passes }
+    ensures forward { at ≤ result }
+    ensures run { (test : ℕ → Bool) → ((b : ℕ) (r : Bool) → b < 256 → F.post passes b r → r ≡ test b) → result ≡ at + front test (drop at text.now) }
 {
-    LEXICON
+    let rest = &text[at.min(text.len())..];
+    for (i, b) in rest.iter().enumerate() {
+        if !passes(*b) {
+            return at + i;
+        }
+    }
+    at + rest.len()
 }
 
-pub fn class(b: u8, lexicon: &[u8; 400]) -> u8
-    requires { Lexicon lexicon.now }
-    ensures { result ≡ class_of b }
-{
-    lexicon[base::wide(b)]
+// What reads a text: the text, and the table of classes. The table is made once for a text, since a constant table is put on the stack again at every use.
+pub struct Lexer<'a> {
+    pub text: &'a [u8],
+    classes: [u8; 256],
+    ghost known: { Lexicon classes },
 }
 
-// Past the bytes from `at` on whose class is one of those from `low` to `high`.
-fn past(text: &[u8], at: usize, low: u8, high: u8, lexicon: &[u8; 400]) -> usize
-    requires { Lexicon lexicon.now }
-    ensures { result ≡ at + front (within low high) (drop at text.now) }
-{
-    let mut i = at;
-    while i < text.len() {
-        let c = class(text[i], lexicon);
-        if c < low {
-            return i;
+impl<'a> Lexer<'a> {
+    pub fn new(text: &'a [u8]) -> Self
+        ensures { result.text.now ≡ text.now }
+    {
+        Lexer {
+            text,
+            classes: CLASSES,
         }
-        if high < c {
-            return i;
-        }
-        i += 1;
     }
-    i
+
+    pub fn class(&self, b: u8) -> u8
+        ensures { result ≡ class_of b }
+    {
+        self.classes[usize::from(b)]
+    }
+
+    // Past the bytes from `at` on whose class is one of those from `low` to `high`.
+    fn run(&self, at: usize, low: u8, high: u8) -> usize
+        ensures { result ≡ at + front (within low high) (drop at self.now.text.now) }
+    {
+        past(self.text, at, |b| { (low..=high).contains(&self.class(b)) })
+    }
+
+    // Past the blanks and remarks from `at` on: what stands between tokens. A byte that a remark cannot hold ends the gap, and is found foreign there; byte
+    // 10 is a blank again.
+    pub fn gap(&self, at: usize) -> usize
+        ensures { result ≡ at + blanks (drop at self.now.text.now) }
+    {
+        let mut i = self.run(at, BLANK, BLANK);
+        while base::at(self.text, i, 0) == b'#' {
+            let end = past(self.text, i + 1, |b| (32..=126).contains(&b));
+            i = self.run(end, BLANK, BLANK);
+        }
+        i
+    }
+
+    // The end of the tokens that stand side by side from `at` on: where the next gap starts, or the text ends.
+    pub fn run_end(&self, at: usize) -> usize
+        ensures { result ≡ at + front unbroken (drop at self.now.text.now) }
+    {
+        self.run(at, FOREIGN, UNDERSCORE)
+    }
+
+    // The token at a place or after it. Number 0 is none: the text's end, or a foreign byte.
+    pub fn next(&self, at: usize) -> Lexeme
+        ensures { Next self.now.text.now at result }
+    {
+        let start = self.gap(at);
+        if self.text.len() <= start {
+            return Lexeme {
+                code: FOREIGN,
+                start: self.text.len(),
+                end: start,
+            };
+        }
+        let class = self.class(self.text[start]);
+        if class < LETTER {
+            return Lexeme {
+                code: class,
+                start,
+                end: start + 1,
+            };
+        }
+        let end = self.run(start + 1, LETTER, UNDERSCORE);
+        let code = number(&self.text[start..end], class);
+        Lexeme { code, start, end }
+    }
+
+    // The end of the token that starts at `at`: of a word, or past the one byte.
+    fn token_end(&self, at: usize) -> usize
+        requires { at < length self.now.text.now }
+        ensures { result ≡ at + width (drop at self.now.text.now) }
+    {
+        self.run(at, LETTER, UNDERSCORE).max(at + 1)
+    }
+
+    // The place of the first foreign byte, or the text's length.
+    pub fn foreign(&self) -> usize
+        ensures { result ≡ first_foreign self.now.text.now }
+    {
+        let mut place = self.gap(0);
+        while place < self.text.len() {
+            if self.class(self.text[place]) == FOREIGN {
+                return place;
+            }
+            place = self.gap(self.token_end(place));
+        }
+        self.text.len()
+    }
+
+    // The place of the first token of over 24 bytes, or the text's length.
+    pub fn first_long(&self) -> usize
+        ensures { result ≡ first_long (spans_of self.now.text.now) (length self.now.text.now) }
+    {
+        let mut at = self.gap(0);
+        while at < self.text.len() {
+            let end = self.token_end(at);
+            if 24 < end - at {
+                return at;
+            }
+            at = self.gap(end);
+        }
+        self.text.len()
+    }
 }
 
-// Past the bytes from `at` on that a remark may hold.
-fn remark_end(text: &[u8], at: usize) -> usize
-    ensures { result ≡ at + front (between 32 126) (drop at text.now) }
-{
-    let mut i = at;
-    while i < text.len() {
-        let b = text[i];
-        if b < 32 {
-            return i;
-        }
-        if 126 < b {
-            return i;
-        }
-        i += 1;
-    }
-    i
-}
+// The keywords of document 01, in its order.
+const KEYWORDS: [&[u8]; 9] = [
+    b"flow", b"leaf", b"and", b"or", b"xor", b"all", b"some", b"one", b"loop",
+];
 
-// Past the blanks and remarks from `at` on: what stands between tokens. A byte that a remark cannot hold ends the gap, and is found foreign there; byte 10
-// is a blank again.
-pub fn gap(text: &[u8], at: usize, lexicon: &[u8; 400]) -> usize
-    requires { Lexicon lexicon.now }
-    ensures { result ≡ at + blanks (drop at text.now) }
+// Which of the keywords a word is, if it is one.
+fn keyword(word: &[u8]) -> Option<usize>
+    ensures { result ≡ position (alike word.now) keywords }
 {
-    let mut i = past(text, at, 8, 8, lexicon);
-    while i < text.len() {
-        if text[i] != b'#' {
-            return i;
-        }
-        let e = remark_end(text, i + 1);
-        i = past(text, e, 8, 8, lexicon);
-    }
-    i
-}
-
-// The end of the tokens that stand side by side from `at` on: where the next gap starts, or the text ends.
-pub fn run_end(text: &[u8], at: usize, lexicon: &[u8; 400]) -> usize
-    requires { Lexicon lexicon.now }
-    ensures { result ≡ at + front unbroken (drop at text.now) }
-{
-    past(text, at, 0, 7, lexicon)
-}
-
-// Whether the n bytes from `a` on are the word of a row.
-fn row_is(text: &[u8], a: usize, n: usize, lexicon: &[u8; 400], row: usize) -> bool
-    requires { (a + n ≤ length text.now) × (n < 15) × (row + 16 ≤ 400) × (length lexicon.now ≡ 400) }
-    ensures { result ≡ alike (take n (drop a text.now)) (word_in lexicon.now row) }
-{
-    if base::wide(lexicon[row]) != n {
-        return false;
-    }
-    let letters = row + 1;
-    let mut i = 0;
-    while i < n {
-        if text[a + i] != lexicon[letters + i] {
-            return false;
-        }
-        i += 1;
-    }
-    true
-}
-
-// The number of a keyword, and 0 for any other word.
-fn keyword(text: &[u8], a: usize, e: usize, lexicon: &[u8; 400]) -> u8
-    requires { (a ≤ e) × (e ≤ length text.now) × Lexicon lexicon.now }
-    ensures { result ≡ keyword_in (words_in lexicon.now) (take (e - a) (drop a text.now)) }
-{
-    let n = e - a;
-    if 14 < n {
-        return 0;
-    }
-    let mut row = 256;
-    let mut c = 7;
-    while row < 400 {
-        if row_is(text, a, n, lexicon, row) {
-            return c;
-        }
-        row += 16;
-        c += 1;
-    }
-    0
+    KEYWORDS.iter().position(|k| word == *k)
 }
 
 // The number of a digit from `0` to `last`, which is `first` for `0`; 5 for any other byte.
@@ -153,177 +206,44 @@ fn digit(b: u8, last: u8, first: u8) -> u8
     requires { (last < 58) × (first < 200) }
     ensures { result ≡ cond (between 48 last b) (b - 48 + first) 5 }
 {
-    if b < b'0' {
-        return 5;
+    if (b'0'..=last).contains(&b) {
+        b - b'0' + first
+    } else {
+        OTHER
     }
-    if last < b {
-        return 5;
-    }
-    b - b'0' + first
 }
 
 // The number of a numeral from 0 to 16 without leading zero, and 5 for any other word.
-fn numeral(text: &[u8], a: usize, e: usize) -> u8
-    requires { (a < e) × (e ≤ length text.now) }
-    ensures { result ≡ numeral_of (take (e - a) (drop a text.now)) }
+fn numeral(word: &[u8]) -> u8
+    ensures { result ≡ numeral_of word.now }
 {
-    let n = e - a;
-    if n == 1 {
-        return digit(text[a], b'9', 16);
-    }
-    if 2 < n {
-        return 5;
-    }
-    if text[a] != b'1' {
-        return 5;
-    }
-    digit(text[a + 1], b'6', 26)
-}
-
-// The number of the word from `a` to `e`, whose first byte has the class c: a keyword's, 6 for a name, a numeral's, 5 for any other word.
-fn number(text: &[u8], a: usize, e: usize, c: u8, lexicon: &[u8; 400]) -> u8
-    requires { (a < e) × (e ≤ length text.now) × (c ≡ class_of (get_or text.now a 0)) × Lexicon lexicon.now }
-    ensures { result ≡ word_code (take (e - a) (drop a text.now)) }
-{
-    if c != 5 {
-        return numeral(text, a, e);
-    }
-    let k = keyword(text, a, e, lexicon);
-    if 0 < k {
-        return k;
-    }
-    if 24 < e - a {
-        return 5;
-    }
-    6
-}
-
-// The token at a place or after it. Number 0 is none: the text's end, or a foreign byte.
-pub fn next(text: &[u8], at: usize, lexicon: &[u8; 400]) -> Lexeme
-    requires { Lexicon lexicon.now }
-    ensures { Next text.now at result }
-{
-    let start = gap(text, at, lexicon);
-    if text.len() <= start {
-        return Lexeme {
-            code: 0,
-            start: text.len(),
-            end: start,
-        };
-    }
-    let c = class(text[start], lexicon);
-    if c < 5 {
-        return Lexeme {
-            code: c,
-            start: start,
-            end: start + 1,
-        };
-    }
-    let end = past(text, start + 1, 5, 7, lexicon);
-    let code = number(text, start, end, c, lexicon);
-    Lexeme {
-        code: code,
-        start: start,
-        end: end,
+    match word {
+        [b] => digit(*b, b'9', ZERO),
+        [b'1', b] => digit(*b, b'6', ZERO + 10),
+        _ => OTHER,
     }
 }
 
-// The end of the token that starts at `at`: of a word, or past the one byte.
-fn token_end(text: &[u8], at: usize, lexicon: &[u8; 400]) -> usize
-    requires { (at < length text.now) × Lexicon lexicon.now }
-    ensures { result ≡ at + width (drop at text.now) }
+// The number of a word whose first byte has the class c: a keyword's, 6 for a name, a numeral's, 5 for any other word.
+fn number(word: &[u8], class: u8) -> u8
+    requires { (0 < length word.now) × (class ≡ class_of (get_or word.now 0 0)) }
+    ensures { result ≡ word_code word.now }
 {
-    let e = past(text, at, 5, 7, lexicon);
-    if at < e {
-        return e;
+    if class != LETTER {
+        return numeral(word);
     }
-    at + 1
-}
-
-// The place of the first foreign byte, or the text's length.
-pub fn foreign(text: &[u8], lexicon: &[u8; 400]) -> usize
-    requires { Lexicon lexicon.now }
-    ensures { result ≡ first_foreign text.now }
-{
-    let mut place = gap(text, 0, lexicon);
-    while place < text.len() {
-        let c = class(text[place], lexicon);
-        if c == 0 {
-            return place;
-        }
-        let e = token_end(text, place, lexicon);
-        place = gap(text, e, lexicon);
+    match keyword(word) {
+        Some(i) => FLOW + i as u8,
+        None if word.len() <= 24 => NAME,
+        None => OTHER,
     }
-    text.len()
-}
-
-// The place of the first token of over 24 bytes, or the text's length.
-pub fn first_long(text: &[u8], lexicon: &[u8; 400]) -> usize
-    requires { Lexicon lexicon.now }
-    ensures { result ≡ first_long (spans_of text.now) (length text.now) }
-{
-    let mut at = gap(text, 0, lexicon);
-    while at < text.len() {
-        let e = token_end(text, at, lexicon);
-        if 24 < e - at {
-            return at;
-        }
-        at = gap(text, e, lexicon);
-    }
-    text.len()
 }
 
 // Whether a byte is a letter, a digit or an underscore. A few comparisons, for who has no table.
 fn worded(b: u8) -> bool
     ensures { result ≡ worded_byte b }
 {
-    if b'z' < b {
-        return false;
-    }
-    if b'a' <= b {
-        return true;
-    }
-    if b == b'_' {
-        return true;
-    }
-    if b'Z' < b {
-        return false;
-    }
-    if b'A' <= b {
-        return true;
-    }
-    if b'9' < b {
-        return false;
-    }
-    if b < b'0' {
-        return false;
-    }
-    true
-}
-
-// The end of the word that starts at `at`.
-fn word_end(text: &[u8], at: usize) -> usize
-    ensures { result ≡ at + front worded_byte (drop at text.now) }
-{
-    let mut i = at;
-    while i < text.len() {
-        if !worded(text[i]) {
-            return i;
-        }
-        i += 1;
-    }
-    i
-}
-
-// The first byte of the word that starts at `at`; 0, which no word has, where none starts.
-fn letter(text: &[u8], at: usize) -> u8
-    ensures { result ≡ get_or (word_at text.now at) 0 0 }
-{
-    let b = base::byte(text, at);
-    if worded(b) {
-        return b;
-    }
-    0
+    b.is_ascii_alphanumeric() || b == b'_'
 }
 
 // The word that starts at `at`, as that very part of the text; an empty part where the text ends before it.
@@ -333,25 +253,13 @@ pub fn word(text: &[u8], at: usize) -> &[u8]
     if text.len() < at {
         return &text[..0];
     }
-    let end = word_end(text, at);
+    let end = past(text, at, worded);
     &text[at..end]
 }
 
-// Whether the words that start at two places are the same, byte by byte up to the first that differs.
+// Whether the words that start at two places are the same.
 pub fn same(text: &[u8], a: usize, b: usize) -> bool
     ensures { result ≡ alike (word_at text.now a) (word_at text.now b) }
 {
-    let mut p = a;
-    let mut q = b;
-    loop {
-        let x = letter(text, p);
-        if x != letter(text, q) {
-            return false;
-        }
-        if x == 0 {
-            return true;
-        }
-        p += 1;
-        q += 1;
-    }
+    word(text, a) == word(text, b)
 }

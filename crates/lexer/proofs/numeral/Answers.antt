@@ -1,30 +1,42 @@
 -- `lexer::numeral` meets its contract: by the number of its bytes.
-use mathlib.Core.Path.{sym, ap, ◌∙◌}
-use native.Mathlib.Numerals.{add-one}
-use native.Mathlib.Omega.{arith}
-use lib.ListN.{length-take, length-drop}
+use Rattle.std.proofs.Common.{◌≡◌, ℕ, ◌+◌, ◌-◌, ◌<◌, ◌≤◌, cond, List, [], ◌∷◌, length, get_or, sym, ap, ◌∙◌, refl, arith, rules}
+use Rattle.tokens.specs.Classes.{between}
 use Rattle.tokens.specs.Words.{numeral}
-use Rattle.tokens.proofs.WordCodes.{one_digit, two_digits, no_one, no_longer, one_byte, two_bytes}
+use Rattle.tokens.proofs.WordCodes.{one_digit, two_digits, no_one, no_longer}
 use Rattle.lexer.proofs.numeral.Goals as goal
 
-pub returns-then-n-eq1 : goal.returns-then-n-eq1
-returns-then-n-eq1 c =
-    let a = c.args in
-    c.digit.ensures ∙ sym (ap numeral (one_byte a.text.now a.a a.e c.requires.1 c.if-n-eq1.true) ∙ one_digit _)
+empty : (w : List ℕ) → length w < 1 → 5 ≡ numeral w
+unfolding numeral
+empty [] h = refl
+empty (x ∷ w) h = absurd (omega arith)
 
-pub returns-then-n-gt2 : goal.returns-then-n-gt2
-returns-then-n-gt2 c =
-    let a = c.args in
-    sym (no_longer _ (simp (length-take, length-drop) (omega (arith, c.requires.0, c.requires.1, c.if-n-gt2.true))))
+one : (w : List ℕ) → 1 ≤ length w → length w < 2 → numeral w ≡ cond (between 48 57 (get_or w 0 0)) (get_or w 0 0 - 48 + 16) 5
+one [] h l = absurd (omega arith)
+one (x ∷ []) h l = one_digit x
+one (x ∷ y ∷ w) h l = absurd (omega arith)
 
-pub returns-then-text-a-ne49 : goal.returns-then-text-a-ne49
-returns-then-text-a-ne49 c =
-    let a = c.args in
-    let n = two_bytes a.text.now a.a a.e c.requires.1 (omega (arith, c.requires.0, c.if-n-gt2.false, c.if-n-eq1.false)) in
-    sym (ap numeral n ∙ no_one _ _ c.if-text-a-ne49.true)
+two : (w : List ℕ) → 2 ≤ length w → length w < 3 → w ≡ get_or w 0 0 ∷ get_or w 1 0 ∷ []
+two [] h l = absurd (omega arith)
+two (x ∷ []) h l = absurd (omega arith)
+two (x ∷ y ∷ []) h l = refl
+two (x ∷ y ∷ z ∷ w) h l = absurd (omega arith)
 
-pub returns : goal.returns
-returns c =
-    let a = c.args in
-    let n = two_bytes a.text.now a.a a.e c.requires.1 (omega (arith, c.requires.0, c.if-n-gt2.false, c.if-n-eq1.false)) in
-    c.digit-2.ensures ∙ rw (add-one a.a, n, c.if-text-a-ne49.false) (sym (two_digits _))
+pub returns-in-len1 : goal.returns-in-len1
+returns-in-len1 c = c.digit.ensures ∙ sym (one _ c.in-len1.len_at_least c.in-len1.len_below)
+
+pub returns-in-49 : goal.returns-in-49
+returns-in-49 c =
+    let one : get_or c.args.word.now 0 0 ≡ 49 = search rules in
+    let e = two _ c.in-49.len_at_least c.in-49.len_below in
+    c.digit-in-49.ensures ∙ sym (ap numeral e ∙ rw one (two_digits _))
+
+pub returns-in_default : goal.returns-in_default
+returns-in_default c = empty _ c.in_default.len_below
+
+pub returns-in_default-2 : goal.returns-in_default-2
+returns-in_default-2 c =
+    let e = two _ c.in_default.len_at_least c.in_default.len_below in
+    sym (ap numeral e ∙ no_one _ _ (λ q. search rules))
+
+pub returns-in_default-3 : goal.returns-in_default-3
+returns-in_default-3 c = sym (no_longer _ (omega (arith, c.in_default.len_at_least)))

@@ -1,13 +1,8 @@
--- `lexer::past` meets its contract. The loop's invariant: the same place is reached from `at` and from `i`.
-use Prim.Native.Nat.{◌+◌, ◌-◌}
-use mathlib.Core.Path.{◌≡◌}
-use lib.ListN.{length, drop}
-use Rattle.tokens.specs.Classes.{within}
+-- The run of bytes from `at` on starts with those that were looked at.
+use Rattle.std.proofs.Common.{◌≡◌, ℕ, ◌+◌, ◌<◌, Bool, drop}
 use Rattle.tokens.specs.Words.{front}
 use Rattle.lexer.proofs.past.Given as goal
 
 abbrev pub invariant-loop-i : goal.invariant-loop-i
-invariant-loop-i l = l.at + front (within l.low l.high) (drop l.at l.text) ≡ l.i + front (within l.low l.high) (drop l.i l.text)
-
-abbrev pub decreases-loop-i : goal.decreases-loop-i
-decreases-loop-i l = length l.text - l.i
+invariant-loop-i g l =
+    (test : ℕ → Bool) → ((b : ℕ) (r : Bool) → b < 256 → goal.F-post g l.passes b r → r ≡ test b) → front test l.rest ≡ l.i + front test (drop l.i l.rest)
