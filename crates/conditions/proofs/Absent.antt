@@ -1,18 +1,18 @@
--- Whether a condition always holds, by the last number of a process and by its parts.
+-- Whether a condition always holds, by a process's own code and by its parts.
 use mathlib.Core.Path.{◌≡◌, refl, sym, ◌∙◌}
 use mathlib.Core.Bool.{Bool, true, false, ◌&&◌, ◌||◌, or-false}
 use mathlib.Core.List.{List}
-use Prim.Native.Nat.{ℕ, ◌-◌, ◌≤◌, ◌<◌}
-use native.Mathlib.Omega.{arith}
-use lib.Dec.{eqb}
-use lib.ListN.{length, get_or, take, drop}
-use borrow.Author.Tests.{eq-eqb, ne_eqb}
+use Prim.Native.Nat.{ℕ}
+use lib.ListN.{take, drop}
 use Rattle.process.specs.Process.{Joint, seq, and, or, xor, Process, event, join, again, rounds}
+use Rattle.postfix.specs.declared.Code.{Code}
+use Rattle.postfix.specs.declared.Code.TheVariants.{Leaf, Again, Rounds}
 use Rattle.postfix.specs.Postfix.{postfix, joint_code}
 use Rattle.parts.specs.code.Cuts.{second_begins}
-use Rattle.parts.proofs.Ends.{own, inner, some_number, last_is, inner_is, first_part, second_part, joint_high}
+use Rattle.parts.proofs.Ends.{own, inner}
 use Rattle.formulas.specs.Conditions.{begun_when, idle_when, Condition, always, when, meet, choice, complete_when, settled_when}
-use Rattle.conditions.specs.code.Asked.{absent, wanted, joint_lacks}
+use Rattle.conditions.specs.code.Asked.{absent, wanted, of_parts, joint_lacks}
+use Rattle.conditions.proofs.Split.{first_part, second_part, not_leaf, not_again, not_rounds}
 
 -- ---- conditions joined
 meet_absent : (c d : Condition) → (absent c && absent d) ≡ absent (meet c d)
@@ -25,25 +25,32 @@ choice_absent always d = refl
 choice_absent (when f) always = refl
 choice_absent (when f) (when g) = refl
 
--- ---- by the last number
-leaf_own : (p : Process) (settled : Bool) → own p ≤ 1 → (settled || eqb (own p) 1) ≡ absent (wanted settled p)
+-- ---- by the own code
+pub leaf_lacks : (p : Process) (settled : Bool) → Leaf ≡ own p → settled ≡ absent (wanted settled p)
 unfolding complete_when settled_when
-leaf_own (event n l) true h = refl
-leaf_own (event n l) false h = refl
-leaf_own (again n l) true h = refl
-leaf_own (again n l) false h = refl
-leaf_own (rounds p r l) settled h = let z : ⊥ = omega arith in absurd z
-leaf_own (join j p q) settled h = let z : ⊥ = omega (arith, joint_high j) in absurd z
+leaf_lacks (event n l) true h = refl
+leaf_lacks (event n l) false h = refl
+leaf_lacks (again n l) settled h = cc
+leaf_lacks (rounds p r l) settled h = cc
+leaf_lacks (join j p q) settled h = absurd (not_leaf j h)
 
-rounds_own : (p : Process) (settled lack : Bool) → own p ≡ 2 → ((q : Process) → inner p ≡ postfix q → lack ≡ absent (wanted true q)) → lack ≡ absent (wanted settled p)
+pub again_lacks : (p : Process) (settled : Bool) → Again ≡ own p → true ≡ absent (wanted settled p)
 unfolding complete_when settled_when
-rounds_own (rounds p r l) true lack h f = f p refl
-rounds_own (rounds p r l) false lack h f = f p refl
-rounds_own (event n l) settled lack h f = let z : ⊥ = omega arith in absurd z
-rounds_own (again n l) settled lack h f = let z : ⊥ = omega arith in absurd z
-rounds_own (join j p q) settled lack h f = let z : ⊥ = omega (arith, joint_high j) in absurd z
+again_lacks (again n l) true h = refl
+again_lacks (again n l) false h = refl
+again_lacks (event n l) settled h = cc
+again_lacks (rounds p r l) settled h = cc
+again_lacks (join j p q) settled h = absurd (not_again j h)
 
-joint_absent : (j : Joint) (settled a b : Bool) (p q : Process) → a ≡ absent (wanted (eqb (joint_code j) 5) p) → b ≡ absent (wanted (eqb (joint_code j) 5) q)
+pub rounds_lacks : (p : Process) (settled lack : Bool) → Rounds ≡ own p → ((q : Process) → inner p ≡ postfix q → lack ≡ absent (wanted true q)) → lack ≡ absent (wanted settled p)
+unfolding complete_when settled_when
+rounds_lacks (rounds p r l) true lack h f = f p refl
+rounds_lacks (rounds p r l) false lack h f = f p refl
+rounds_lacks (event n l) settled lack h f = cc
+rounds_lacks (again n l) settled lack h f = cc
+rounds_lacks (join j p q) settled lack h f = absurd (not_rounds j h)
+
+joint_absent : (j : Joint) (settled a b : Bool) (p q : Process) → a ≡ absent (wanted (of_parts (joint_code j)) p) → b ≡ absent (wanted (of_parts (joint_code j)) q)
     → joint_lacks (joint_code j) settled a b ≡ absent (wanted settled (join j p q))
 unfolding complete_when settled_when
 joint_absent seq false a b p q g h = rw (g, h) (meet_absent (complete_when p) (complete_when q))
@@ -58,39 +65,14 @@ joint_absent or true a b p q g h = rw (g, h) (meet_absent (settled_when p) (sett
 joint_absent xor true a b p q g h =
     rw (g, h) (choice_absent (complete_when p) (complete_when q) ∙ (sym (or-false _) ∙ choice_absent (choice (complete_when p) (complete_when q)) (when (idle_when (join xor p q)))))
 
--- ---- as the code finds it
-module _ (cs : List ℕ) (settled : Bool) (p : Process) (e : cs ≡ postfix p) where
-  abbrev code : ℕ
-  code = get_or cs (length cs - 1) 0
-
-  pub some_code : length cs ≡ 0 → ⊥
-  some_code z = omega (arith, some_number cs p e)
-
-  pub leaf_lacks : code ≤ 1 → (settled || eqb code 1) ≡ absent (wanted settled p)
-  leaf_lacks h = rw (last_is cs p e) (leaf_own p settled (rw (last_is cs p e) at h))
-
-  pub rounds_lacks : (lack : Bool) → code ≡ 2 → ((q : Process) → take (length cs - 1) cs ≡ postfix q → lack ≡ absent (wanted true q)) → lack ≡ absent (wanted settled p)
-  rounds_lacks lack h f = rounds_own p settled lack (sym (last_is cs p e) ∙ h) (λ q g. f q (inner_is cs p e ∙ g))
-
-pub parts_lack : (cs : List ℕ) (settled a b : Bool) (m : ℕ) (p : Process) → cs ≡ postfix p → 1 < get_or cs (length cs - 1) 0 → (get_or cs (length cs - 1) 0 ≡ 2 → ⊥)
-    → m ≡ second_begins (take (length cs - 1) cs)
-    → ((q : Process) → take m cs ≡ postfix q → a ≡ absent (wanted (eqb (get_or cs (length cs - 1) 0) 5) q))
-    → ((q : Process) → take (length cs - 1 - m) (drop m cs) ≡ postfix q → b ≡ absent (wanted (eqb (get_or cs (length cs - 1) 0) 5) q))
-    → joint_lacks (get_or cs (length cs - 1) 0) settled a b ≡ absent (wanted settled p)
-parts_lack cs settled a b m (event n l) e h k s f g = let z : ⊥ = omega (arith, h, last_is cs (event n l) e) in absurd z
-parts_lack cs settled a b m (again n l) e h k s f g = let z : ⊥ = omega (arith, h, last_is cs (again n l) e) in absurd z
-parts_lack cs settled a b m (rounds p r l) e h k s f g = absurd (k (last_is cs (rounds p r l) e))
-parts_lack cs settled a b m (join j p q) e h k s f g =
-    let c = last_is cs (join j p q) e in
-    rw c (joint_absent j settled a b p q (rw c at (f p (first_part cs j p q e m s))) (rw c at (g q (second_part cs j p q e m s))))
-
--- ---- by the tests that the code makes of a joint's number
-module _ (code : ℕ) (settled a b : Bool) where
-  pub xor_lacks : code ≡ 6 → (a || b) ≡ joint_lacks code settled a b
-  xor_lacks e = rw e
-
-  pub or_lacks : (code ≡ 6 → ⊥) → code ≡ 5 → (settled && (a && b)) ≡ joint_lacks code settled a b
-  or_lacks n e = rw (ne_eqb code 6 n, eq-eqb code 5 e)
-
-  pub other_lacks : (code ≡ 6 → ⊥) → (code ≡ 5 → ⊥) → (a && b) ≡ joint_lacks code settled a b
-  other_lacks n m = rw (ne_eqb code 6 n, ne_eqb code 5 m)
+-- ---- by the parts
+pub parts_lack : (code : Code) (rest : List Code) (settled a b : Bool) (m : ℕ) (p : Process) → code ≡ own p → rest ≡ inner p
+    → (code ≡ Leaf → ⊥) → (code ≡ Again → ⊥) → (code ≡ Rounds → ⊥) → m ≡ second_begins rest
+    → ((q : Process) → take m rest ≡ postfix q → a ≡ absent (wanted (of_parts code) q))
+    → ((q : Process) → drop m rest ≡ postfix q → b ≡ absent (wanted (of_parts code) q))
+    → joint_lacks code settled a b ≡ absent (wanted settled p)
+parts_lack code rest settled a b m (event n l) o i x y z s f g = absurd (x o)
+parts_lack code rest settled a b m (again n l) o i x y z s f g = absurd (y o)
+parts_lack code rest settled a b m (rounds p r l) o i x y z s f g = absurd (z o)
+parts_lack code rest settled a b m (join j p q) o i x y z s f g =
+    rw o (joint_absent j settled a b p q (rw o at (f p (first_part rest p q i m s))) (rw o at (g q (second_part rest p q i m s))))

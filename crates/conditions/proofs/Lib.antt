@@ -1,4 +1,5 @@
-pub mod Absent
-pub mod Shapes
+pub mod Split
+mod Absent
+mod Shapes
 pub mod Phrases
-pub mod Written
+mod Written

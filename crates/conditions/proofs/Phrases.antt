@@ -4,12 +4,12 @@ use mathlib.Core.Bool.{Bool, true, false, not, ◌&&◌, cond, true≢false}
 use mathlib.Core.List.{List, [], ◌++◌, append_assoc, append-nil}
 use Prim.Native.Nat.{ℕ, ◌-◌}
 use native.Mathlib.Omega.{arith}
-use lib.Dec.{eqb}
 use lib.ListN.{length}
 use Rattle.base.specs.Text.{bytes}
 use Rattle.process.specs.Process.{Joint, seq, and, or, xor, Process, join, events}
 use Rattle.process.proofs.Numbered.{Numbered, size_events}
 use Rattle.process.proofs.Cleared.{first_lowest}
+use Rattle.postfix.specs.declared.Code.TheVariants.{Or}
 use Rattle.postfix.specs.Postfix.{postfix, joint_code}
 use Rattle.parts.specs.code.Cuts.{event_count}
 use Rattle.parts.proofs.Cut.{count_is}
@@ -17,7 +17,7 @@ use Rattle.formulas.specs.Formulas.{Formula}
 use Rattle.formulas.specs.Lines.{Naming, formula}
 use Rattle.formulas.specs.Conditions.{begun_when, idle_when, Condition, always, when, meet, choice, complete_when, settled_when}
 use Rattle.variables.specs.code.Spelled.{connective, over}
-use Rattle.conditions.specs.code.Asked.{absent, wanted, condition, of_parts, shape_by, shape_of, before_parts, opening, between, after_parts, closing}
+use Rattle.conditions.specs.code.Asked.{absent, wanted, condition, of_parts, choosing, shape_by, shape_of, up_to, opening, between, from_on, closing}
 use Rattle.conditions.specs.declared.Shape.{Shape}
 
 -- ---- the variables of a process
@@ -90,10 +90,10 @@ begun_and v begun c d h =
 -- An `or` that is asked to be complete: a part has begun, and where there is something to be asked of them, the parts.
 module _ (v : Naming) (lo second first after : ℕ) where
   abbrev or_shape : Condition → Condition → Shape
-  or_shape c d = shape_by false 5 second first after (absent c) (absent d)
+  or_shape c d = shape_by false Or second first after (absent c) (absent d)
 
   and_begun : (c d : Condition)
-      → before_parts v (or_shape c d) lo ++ (inside v false c d ++ after_parts v (or_shape c d) lo) ≡ condition v (meet (when (over true lo after)) (meet c d))
+      → up_to v (or_shape c d).around lo after ++ (inside v false c d ++ from_on v (or_shape c d).around lo after) ≡ condition v (meet (when (over true lo after)) (meet c d))
   unfolding formula
   and_begun always always = append-nil (formula v (over true lo after))
   and_begun always (when g) = begun_and v (over true lo after) always (when g) refl
@@ -110,11 +110,11 @@ module _ (v : Naming) (p q : Process) (lo : ℕ) where
 
   -- By what stands around the parts.
   grouped : (settled : Bool) (j : Joint)
-      → written settled j ≡ before_parts v (shape_of settled j p q) lo ++ (inside v (eqb (joint_code j) 6) (wanted (of_parts (joint_code j)) p) (wanted (of_parts (joint_code j)) q) ++ after_parts v (shape_of settled j p q) lo)
+      → written settled j ≡ up_to v (shape_of settled j p q).around lo (shape_of settled j p q).after ++ (inside v (choosing (joint_code j)) (wanted (of_parts (joint_code j)) p) (wanted (of_parts (joint_code j)) q) ++ from_on v (shape_of settled j p q).around lo (shape_of settled j p q).after)
   grouped settled j =
       let s = shape_of settled j p q in
       let k = of_parts (joint_code j) in
-      regrouped (before_parts v s lo) (cond s.pair (bytes "(") []) (condition v (wanted k p)) (between s) (condition v (wanted k q)) (cond s.pair (bytes ")") []) (after_parts v s lo)
+      regrouped (up_to v s.around lo s.after) (cond s.pair (bytes "(") []) (condition v (wanted k p)) (between s) (condition v (wanted k q)) (cond s.pair (bytes ")") []) (from_on v s.around lo s.after)
 
   abbrev idle_over_of : Joint → Formula
   idle_over_of j = over false lo (event_count (postfix (join j p q)) - 1)

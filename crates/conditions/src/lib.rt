@@ -1,219 +1,206 @@
-#![tactic(auto)]
+#![tactic(auto, using(output::proofs::Buffers::put_all_append), unfolding(output::specs::Buffer::put_all))]
 
-ghost use Rattle.std.specs.Prelude.{◌≡◌, cond, [], ◌+◌, ◌-◌, ◌≤◌, ◌<◌, length};
-ghost use Rattle.output.specs.Buffer.{buffer, put_all};
-ghost use Rattle.process.specs.Process.{Joint, Process, join};
+ghost use Rattle.std.specs.Prelude.{◌≡◌, cond, [], ◌++◌, ◌+◌, ◌≤◌, ◌<◌, length};
+ghost use Rattle.output.specs.Writes.{Writes};
+ghost use Rattle.process.specs.Process.{Joint, Process};
 ghost use Rattle.process.proofs.Numbered.{Numbered};
-ghost use Rattle.postfix.specs.Postfix.{postfix};
-ghost use Rattle.variables.specs.code.Spelled.{spelled};
-ghost use Rattle.conditions.specs.code.Asked.{absent, wanted, joint_lacks as joint_lacks_of, form as form_of, shape_of, Inside, before_parts, opening, between as between_parts, after_parts, closing, condition};
+ghost use Rattle.postfix.specs.Postfix.{postfix, joint_code};
+ghost use Rattle.variables.specs.code.Spelled.{naming};
+ghost use Rattle.conditions.specs.code.Asked.{absent, wanted, of_parts as settled_parts, choosing as choosing_code, joint_lacks as joint_lacks_of, around as around_of, shape_of, Inside, up_to, from_on, opening, between as between_parts, closing, condition};
 
-use variables::Variables;
+use output::Writer;
+use postfix::Code;
+use variables::Spelling;
+
+// What stands around the condition on the parts of a joint: nothing; "or none begun"; only that a part has begun; that and the parts.
+#[derive(Clone, Copy, Debug, PartialEq, Eq)]
+pub enum Frame {
+    Nothing,
+    OrIdle,
+    Begun,
+    AndBegun,
+}
 
 // How the condition on a joint is put: where its second part begins, how many events the first part has and how many come after the first event of both, whether both
-// parts have a condition and whether either is enough; and what stands around them: nothing, 0; "or none begun", 1; only that a part has begun, 2; that and the parts, 3.
-#[derive(Clone, Copy)]
+// parts have a condition and whether either is enough, and what stands around them.
+#[derive(Clone, Copy, Debug, PartialEq, Eq)]
 pub struct Shape {
     pub second: usize,
     pub first: usize,
     pub after: usize,
     pub pair: bool,
     pub either: bool,
-    pub form: u8,
+    pub around: Frame,
+}
+
+// Whether the parts of a joint are asked to be settled; else they are asked to be complete.
+fn of_parts(code: Code) -> bool
+    ensures { result ≡ settled_parts code }
+{
+    matches!(code, Code::Or)
+}
+
+// Whether the condition on either part is enough.
+fn choosing(code: Code) -> bool
+    ensures { result ≡ choosing_code code }
+{
+    matches!(code, Code::Xor)
 }
 
 // Whether the condition on a joint always holds, where that on its first and that on its second part does.
-fn joint_lacks(code: u8, settled: bool, a: bool, b: bool) -> bool
+fn joint_lacks(code: Code, settled: bool, a: bool, b: bool) -> bool
     ensures { result ≡ joint_lacks_of code settled a b }
 {
-    if code == postfix::XOR {
-        return a | b;
+    match code {
+        Code::Xor => a | b,
+        Code::Or => settled & (a & b),
+        _ => a & b,
     }
-    if code == postfix::OR {
-        return settled & (a & b);
-    }
-    a & b
 }
 
 // Whether the condition that a process is settled, or that it is complete, always holds.
-pub fn lacks(codes: &[u8], settled: bool) -> bool
+pub fn lacks(codes: &[Code], settled: bool) -> bool
     ensures { (p : Process) → codes.now ≡ postfix p → result ≡ absent (wanted settled p) }
 {
-    let n = codes.len();
-    if n == 0 {
+    let Some((last, inner)) = codes.split_last() else {
         return true;
+    };
+    let code = *last;
+    match code {
+        Code::Leaf => settled,
+        Code::Again => true,
+        Code::Rounds => lacks(inner, true),
+        _ => {
+            let (first, second) = inner.split_at(parts::second(inner));
+            let asked = of_parts(code);
+            let a = lacks(first, asked);
+            let b = lacks(second, asked);
+            joint_lacks(code, settled, a, b)
+        }
     }
-    let last = n - 1;
-    let code = codes[last];
-    if code <= postfix::AGAIN {
-        return settled | (code == postfix::AGAIN);
-    }
-    if code == postfix::ROUNDS {
-        return lacks(&codes[..last], true);
-    }
-    let m = parts::second(&codes[..last]);
-    let a = lacks(&codes[..m], code == postfix::OR);
-    let b = lacks(&codes[m..last], code == postfix::OR);
-    joint_lacks(code, settled, a, b)
 }
 
 // What stands around the condition on the parts.
-fn form(code: u8, settled: bool, lack: bool) -> u8
-    ensures { result ≡ form_of code settled lack }
+fn around(code: Code, settled: bool, lack: bool) -> Frame
+    ensures { result ≡ around_of code settled lack }
 {
-    if code != postfix::OR {
-        if settled {
-            return 1;
-        }
-        return 0;
+    match code {
+        Code::Or if settled => Frame::Nothing,
+        Code::Or if lack => Frame::Begun,
+        Code::Or => Frame::AndBegun,
+        _ if settled => Frame::OrIdle,
+        _ => Frame::Nothing,
     }
-    if settled {
-        return 0;
-    }
-    if lack {
-        return 2;
-    }
-    3
 }
 
-// The shape of a joint's condition; of anything else nothing is said.
-fn shaped(codes: &[u8], settled: bool) -> Shape
-    ensures value { (j : Joint) (p q : Process) → codes.now ≡ postfix (join j p q) → result ≡ shape_of settled j p q }
-    ensures inside { Inside codes.now result }
+// The shape of the condition on a joint, of its code and those before it; of anything else nothing is said.
+fn shaped(code: Code, inner: &[Code], settled: bool) -> Shape
+    ensures value { (j : Joint) (p q : Process) → code ≡ joint_code j → inner.now ≡ postfix p ++ postfix q → result ≡ shape_of settled j p q }
+    ensures inside { Inside inner.now result }
 {
-    let n = codes.len();
-    if n == 0 {
-        return Shape {
-            second: 0,
-            first: 0,
-            after: 0,
-            pair: false,
-            either: false,
-            form: 0,
-        };
-    }
-    let last = n - 1;
-    let code = codes[last];
-    let m = parts::second(&codes[..last]);
-    let a = lacks(&codes[..m], code == postfix::OR);
-    let b = lacks(&codes[m..last], code == postfix::OR);
+    let (first, second) = inner.split_at(parts::second(inner));
+    let asked = of_parts(code);
+    let a = lacks(first, asked);
+    let b = lacks(second, asked);
     Shape {
-        second: m,
-        first: parts::events(&codes[..m]),
-        after: parts::after(codes),
+        second: first.len(),
+        first: parts::events(first),
+        after: parts::after(inner),
         pair: !a & !b,
-        either: code == postfix::XOR,
-        form: form(code, settled, a & b),
+        either: choosing(code),
+        around: around(code, settled, a & b),
     }
 }
 
-// A sign, if it is there.
-fn sign(there: bool, bytes: &[u8], out: &mut [u8], at: usize) -> usize
-    ensures { buffer result out.new ≡ put_all (cond there bytes.now []) (buffer at out.old) }
+// Bytes, if they are there.
+fn sign(there: bool, bytes: &[u8]) -> &[u8]
+    ensures { result.now ≡ cond there bytes.now [] }
 {
-    variables::one_of(there, bytes, b"", out, at)
+    if there { bytes } else { b"" }
 }
 
-// What stands around the condition on the parts, up to it.
-fn begin(text: &[u8], v: Variables, s: Shape, from: usize, out: &mut [u8], at: usize) -> usize
-    ensures { from + s.after < 512 → buffer result out.new ≡ put_all (before_parts (spelled text.now v) s from) (buffer at out.old) }
-{
-    if s.form == 1 {
-        return output::bytes(out, at, b"(");
+impl Shape {
+    // What stands around the condition on the parts, up to it.
+    fn begin(self, from: usize, spelling: &Spelling, w: &mut Writer)
+        ensures { from + self.after < 512 → Writes w.old w.new (up_to (naming spelling.now) self.around from self.after) }
+    {
+        match self.around {
+            Frame::Nothing => (),
+            Frame::OrIdle => w.bytes(b"("),
+            Frame::Begun => spelling.range(from, self.after, true, w),
+            Frame::AndBegun => {
+                w.bytes(b"(");
+                spelling.range(from, self.after, true, w);
+                w.bytes(b" & ")
+            }
+        }
     }
-    if s.form == 2 {
-        return variables::range(text, v, from, s.after, true, out, at);
-    }
-    if s.form == 3 {
-        let a = output::bytes(out, at, b"(");
-        let b = variables::range(text, v, from, s.after, true, out, a);
-        return output::bytes(out, b, b" & ");
-    }
-    at
-}
 
-// What stands before the condition on the first part.
-fn open(text: &[u8], v: Variables, s: Shape, from: usize, out: &mut [u8], at: usize) -> usize
-    ensures { from + s.after < 512 → buffer result out.new ≡ put_all (opening (spelled text.now v) s from) (buffer at out.old) }
-{
-    let a = begin(text, v, s, from, out, at);
-    sign(s.pair, b"(", out, a)
-}
-
-// What stands between the conditions on the two parts.
-fn between(s: Shape, out: &mut [u8], at: usize) -> usize
-    ensures { buffer result out.new ≡ put_all (between_parts s) (buffer at out.old) }
-{
-    if s.pair {
-        return variables::connective(s.either, out, at);
+    // What stands before the condition on the first part.
+    fn open(self, from: usize, spelling: &Spelling, w: &mut Writer)
+        ensures { from + self.after < 512 → Writes w.old w.new (opening (naming spelling.now) self from) }
+    {
+        self.begin(from, spelling, w);
+        w.bytes(sign(self.pair, b"("));
     }
-    at
-}
 
-// What stands around the condition on the parts, from it on.
-fn finish(text: &[u8], v: Variables, s: Shape, from: usize, out: &mut [u8], at: usize) -> usize
-    ensures { from + s.after < 512 → buffer result out.new ≡ put_all (after_parts (spelled text.now v) s from) (buffer at out.old) }
-{
-    if s.form == 1 {
-        let a = output::bytes(out, at, b" or ");
-        let b = variables::range(text, v, from, s.after, false, out, a);
-        return output::bytes(out, b, b")");
+    // What stands between the conditions on the two parts.
+    fn between(self) -> &'static [u8]
+        ensures { result.now ≡ between_parts self }
+    {
+        sign(self.pair, variables::connective(self.either))
     }
-    sign(s.form == 3, b")", out, at)
-}
 
-// What stands after the condition on the second part.
-fn close(text: &[u8], v: Variables, s: Shape, from: usize, out: &mut [u8], at: usize) -> usize
-    ensures { from + s.after < 512 → buffer result out.new ≡ put_all (closing (spelled text.now v) s from) (buffer at out.old) }
-{
-    let a = sign(s.pair, b")", out, at);
-    finish(text, v, s, from, out, a)
+    // What stands around the condition on the parts, from it on.
+    fn finish(self, from: usize, spelling: &Spelling, w: &mut Writer)
+        ensures { from + self.after < 512 → Writes w.old w.new (from_on (naming spelling.now) self.around from self.after) }
+    {
+        match self.around {
+            Frame::Nothing | Frame::Begun => (),
+            Frame::OrIdle => {
+                w.bytes(b" or ");
+                spelling.range(from, self.after, false, w);
+                w.bytes(b")")
+            }
+            Frame::AndBegun => w.bytes(b")"),
+        }
+    }
+
+    // What stands after the condition on the second part.
+    fn close(self, from: usize, spelling: &Spelling, w: &mut Writer)
+        ensures { from + self.after < 512 → Writes w.old w.new (closing (naming spelling.now) self from) }
+    {
+        w.bytes(sign(self.pair, b")"));
+        self.finish(from, spelling, w);
+    }
 }
 
 // The condition that a process is settled, or that it is complete; nothing where it always holds. The first event is number `from`, and there are at most 512.
-pub fn write(
-    text: &[u8],
-    v: Variables,
-    codes: &[u8],
-    from: usize,
-    settled: bool,
-    out: &mut [u8],
-    at: usize,
-) -> usize
-    ensures { (p : Process) → codes.now ≡ postfix p → Numbered p from → from + length codes.now ≤ 512
-        → buffer result out.new ≡ put_all (condition (spelled text.now v) (wanted settled p)) (buffer at out.old) }
+pub fn write(codes: &[Code], from: usize, settled: bool, spelling: &Spelling, w: &mut Writer)
+    ensures { (p : Process) → codes.now ≡ postfix p → Numbered p from → from + length codes.now ≤ 512 → Writes w.old w.new (condition (naming spelling.now) (wanted settled p)) }
 {
-    let n = codes.len();
-    if n == 0 {
-        return at;
-    }
+    let Some((last, inner)) = codes.split_last() else {
+        return;
+    };
     if lacks(codes, settled) {
-        return at;
-    }
-    let last = n - 1;
-    let code = codes[last];
-    if code == postfix::LEAF {
-        return variables::is(text, v, from, true, out, at);
-    }
-    if code == postfix::ROUNDS {
-        return write(text, v, &codes[..last], from, true, out, at);
+        return;
     }
     if 511 < from {
-        return at;
+        return;
     }
-    let s = shaped(codes, settled);
-    let m = s.second;
-    let a = open(text, v, s, from, out, at);
-    let b = write(text, v, &codes[..m], from, code == postfix::OR, out, a);
-    let c = between(s, out, b);
-    let d = write(
-        text,
-        v,
-        &codes[m..last],
-        from + s.first,
-        code == postfix::OR,
-        out,
-        c,
-    );
-    close(text, v, s, from, out, d)
+    let code = *last;
+    match code {
+        Code::Leaf => spelling.is(from, true, w),
+        Code::Rounds => write(inner, from, true, spelling, w),
+        _ => {
+            let s = shaped(code, inner, settled);
+            let (first, second) = inner.split_at(s.second);
+            let asked = of_parts(code);
+            s.open(from, spelling, w);
+            write(first, from, asked, spelling, w);
+            w.bytes(s.between());
+            write(second, from + s.first, asked, spelling, w);
+            s.close(from, spelling, w)
+        }
+    }
 }

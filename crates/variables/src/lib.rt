@@ -4,7 +4,7 @@ ghost use Rattle.std.specs.Prelude.{◌≡◌, ◌+◌, ◌<◌};
 ghost use Rattle.output.specs.Writes.{Writes};
 ghost use Rattle.formulas.specs.Formulas.{is as is_of};
 ghost use Rattle.formulas.specs.Lines.{truth as truth_of, formula};
-ghost use Rattle.variables.specs.code.Spelled.{mark as mark_of, spelled, connective as connective_of, lead as lead_of, over};
+ghost use Rattle.variables.specs.code.Spelled.{mark as mark_of, naming, connective as connective_of, lead as lead_of, over};
 
 use output::Writer;
 
@@ -47,7 +47,7 @@ impl Spelling<'_> {
     // The variable of event n.
     #[tactic(auto, using(output::proofs::Buffers::put_all_append), unfolding(crate::specs::code::Spelled::spelled))]
     pub fn name(&self, n: usize, w: &mut Writer)
-        ensures { Writes w.old w.new (spelled self.now.text.now self.now.variables n) }
+        ensures { Writes w.old w.new (naming self.now n) }
     {
         let none = Variable {
             place: 0,
@@ -61,7 +61,7 @@ impl Spelling<'_> {
     // The variable of event n has a value.
     #[tactic(auto, using(output::proofs::Buffers::put_all_append, crate::proofs::Over::is_text), unfolding(output::specs::Buffer::put_all))]
     pub fn is(&self, n: usize, value: bool, w: &mut Writer)
-        ensures { Writes w.old w.new (formula (spelled self.now.text.now self.now.variables) (is_of n value)) }
+        ensures { Writes w.old w.new (formula (naming self.now) (is_of n value)) }
     {
         self.name(n, w);
         w.bytes(b" = ");
@@ -70,7 +70,7 @@ impl Spelling<'_> {
 
     // A formula of two up to its second: the variable of event n has a value.
     fn lead(&self, n: usize, value: bool, w: &mut Writer)
-        ensures { Writes w.old w.new (lead_of (spelled self.now.text.now self.now.variables) n value) }
+        ensures { Writes w.old w.new (lead_of (naming self.now) n value) }
     {
         w.bytes(b"(");
         self.is(n, value, w);
@@ -80,7 +80,7 @@ impl Spelling<'_> {
     // Of the variables from event `from` on and of so many after it: some is TRUE, or each is FALSE. There are at most 512 events.
     #[tactic(auto, using(output::proofs::Buffers::put_all_append, crate::proofs::Over::over_one, crate::proofs::Over::over_more), unfolding(output::specs::Buffer::put_all))]
     pub fn range(&self, from: usize, after: usize, value: bool, w: &mut Writer)
-        ensures { from + after < 512 → Writes w.old w.new (formula (spelled self.now.text.now self.now.variables) (over value from after)) }
+        ensures { from + after < 512 → Writes w.old w.new (formula (naming self.now) (over value from after)) }
     {
         if after == 0 {
             return self.is(from, value, w);

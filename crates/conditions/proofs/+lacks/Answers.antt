@@ -1,38 +1,29 @@
--- The measure is how many numbers there are.
-use Rattle.parts.proofs.Ends.{inner_fewer, first_fewer, second_fewer, second_inside, first_count}
-use Rattle.conditions.proofs.Absent.{some_code, leaf_lacks, rounds_lacks, parts_lack}
-use native.Mathlib.Omega.{arith}
+-- By the process's own code.
+use Rattle.conditions.proofs.Split.{some_codes, own_last, rest_inner}
+use Rattle.conditions.proofs.Absent.{leaf_lacks, again_lacks, rounds_lacks, parts_lack}
+use Rattle.std.proofs.Common.{sym, ◌∙◌}
 use Rattle.conditions.proofs.+lacks.Goals as goal
 
-pub returns-then-n-eq0 : goal.returns-then-n-eq0
-returns-then-n-eq0 t c =
-    λ p e. absurd (some_code c.args.codes.now c.args.settled p e c.if-n-eq0.true)
+pub returns-in_default : goal.returns-in_default
+returns-in_default t c = λ p e. absurd (some_codes _ p e c.in_default.ensures.cases)
 
-pub returns-then-code-le-AGAIN : goal.returns-then-code-le-AGAIN
-returns-then-code-le-AGAIN t c =
-    λ p e. leaf_lacks c.args.codes.now c.args.settled p e c.if-code-le-AGAIN.true
+pub returns-in-Leaf : goal.returns-in-Leaf
+returns-in-Leaf t c = λ p e. leaf_lacks p c.args.settled (sym c.in-Leaf.is ∙ own_last _ _ _ p e c.in-Some.ensures.cases)
 
-pub lacks-requires : goal.lacks-requires
-lacks-requires t c = (inner_fewer c.args.codes.now c.if-n-eq0.false c.decreases, tt)
+pub returns-in-Again : goal.returns-in-Again
+returns-in-Again t c = λ p e. again_lacks p c.args.settled (sym c.in-Again.is ∙ own_last _ _ _ p e c.in-Some.ensures.cases)
 
-pub returns-then-code-eq-ROUNDS : goal.returns-then-code-eq-ROUNDS
-returns-then-code-eq-ROUNDS t c =
-    λ p e. rounds_lacks c.args.codes.now c.args.settled p e c.lacks.result c.if-code-eq-ROUNDS.true c.lacks.ensures
+pub returns-in-Rounds : goal.returns-in-Rounds
+returns-in-Rounds t c =
+    λ p e. let s = c.in-Some.ensures.cases in
+    rounds_lacks p c.args.settled _ (sym c.in-Rounds.is ∙ own_last _ _ _ p e s) (λ q g. c.lacks.ensures q (rest_inner _ _ _ p e s ∙ g))
 
-pub slice_bounds-lacks-end-2 : goal.slice_bounds-lacks-end-2
-slice_bounds-lacks-end-2 t c = first_count c.args.codes.now c.second-m.ensures.1
-
-pub lacks-a-requires : goal.lacks-a-requires
-lacks-a-requires t c = (first_fewer c.args.codes.now c.if-n-eq0.false c.decreases c.second-m.ensures.1, tt)
-
-pub slice_bounds-lacks-start : goal.slice_bounds-lacks-start
-slice_bounds-lacks-start t c = (second_inside c.args.codes.now c.if-n-eq0.false c.decreases c.second-m.ensures.1).0
-
-pub lacks-b-requires : goal.lacks-b-requires
-lacks-b-requires t c = (second_fewer c.args.codes.now c.if-n-eq0.false c.decreases c.second-m.ensures.1, tt)
-
-pub returns : goal.returns
-returns t c =
+pub returns-in_default-code : goal.returns-in_default-code
+returns-in_default-code t c =
     λ p e.
+    let s = c.in-Some.ensures.cases in
+    let other = c.in_default-code in
     rw c.joint_lacks.ensures
-    (parts_lack c.args.codes.now c.args.settled c.lacks-a.result c.lacks-b.result c.second-m.result p e (omega (arith, c.if-code-le-AGAIN.false)) c.if-code-eq-ROUNDS.false c.second-m.ensures.0 c.lacks-a.ensures c.lacks-b.ensures)
+    (parts_lack _ _ c.args.settled _ _ _ p (own_last _ _ _ p e s) (rest_inner _ _ _ p e s) other.not-Leaf other.not-Again other.not-Rounds c.second.ensures.0
+    (λ q g. rw c.of_parts-asked.ensures at (c.lacks-a.ensures q (c.split_at.ensures.front ∙ g)))
+    (λ q g. rw c.of_parts-asked.ensures at (c.lacks-b.ensures q (c.split_at.ensures.back ∙ g))))

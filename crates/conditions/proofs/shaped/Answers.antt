@@ -1,22 +1,14 @@
--- By the two parts of the joint.
-use mathlib.Core.Path.{refl}
-use native.Mathlib.Omega.{arith}
-use Rattle.parts.proofs.Ends.{some_number}
-use Rattle.conditions.proofs.Shapes.{joint_shape, shape_inside}
+-- By the joint's parts.
+use Rattle.conditions.proofs.Split.{first_part, second_part}
+use Rattle.conditions.proofs.Shapes.{joint_shape}
+use Rattle.std.proofs.Common.{◌∙◌}
 use Rattle.conditions.proofs.shaped.Goals as goal
 
-pub returns-then-n-eq0 : goal.returns-then-n-eq0
-returns-then-n-eq0 c = record {
-  value = λ j p q e. absurd (omega (arith, some_number c.args.codes.now _ e, c.if-n-eq0.true));
-  inside = shape_inside c.args.codes.now _ refl refl refl (omega arith) (omega arith) (omega arith);
-}
-
-pub returns : goal.returns
-returns c =
-    let cs = c.args.codes.now in
-    let m = c.second-m.ensures in
-    let n = c.after.ensures in
-    record {
-      value = λ j p q e. joint_shape cs c.args.settled j p q e m.0 c.lacks-a.ensures c.lacks-b.ensures c.events.ensures.0 n.0 c.form.ensures;
-      inside = shape_inside cs _ refl refl refl m.1 c.events.ensures.1 n.1;
-    }
+pub returns-clause-value : goal.returns-clause-value
+returns-clause-value c =
+    λ j p q k e.
+    let m = c.second.ensures.0 in
+    let first = c.split_at.ensures.front ∙ first_part c.args.inner.now p q e _ m in
+    let second = c.split_at.ensures.back ∙ second_part c.args.inner.now p q e _ m in
+    rw (c.events.ensures.0, c.after.ensures.0, c.choosing.ensures, c.around.ensures)
+    (joint_shape c.args.code c.args.inner.now _ c.args.settled _ _ j p q k e first (rw c.of_parts-asked.ensures at (c.lacks-a.ensures p first)) (rw c.of_parts-asked.ensures at (c.lacks-b.ensures q second)))

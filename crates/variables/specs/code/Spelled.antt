@@ -6,6 +6,7 @@ use Rattle.formulas.specs.Formulas.{Formula, is}
 use Rattle.formulas.specs.Lines.{Naming, formula}
 use Rattle.formulas.specs.Conditions.{some_true, all_false}
 use Rattle.variables.specs.declared.Variable.{Variable}
+use Rattle.variables.specs.declared.Spelling.{Spelling}
 
 abbrev pub mark : Bool → List ℕ
 mark reset = cond reset (bytes "r_") (bytes "v_")
@@ -17,6 +18,10 @@ none = record { place = 0; reset = false }
 -- The variable of event n, its name as it stands in the text.
 unfoldable pub spelled : List ℕ → List Variable → Naming
 spelled text variables n = mark (get_or variables n none).reset ++ word_at text (get_or variables n none).place
+
+-- As a spelling says.
+abbrev pub naming : Spelling → Naming
+naming s = spelled s.text.now s.variables
 
 abbrev pub connective : Bool → List ℕ
 connective either = cond either (bytes " or ") (bytes " & ")
