@@ -5,8 +5,8 @@ use mathlib.Core.Bool.{true, not}
 use mathlib.Core.List.{List, [], ◌∷◌, ◌++◌}
 use Prim.Native.Nat.{ℕ, ◌≤◌, ◌<◌}
 use native.Mathlib.Omega.{arith}
-use lib.Dec.{lit≤}
-use Rattle.base.specs.Reports.{Report}
+use Rattle.std.specs.Prelude.{Ok}
+use Rattle.base.specs.declared.Refusal.{Refusal}
 use Rattle.base.proofs.Truth.{clash}
 use Rattle.diagram.specs.Tree.{Flow}
 use Rattle.diagram.specs.Count.{flow_events}
@@ -28,9 +28,8 @@ use Rattle.layout.specs.Fields.{events}
 use Rattle.layout.specs.Values.{values_of, allows, ended}
 use Rattle.table.specs.Steps.{step_of, finished_of}
 use Rattle.table.specs.Bounds.{Ready, NotReady, unsound, bit_past, StepAnswer, event_taken, step_not_ready, past_events, guard_says_no, FinishAnswer, run_finished, run_open, finished_not_ready}
-use Rattle.table.specs.declared.Answer.TheVariants.{Done}
 use Rattle.table.specs.declared.Stepped.{Stepped}
-use Rattle.table.proofs.Bounds.{refused_as, step_answered, finished_answered}
+use Rattle.table.proofs.Bounds.{step_answered, finished_answered}
 use Rattle.table.proofs.Laws.{done_exactly, step_bit, step_words}
 use Rattle.book.specs.Calls.{Call, step, finished, stepped, reported, call}
 use Rattle.book.specs.Marked.{marked, marked_all, record_after}
@@ -51,7 +50,7 @@ module _ (d : Flow) (k : Keeps d) (few : flow_events d ≤ 512) (t : List ℕ) (
           ap not (clear_each (record_after d book).bits (events t) 512 (λ i l p. record_past d k book h i (rw T.its_events at p)));
     }
 
-    neither_12_nor_13 : (r : Report) → NotReady t (record_after d book).bits r → ⊥
+    neither_12_nor_13 : (r : Refusal) → NotReady t (record_after d book).bits r → ⊥
     neither_12_nor_13 r (unsound q s) = clash T.its_sound s
     neither_12_nor_13 r (bit_past q s y) = clash y record_ready.its_bits
 
@@ -68,7 +67,7 @@ module _ (d : Flow) (k : Keeps d) (few : flow_events d ≤ 512) (t : List ℕ) (
 
   -- A step is done exactly where the bits after the events of the book say that the event may be taken.
   pub done_iff_enabled : (book : List ℕ) → Begins (expand d) book → (e : ℕ)
-      → ((step_of t (record_after d book) e).answer ≡ Done) ↔ ((e < flow_events d) × (enabled (expand d) (after (expand d) book) e ≡ true))
+      → ((step_of t (record_after d book) e).answer ≡ Ok tt) ↔ ((e < flow_events d) × (enabled (expand d) (after (expand d) book) e ≡ true))
   done_iff_enabled book h e = (
     λ y.
         let k = (done_exactly t (record_after d book) e).0 y in
@@ -79,7 +78,7 @@ module _ (d : Flow) (k : Keeps d) (few : flow_events d ≤ 512) (t : List ℕ) (
   )
 
   -- The record after a step that is done is the one after the book with the event at its end.
-  step_marks : (book : List ℕ) (e : ℕ) → (step_of t (record_after d book) e).answer ≡ Done
+  step_marks : (book : List ℕ) (e : ℕ) → (step_of t (record_after d book) e).answer ≡ Ok tt
       → (step_of t (record_after d book) e).after.bits ≡ marked (expand d) (record_after d book).bits e
   step_marks book e y =
       let w = record_words d book in
@@ -89,7 +88,7 @@ module _ (d : Flow) (k : Keeps d) (few : flow_events d ≤ 512) (t : List ℕ) (
       (λ i l. step_bit t (record_after d book) e y w.0 i l
       ∙ rw (T.its_clears e i (rw T.its_events at below), marked_bit (expand d) (record_after d book).bits e i w l))
 
-  step_next : (book : List ℕ) (e : ℕ) → (step_of t (record_after d book) e).answer ≡ Done
+  step_next : (book : List ℕ) (e : ℕ) → (step_of t (record_after d book) e).answer ≡ Ok tt
       → (step_of t (record_after d book) e).after ≡ record_after d (book ++ (e ∷ []))
   step_next book e y =
       ap (λ (ws : List ℕ). record { bits = ws }) (step_marks book e y ∙ rw (marked_more (expand d) blank_record.bits book e))
@@ -109,26 +108,18 @@ module _ (d : Flow) (k : Keeps d) (few : flow_events d ≤ 512) (t : List ℕ) (
         begins ((next_iff_enabled d k book e h).1 (l, rw (guard_says book e l) at y.allowed)) (rw done),
         step_next book e done,
       )
-  step_by_book book h e (step_not_ready not_ready kept) = absurd (neither_12_nor_13 book h _ not_ready)
-  step_by_book book h e (past_events q kept r l) =
-      let l' = rw T.its_events at l in (
-        book,
-        past (λ b. let m = ((next_iff_enabled d k book e h).0 b).0 in omega arith) l' (rw (refused_as 14 (lit≤ tt) (step_of t (record_after d book) e).answer q)),
-        kept,
-      )
-  step_by_book book h e (guard_says_no q kept r l y) =
-      let l' = rw T.its_events at l in (
-        book,
-        below (λ b. clash (guard_says book e l' ∙ ((next_iff_enabled d k book e h).0 b).1) y) l' (rw (refused_as 15 (lit≤ tt) (step_of t (record_after d book) e).answer q)),
-        kept,
-      )
+  step_by_book book h e (step_not_ready r q not_ready) = absurd (neither_12_nor_13 book h r not_ready)
+  step_by_book book h e (past_events q r l) =
+      let l' = rw T.its_events at l in (book, past (λ b. let m = ((next_iff_enabled d k book e h).0 b).0 in omega arith) l' (rw q), rw q)
+  step_by_book book h e (guard_says_no q r l y) =
+      let l' = rw T.its_events at l in (book, below (λ b. clash (guard_says book e l' ∙ ((next_iff_enabled d k book e h).0 b).1) y) l' (rw q), rw q)
 
   -- So is what finished reports.
   finished_by_book : (book : List ℕ) → Begins (expand d) book → FinishAnswer t (record_after d book) (finished_of t (record_after d book))
       → FinishEntry d book (record { reply = reported (finished_of t (record_after d book)); after = book })
   finished_by_book book h (run_finished q y) = whole ((whole_iff_complete d k book h).1 (rw (end_says book) at y.says_so)) (rw q)
   finished_by_book book h (run_open q r y) = part (λ w. clash (end_says book ∙ (whole_iff_complete d k book h).0 w) y) (rw q)
-  finished_by_book book h (finished_not_ready not_ready) = absurd (neither_12_nor_13 book h _ not_ready)
+  finished_by_book book h (finished_not_ready r q not_ready) = absurd (neither_12_nor_13 book h r not_ready)
 
   call_by_book : (book : List ℕ) → Begins (expand d) book → (c : Call)
       → (after : List ℕ) × Entry d book c (record { reply = (call t (record_after d book) c).reply; after = after }) × Begins (expand d) after

@@ -1,10 +1,9 @@
 -- The calls of property 3, what they answer, and a call by value. Document 01: "The calls are step, with any event number, and finished."
-use Rattle.std.specs.Prelude.{List, ℕ}
+use Rattle.std.specs.Prelude.{Bool, List, ℕ, ⊤, Result}
+use Rattle.base.specs.declared.Refusal.{Refusal}
 use Rattle.plays.specs.Plays.{Line}
 use Rattle.record.specs.declared.Record.{Record}
 use Rattle.table.specs.Steps.{step_of, finished_of}
-use Rattle.table.specs.declared.Answer.{Answer}
-use Rattle.table.specs.declared.Finish.{Finish}
 
 pub data Call : Type 0 where
   step : ℕ → Call
@@ -12,8 +11,8 @@ pub data Call : Type 0 where
 
 -- What a step answers, and what is reported to the question.
 pub data Reply : Type 0 where
-  stepped : Answer → Reply
-  reported : Finish → Reply
+  stepped : Result ⊤ Refusal → Reply
+  reported : Result Bool Refusal → Reply
 
 -- What a call answers on a table and a record, and the record after it: `step_of` and `finished_of` are what the contracts of `table::step` and `table::finished` say
 -- that the calls return.

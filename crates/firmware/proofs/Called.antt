@@ -1,21 +1,16 @@
 -- What the calls for C answer, case by case, in the words of the definitions.
 use mathlib.Core.Path.{◌≡◌, ap, ◌∙◌}
-use mathlib.Core.Bool.{true, false}
+use mathlib.Core.Bool.{Bool, true, false}
 use mathlib.Core.List.{List}
 use Prim.Native.Nat.{ℕ}
 use lib.ListN.{length}
 use lib.Dec.{eqb}
-use Rattle.base.specs.Fill.{fill}
-use Rattle.record.specs.Bytes.{words_of, bytes_of}
+use Rattle.record.specs.Bytes.{words_of}
 use Rattle.table.specs.Steps.{step_of, finished_of, offer_of, offer_left}
-use Rattle.table.specs.declared.Answer.{Answer}
-use Rattle.table.specs.declared.Answer.TheVariants.{Done}
-use Rattle.table.specs.declared.Finish.{Finish}
+use Rattle.std.specs.Prelude.{⊤, Result}
+use Rattle.base.specs.declared.Refusal.{Refusal}
 use Rattle.table.specs.declared.Stepped.{Stepped}
 use Rattle.firmware.specs.Calls.{number, left_bytes, finish_number, step_number, step_bytes, finished_number, offer_number, offer_bytes}
-
-pub left_done : (s bits out : List ℕ) (a : Answer) → a ≡ Done → out ≡ fill s (bytes_of bits) → out ≡ left_bytes s bits a
-left_done s bits out a d o = rw d o
 
 module _ (t s : List ℕ) (e : ℕ) where
   pub step_short : eqb (length s) 64 ≡ false → (1 ≡ step_number t s e) × (s ≡ step_bytes t s e)
@@ -33,7 +28,7 @@ module _ (t s : List ℕ) where
   unfolding finished_number
   finished_short h = rw h
 
-  pub finished_called : eqb (length s) 64 ≡ true → (bits : List ℕ) → bits ≡ words_of s → (f g : Finish) → f ≡ finished_of t (record { bits = bits }) → f ≡ g
+  pub finished_called : eqb (length s) 64 ≡ true → (bits : List ℕ) → bits ≡ words_of s → (f g : Result Bool Refusal) → f ≡ finished_of t (record { bits = bits }) → f ≡ g
       → finish_number g ≡ finished_number t s
   unfolding finished_number
   finished_called h bits B f g F G = rw (h, ← B, ← F, G)
@@ -43,7 +38,7 @@ module _ (t s lent : List ℕ) where
   unfolding offer_number offer_bytes
   offer_short h = (rw h, rw h)
 
-  pub offer_called : eqb (length s) 64 ≡ true → (bits : List ℕ) → bits ≡ words_of s → (a : Answer) (n : ℕ) (out : List ℕ)
+  pub offer_called : eqb (length s) 64 ≡ true → (bits : List ℕ) → bits ≡ words_of s → (a : Result ⊤ Refusal) (n : ℕ) (out : List ℕ)
       → (a ≡ offer_of t (record { bits = bits }) lent) × (out ≡ offer_left t (record { bits = bits }) lent (offer_of t (record { bits = bits }) lent))
       → n ≡ number a → (n ≡ offer_number t s lent) × (out ≡ offer_bytes t s lent)
   unfolding offer_number offer_bytes

@@ -1,20 +1,18 @@
 -- What the C firmware's calls answer, and every byte that they leave: "Each answers one number: 0 for sound, done or not finished, 255 for finished,
 -- otherwise the refusal's, whose place is always 0 here."
-use Rattle.std.specs.Prelude.{cond, List, ℕ, eqb, length}
+use Rattle.std.specs.Prelude.{Bool, cond, List, ℕ, eqb, length, ⊤, Result, Ok, Err}
 use Rattle.base.specs.Fill.{fill}
+use Rattle.base.specs.declared.Refusal.{Refusal}
 use Rattle.record.specs.Bytes.{words_of, bytes_of}
 use Rattle.record.specs.declared.Record.{Record}
 use Rattle.table.specs.Steps.{check_of, step_of, finished_of, offer_of, offer_left}
 use Rattle.table.specs.Reports.{report, finish_report}
-use Rattle.table.specs.declared.Answer.{Answer}
-use Rattle.table.specs.declared.Answer.TheVariants.{Done, Refused}
-use Rattle.table.specs.declared.Finish.{Finish}
 
 -- The number that stands for an answer, and for what is said of a finished run.
-abbrev pub number : Answer → ℕ
+abbrev pub number : Result ⊤ Refusal → ℕ
 number a = (report a).number
 
-abbrev pub finish_number : Finish → ℕ
+abbrev pub finish_number : Result Bool Refusal → ℕ
 finish_number f = (finish_report f).number
 
 -- The record that 64 bytes hold.
@@ -34,9 +32,9 @@ unfoldable pub step_number : List ℕ → List ℕ → ℕ → ℕ
 step_number t bytes e = with_record bytes (number (step_of t (record_of bytes) e).answer)
 
 -- The record's bytes by the answer: those of the record after the event over those before it; a refusal leaves them.
-abbrev pub left_bytes : List ℕ → List ℕ → Answer → List ℕ
-left_bytes bytes bits Done = fill bytes (bytes_of bits)
-left_bytes bytes bits (Refused n place) = bytes
+abbrev pub left_bytes : List ℕ → List ℕ → Result ⊤ Refusal → List ℕ
+left_bytes bytes bits (Ok done) = fill bytes (bytes_of bits)
+left_bytes bytes bits (Err r) = bytes
 
 unfoldable pub step_bytes : List ℕ → List ℕ → ℕ → List ℕ
 step_bytes t bytes e =

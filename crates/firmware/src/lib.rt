@@ -3,8 +3,8 @@
 ghost use Rattle.std.specs.Prelude.{◌≡◌, eqb, length};
 ghost use Rattle.firmware.specs.Calls.{number, left_bytes, check_number, step_number, step_bytes, finished_number, offer_number, offer_bytes};
 
+use base::Refusal;
 use record::Record;
-use table::{Answer, Finish};
 
 // Whether bytes are as many as a record has; else number 1.
 fn is_record(bytes: &[u8]) -> bool
@@ -14,23 +14,22 @@ fn is_record(bytes: &[u8]) -> bool
 }
 
 // The number that stands for an answer.
-fn number_of(answer: Answer) -> u8
+fn number_of(answer: Result<(), Refusal>) -> u8
     ensures { result ≡ number answer }
 {
     match answer {
-        Answer::Done => 0,
-        Answer::Refused(number, _) => number,
+        Ok(()) => 0,
+        Err(refusal) => refusal.reason.number(),
     }
 }
 
 // What a step leaves of a record's bytes: those of the record after it where the event was taken, and else what was there.
-fn leave(bytes: &mut [u8], answer: Answer, bits: [u64; 8])
+fn leave(bytes: &mut [u8], answer: Result<(), Refusal>, bits: [u64; 8])
     ensures { bytes.new ≡ left_bytes bytes.old bits answer }
 {
-    let Answer::Done = answer else {
-        return;
-    };
-    record::store(bytes, bits);
+    if answer.is_ok() {
+        record::store(bytes, bits);
+    }
 }
 
 // 0 for a sound table, else 12.
@@ -42,6 +41,7 @@ pub fn adl_check(table: &[u8]) -> u8
 }
 
 // 0 for an event that was taken: the record's 64 bytes are then those after it. A refusal leaves them.
+#[tactic(auto, unfolding(crate::specs::Calls::step_number, crate::specs::Calls::step_bytes))]
 pub fn adl_step(table: &[u8], bytes: &mut [u8], event: u64) -> u8
     ensures value { result ≡ step_number table.now bytes.old event }
     ensures bytes_after { bytes.new ≡ step_bytes table.now bytes.old event }
@@ -51,14 +51,12 @@ pub fn adl_step(table: &[u8], bytes: &mut [u8], event: u64) -> u8
     }
     let bits = record::load(bytes);
     let stepped = table::step(table, Record { bits }, event);
-    let answer = stepped.answer;
-    let after = stepped.after;
-    let words = after.bits;
-    leave(bytes, answer, words);
-    number_of(answer)
+    leave(bytes, stepped.answer, stepped.after.bits);
+    number_of(stepped.answer)
 }
 
 // 0 for an offer: 64 bytes are written then, and those past them stay. A refusal leaves all.
+#[tactic(auto, unfolding(crate::specs::Calls::offer_number, crate::specs::Calls::offer_bytes))]
 pub fn adl_offer(table: &[u8], bytes: &[u8], out: &mut [u8]) -> u8
     ensures value { result ≡ offer_number table.now bytes.now out.old }
     ensures out_after { out.new ≡ offer_bytes table.now bytes.now out.old }
@@ -66,12 +64,13 @@ pub fn adl_offer(table: &[u8], bytes: &[u8], out: &mut [u8]) -> u8
     if !is_record(bytes) {
         return 1;
     }
-    let held = record::load(bytes);
-    let answer = table::offer(table, Record { bits: held }, out);
+    let bits = record::load(bytes);
+    let answer = table::offer(table, Record { bits }, out);
     number_of(answer)
 }
 
 // 255 for a finished run, 0 for one that is not.
+#[tactic(auto, unfolding(crate::specs::Calls::finished_number))]
 pub fn adl_finished(table: &[u8], bytes: &[u8]) -> u8
     ensures { result ≡ finished_number table.now bytes.now }
 {
@@ -79,10 +78,9 @@ pub fn adl_finished(table: &[u8], bytes: &[u8]) -> u8
         return 1;
     }
     let bits = record::load(bytes);
-    let finish = table::finished(table, Record { bits });
-    match finish {
-        Finish::No => 0,
-        Finish::Yes => 255,
-        Finish::Refused(number, _) => number,
+    match table::finished(table, Record { bits }) {
+        Ok(false) => 0,
+        Ok(true) => 255,
+        Err(refusal) => refusal.reason.number(),
     }
 }
