@@ -21,6 +21,9 @@ abbrev pub answer : {A : Type 0} → (A → List ℕ) → Result A Refusal → R
 answer values (Ok a) = result (values a)
 answer values (Err r) = refusal (number r.reason) r.place
 
--- An answer that says how many bytes were written.
-abbrev pub written : Result ℕ Refusal → Report
+-- How many bytes were written, or the refusal.
+abbrev pub Written : Type 0
+Written = Result ℕ Refusal
+
+abbrev pub written : Written → Report
 written = answer (λ n. n ∷ [])
