@@ -1,7 +1,7 @@
-pub mod Steps
-pub mod ShownColumns
+pub mod ShownNodes
 pub mod Writing
 pub mod Longer
 pub mod Joins
+pub mod Steps
 pub mod Trees
 pub mod Postfixed

@@ -9,7 +9,7 @@ use lib.Seq.{drop-drop}
 use Rattle.diagram.specs.Tree.{Name, Flow, flow, Children, none, next, Child, plain, loop, group, replicator, Member, leaf, inner, Members, end, also}
 use Rattle.diagram.specs.Count.{flow_nodes, children_nodes, child_nodes, member_nodes, members_nodes}
 use Rattle.diagram.specs.TreeNodes.{ShownNode, shown, flow_tree_nodes, children_tree_nodes, child_tree_nodes, member_tree_nodes, members_tree_nodes}
-use Rattle.expansion.proofs.ShownColumns.{shown_depth, first}
+use Rattle.expansion.proofs.ShownNodes.{shown_depth, first}
 
 -- What stands in a list from a place on.
 drop_one : {rest : List ShownNode} (l : List ShownNode) (n : ℕ) (v : ShownNode) → drop n l ≡ rest → drop (1 + n) (v ∷ l) ≡ rest
