@@ -1,2 +1,2 @@
-pub mod Labelled
-pub mod Down
+mod Labelled
+mod Down

@@ -1,89 +1,64 @@
--- The measure is how many numbers there are.
-use mathlib.Core.Path.{ap}
-use Prim.Native.Nat.{ℕ, ◌+◌, ◌-◌, ◌<◌}
-use lib.ListN.{length, drop, length-take}
-use Rattle.variables.specs.code.Spelled.{spelled}
-use Rattle.parts.proofs.Ends.{some_number, first_fewer, second_fewer, second_inside, first_count, within_inner}
-use Rattle.guarding.proofs.Down.{leaf_guarded, first_guarded, reset_guarded, second_guarded}
-use native.Mathlib.Omega.{arith}
+-- By the process's own code, and by which part has the event.
+use Rattle.std.proofs.Common.{ℕ, ◌+◌, ◌-◌, List, length, sym, ap, ◌∙◌, arith}
+use Rattle.postfix.specs.declared.Code.{Code}
+use Rattle.parts.specs.code.Cuts.{event_count}
+use Rattle.variables.specs.code.Spelled.{naming}
+use Rattle.conditions.proofs.Split.{some_codes, own_last, rest_inner}
+use Rattle.guarding.proofs.Down.{leaf_guarded, again_guarded, first_guarded, reset_guarded, second_guarded}
 use Rattle.guarding.proofs.+write.Goals as goal
 
-pub returns-then-n-eq0 : goal.returns-then-n-eq0
-returns-then-n-eq0 t c =
-    λ p e f o l. absurd (omega (arith, some_number c.args.codes.now p e, c.if-n-eq0.true))
+pub returns-in_default : goal.returns-in_default
+returns-in_default t c = λ p e f o l. absurd (some_codes _ p e c.in_default.ensures.cases)
 
-pub returns-then-code-le-AGAIN : goal.returns-then-code-le-AGAIN
-returns-then-code-le-AGAIN t c =
+pub returns-in-Leaf : goal.returns-in-Leaf
+returns-in-Leaf t c =
     λ p e f o l.
-    let a = c.args in
-    leaf_guarded (spelled a.text.now a.v) _ a.codes.now a.from a.e p e f.numbered c.if-code-le-AGAIN.true (c.own_line-a.ensures (omega (arith, f.few, some_number a.codes.now p e)))
+    leaf_guarded (naming c.args.spelling.now) c.args.k c.args.from c.args.e _ _ p (sym c.in-Leaf.is ∙ own_last _ _ _ p e c.in-Some.ensures.cases) f.numbered (c.idle_line.ensures (omega (arith, c.if-from-gt511.false)))
 
-pub returns-then-from-gt511 : goal.returns-then-from-gt511
-returns-then-from-gt511 t c =
-    λ p e f o l. let h : 511 < c.args.from = c.if-from-gt511.true in absurd (omega (arith, h, f.few, some_number c.args.codes.now p e))
-
-pub returns-then-k-gt1023 : goal.returns-then-k-gt1023
-returns-then-k-gt1023 t c =
-    λ p e f o l. let h : 1023 < c.args.k = c.if-k-gt1023.true in absurd (omega (arith, h, l, some_number c.args.codes.now p e))
-
-pub slice_bounds-events-end : goal.slice_bounds-events-end
-slice_bounds-events-end t c = first_count c.args.codes.now (within_inner c.args.codes.now c.cut-m.ensures.1)
-
-pub overflow_add-next : goal.overflow_add-next
-overflow_add-next t c =
-    omega (arith, c.if-from-gt511.false, c.events.ensures.1, length-take c.cut-m.result c.args.codes.now, c.cut-m.ensures.1)
-
-pub slice_bounds-after-start : goal.slice_bounds-after-start
-slice_bounds-after-start t c = (second_inside c.args.codes.now c.if-n-eq0.false c.decreases (within_inner c.args.codes.now c.cut-m.ensures.1)).0
-
-pub ask_second-a-requires : goal.ask_second-a-requires
-ask_second-a-requires t c = omega (arith, c.if-k-gt1023.false)
-
-pub slice_bounds-write-end : goal.slice_bounds-write-end
-slice_bounds-write-end t c = first_count c.args.codes.now (within_inner c.args.codes.now c.cut-m.ensures.1)
-
-pub write-requires : goal.write-requires
-write-requires t c = (first_fewer c.args.codes.now c.if-n-eq0.false c.decreases (within_inner c.args.codes.now c.cut-m.ensures.1), tt)
+pub returns-in-Again : goal.returns-in-Again
+returns-in-Again t c =
+    λ p e f o l. again_guarded (naming c.args.spelling.now) c.args.k c.args.from c.args.e _ c.args.w.now p (sym c.in-Again.is ∙ own_last _ _ _ p e c.in-Some.ensures.cases)
 
 pub returns-then-e-next : goal.returns-then-e-next
 returns-then-e-next t c =
     λ p e f o l.
     let a = c.args in
-    let cs = a.codes.now in
-    let m = c.cut-m.ensures in
-    let n = c.events.ensures in
-    let y = c.after-after.ensures in
-    let h = length-take c.cut-m.result cs in
-    let u = length-take (length cs - 1 - c.cut-m.result) (drop c.cut-m.result cs) in
-    let some = some_number cs p e in
-    let w = c.ask_second-a.ensures (omega (arith, f.few, n.1, y.1, h, u, m.1, some)) in
-    first_guarded (spelled a.text.now a.v) a.k cs a.from a.e m.0 (ap (λ (i : ℕ). a.from + i) n.0) y.0 c.if-e-next.true w
-    (λ q g r i j. c.write.ensures q g r i (omega (arith, l, j, h, m.1, some))) p e f o (omega (arith, c.if-code-le-AGAIN.false))
+    let s = c.in-Some.ensures.cases in
+    let other = c.in_default-code in
+    let parts = c.split_at.ensures in
+    let few = f.few in
+    let count = ap (λ (i : ℕ). a.from + i) (c.events.ensures.0 ∙ ap event_count parts.front) in
+    let after = c.after.ensures.0 ∙ ap (λ (cs : List Code). event_count cs - 1) parts.back in
+    let asked = c.ask_second-more.ensures (omega (arith, few, s.1, c.events.ensures.1, c.after.ensures.1, parts.front_len, parts.back_len)) in
+    first_guarded (naming a.spelling.now) a.k c.in-Some.last.now c.in-Some.inner.now a.from a.e (omega (arith, few, s.1)) c.cut.ensures.0
+    (omega (arith, ap length parts.front, parts.front_len, c.cut.ensures.1)) count after c.if-e-next.true asked
+    (λ q g r i j. c.write.ensures q (parts.front ∙ g) (rw parts.front r) i (omega (arith, l, j, s.1, parts.front_len, c.cut.ensures.1)))
+    p (own_last _ _ _ p e s) (rest_inner _ _ _ p e s) f.numbered o other.not-Leaf other.not-Again
 
-pub slice_bounds-ask_first-end : goal.slice_bounds-ask_first-end
-slice_bounds-ask_first-end t c = first_count c.args.codes.now (within_inner c.args.codes.now c.cut-m.ensures.1)
-
-pub ask_first-a-requires : goal.ask_first-a-requires
-ask_first-a-requires t c = omega (arith, c.if-k-gt1023.false)
-
-pub returns-then-code-eq-ROUNDS : goal.returns-then-code-eq-ROUNDS
-returns-then-code-eq-ROUNDS t c =
+pub returns-in-Rounds : goal.returns-in-Rounds
+returns-in-Rounds t c =
     λ p e f o l.
     let a = c.args in
-    reset_guarded (spelled a.text.now a.v) a.k a.codes.now a.from a.e c.cut-m.ensures.0 (ap (λ (i : ℕ). a.from + i) c.events.ensures.0) (omega (arith, c.if-e-next.false))
-    c.ask_first-a.ensures p e f c.if-code-eq-ROUNDS.true
+    let s = c.in-Some.ensures.cases in
+    let parts = c.split_at.ensures in
+    let few = f.few in
+    let count = ap (λ (i : ℕ). a.from + i) (c.events.ensures.0 ∙ ap event_count parts.front) in
+    reset_guarded (naming a.spelling.now) a.k c.in-Some.last.now c.in-Some.inner.now a.from a.e (omega (arith, few, s.1)) c.cut.ensures.0
+    (omega (arith, ap length parts.front, parts.front_len, c.cut.ensures.1)) count (omega (arith, c.if-e-next.false))
+    (λ q g r. c.ask_first-more.ensures q (parts.front ∙ g) (rw parts.front r))
+    p (sym c.in-Rounds.is ∙ own_last _ _ _ p e s) c.in-Rounds.is (rest_inner _ _ _ p e s) f.numbered
 
-pub slice_bounds-write-start : goal.slice_bounds-write-start
-slice_bounds-write-start t c = (second_inside c.args.codes.now c.if-n-eq0.false c.decreases (within_inner c.args.codes.now c.cut-m.ensures.1)).0
-
-pub write-requires-2 : goal.write-requires-2
-write-requires-2 t c = (second_fewer c.args.codes.now c.if-n-eq0.false c.decreases (within_inner c.args.codes.now c.cut-m.ensures.1), tt)
-
-pub returns : goal.returns
-returns t c =
+pub returns-in_default-code-2 : goal.returns-in_default-code-2
+returns-in_default-code-2 t c =
     λ p e f o l.
     let a = c.args in
-    let cs = a.codes.now in
-    let u = length-take (length cs - 1 - c.cut-m.result) (drop c.cut-m.result cs) in
-    second_guarded (spelled a.text.now a.v) a.k cs a.from a.e c.cut-m.ensures.0 (ap (λ (i : ℕ). a.from + i) c.events.ensures.0) (omega (arith, c.if-e-next.false)) c.ask_first-a.ensures
-    (λ q g h i j. c.write-2.ensures q g h i (omega (arith, l, j, u, some_number cs p e))) p e f o (omega (arith, c.if-code-le-AGAIN.false)) c.if-code-eq-ROUNDS.false
+    let s = c.in-Some.ensures.cases in
+    let other = c.in_default-code in
+    let parts = c.split_at.ensures in
+    let few = f.few in
+    let count = ap (λ (i : ℕ). a.from + i) (c.events.ensures.0 ∙ ap event_count parts.front) in
+    second_guarded (naming a.spelling.now) a.k c.in-Some.last.now c.in-Some.inner.now a.from a.e (omega (arith, few, s.1)) c.cut.ensures.0
+    (omega (arith, ap length parts.front, parts.front_len, c.cut.ensures.1)) count (omega (arith, c.if-e-next.false))
+    (λ q g r. c.ask_first-more.ensures q (parts.front ∙ g) (rw parts.front r))
+    (λ q g r i j. c.write-in_default-code.ensures q (parts.back ∙ g) (rw parts.back r) i (omega (arith, l, j, s.1, parts.back_len, c.cut.ensures.1)))
+    p (own_last _ _ _ p e s) (rest_inner _ _ _ p e s) f.numbered o other.not-Leaf other.not-Again c.in_default-code-2.not-Rounds

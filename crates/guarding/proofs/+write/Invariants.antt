@@ -1,4 +1,4 @@
--- The measure is how many numbers there are.
+-- The measure is how many codes there are.
 use lib.ListN.{length}
 use Rattle.guarding.proofs.+write.Given as goal
 
