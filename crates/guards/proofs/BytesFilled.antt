@@ -1,15 +1,14 @@
 -- Words written one after the other are bytes written over the front: what was there before does not matter.
 use mathlib.Core.Path.{◌≡◌, refl, sym, ap, ◌∙◌}
 use mathlib.Core.List.{List, [], ◌∷◌, ◌++◌, append_assoc, append-nil}
-use Prim.Native.Nat.{ℕ, suc, ◌+◌, ◌*◌, ◌/◌, ◌%◌}
+use Prim.Native.Nat.{ℕ, ◌+◌, ◌*◌, ◌/◌, ◌%◌}
 use native.Mathlib.Omega.{arith}
 use lib.ListN.{length, set, length-append}
 use Rattle.base.specs.Fill.{fill}
 use Rattle.base.specs.Packed.{put_word, packed}
 use Rattle.base.proofs.Filled.{fill_none, fill_next}
 use Rattle.plan.proofs.ReadBack.{packed_length}
-use Rattle.guards.specs.code.Rows.{put_rows}
-use Rattle.guards.specs.code.Passes.{base_of}
+use Rattle.guards.specs.code.Rows.{put_rows, base_of}
 use Rattle.guards.proofs.RowsWritten.{word_below_rows}
 
 packed_append : (ws vs : List ℕ) → packed (ws ++ vs) ≡ packed ws ++ packed vs
@@ -43,9 +42,9 @@ rows_after : (base k : ℕ) (ws o vs : List ℕ) → base + 4 * k ≡ length vs 
 unfolding put_rows packed
 rows_after base k [] o vs h = ap (fill o) (sym (append-nil vs))
 rows_after base k (w ∷ ws) o vs h =
-    let l : base + 4 * suc k ≡ length (vs ++ packed (w ∷ [])) = omega (arith, h, length-append vs (packed (w ∷ []))) in
-    ap (put_rows base (suc k) ws) (word_after o vs (base + 4 * k) w h)
-    ∙ (rows_after base (suc k) ws o (vs ++ packed (w ∷ [])) l ∙ ap (fill o) (append_assoc vs (packed (w ∷ [])) (packed ws)))
+    let l : base + 4 * (k + 1) ≡ length (vs ++ packed (w ∷ [])) = omega (arith, h, length-append vs (packed (w ∷ []))) in
+    ap (put_rows base (k + 1) ws) (word_after o vs (base + 4 * k) w h)
+    ∙ (rows_after base (k + 1) ws o (vs ++ packed (w ∷ [])) l ∙ ap (fill o) (append_assoc vs (packed (w ∷ [])) (packed ws)))
 
 -- E and R, n event records and the rows.
 pub table_filled : (n : ℕ) (ws rs lent : List ℕ) → length rs ≡ n

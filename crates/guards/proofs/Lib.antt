@@ -1,4 +1,3 @@
-pub mod RowsListed
 pub mod RowsWritten
 pub mod FirstTurns
 pub mod SecondTurns

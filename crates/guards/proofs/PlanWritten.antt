@@ -1,44 +1,22 @@
 -- What the two passes write for a process is its plan, over the front of whatever was lent.
-use mathlib.Core.Path.{◌≡◌, refl, sym, ap, ◌∙◌}
-use mathlib.Core.List.{List, [], ◌∷◌, ◌++◌}
-use Prim.Native.Nat.{ℕ, suc, ◌+◌, ◌*◌, ◌≤◌, ◌<◌}
-use native.Mathlib.Omega.{arith}
-use lib.ListN.{length, length-set, get_or, set, replicate, length-replicate}
-use lib.Seq.{sets, get_or-set_same, get_or-set_other}
+use Rattle.std.proofs.Common.{◌≡◌, refl, sym, ap, ◌∙◌, List, [], ◌∷◌, ◌++◌, ℕ, ◌+◌, ◌*◌, ◌≤◌, length, arith}
 use Rattle.base.specs.Fill.{fill}
 use Rattle.base.specs.Packed.{put_word, packed}
 use Rattle.process.specs.Process.{Process}
 use Rattle.process.proofs.Numbered.{size, Numbered}
 use Rattle.postfix.specs.Postfix.{postfix}
 use Rattle.postfix.specs.Fold.{state}
-use Rattle.postfix.proofs.Short.{postfix_short}
 use Rattle.layout.specs.Fields.{both_row}
 use Rattle.plan.specs.declared.PartRows.{PartRows}
-use Rattle.plan.specs.declared.Needs.{Needs}
 use Rattle.plan.specs.Pieces.{constants}
 use Rattle.plan.specs.Plan.{plan_of, guards_of, middle, rows_of, records_of, planned}
-use Rattle.plan.proofs.Lengths.{length_three, needs_length, records_length, planned_length}
-use Rattle.guards.specs.code.Rows.{put_rows}
-use Rattle.rows.specs.code.Words.{no_rows}
-use Rattle.guards.specs.code.Passes.{no_needs, FirstAt, first_start, done_row, SecondAt, second_start, base_of, first_of, second_of, finish, Passes}
+use Rattle.plan.proofs.Lengths.{length_three, records_length, planned_length}
+use Rattle.guards.specs.code.Rows.{put_rows, base_of}
 use Rattle.guards.proofs.RowsWritten.{put_rows_append, rows_below_rows}
+use Rattle.guards.specs.code.Passes.{top, no_rows, FirstAt, first_start, done_row, SecondAt, second_start, first_of, second_of, finish, Passes}
 use Rattle.guards.proofs.FirstPassed.{Stands, first_passed}
-use Rattle.guards.proofs.SecondPassed.{Holds, Passed, second_passed}
+use Rattle.guards.proofs.SecondPassed.{Passed, second_passed}
 use Rattle.guards.proofs.BytesFilled.{table_filled}
-
--- ---- what the first pass left
-sets_before : (vs l : List Needs) (i j : ℕ) → j < i → get_or (sets l i vs) j no_needs ≡ get_or l j no_needs
-sets_before [] l i j h = refl
-sets_before (v ∷ vs) l i j h = sets_before vs (set l i v) (suc i) j (omega arith) ∙ get_or-set_other l i j v no_needs (λ e. omega (arith, e, h))
-
--- Where there is room for them, elements are what was stored.
-sets_hold : (vs l : List Needs) (i : ℕ) → i + length vs ≤ length l → Holds (sets l i vs) i vs
-unfolding Holds
-sets_hold [] l i h = tt
-sets_hold (v ∷ vs) l i h = (
-  sets_before vs (set l i v) (suc i) i (omega arith) ∙ get_or-set_same l i v no_needs (omega arith),
-  sets_hold vs (set l i v) (suc i) (omega (arith, length-set l i v)),
-)
 
 -- ---- all rows and records
 -- Rows in four runs, with records below them between the second and the third.
@@ -54,47 +32,37 @@ four_runs base n c a b t r o e h =
     ∙ ap (λ (k : ℕ). put_rows base k (a ++ (b ++ t)) (put_rows base 0 c (put_rows 4 0 r o))) (sym d)
     ∙ sym (put_rows_append base 0 c (a ++ (b ++ t)) (put_rows 4 0 r o))
 
-module _ (p : Process) (events : ℕ) (lent : List ℕ) (numbered : Numbered p 0) (sized : size p ≡ events) (few : events ≤ 512) where
+module _ (p : Process) (events : ℕ) (lent : List ℕ) (numbered : Numbered p 0) (sized : size p ≡ events) where
   abbrev start : FirstAt
-  start = first_start (put_rows (base_of events) 0 constants lent)
+  start = first_start 3 (put_rows (base_of events) 0 constants lent)
 
   first : Stands (base_of events) start 0 (first_of (postfix p) events lent) (state (size p) (plan_of p ∷ []))
   unfolding first_of
-  first = first_passed (base_of events) start p numbered refl refl refl (length-replicate 1026 no_rows) (omega (arith, postfix_short p))
+  first = first_passed (base_of events) start p numbered refl
 
   second : (u : FirstAt) → Stands (base_of events) start 0 u (state (size p) (plan_of p ∷ []))
-      → Passed (base_of events) (length (postfix p)) (guards_of p 3 u.rows 2) (second_start u.rows u.event (length (postfix p)) u.out)
-      (second_of (postfix p) events u)
+      → Passed (base_of events) (guards_of p 3 u.rows 2) [] [] (second_start u.rows u.event u.needs u.out) (second_of (postfix p) events u)
   unfolding second_of
   second u f =
-      let n = length-replicate {A = ℕ} 1026 0 in
-      second_passed p (base_of events) 3 0 0 2 u.needs (second_start u.rows u.event (length (postfix p)) u.out)
+      second_passed p (base_of events) 3 0 2 [] [] (second_start u.rows u.event u.needs u.out)
       (record {
         numbered = numbered;
         its_event = omega (arith, f.its_event);
-        its_at = omega arith;
-        room = record {
-          low = omega (arith, f.its_event, sized);
-          deep = omega (arith, postfix_short p);
-          inside = omega arith;
-          long = length-set {A = ℕ} (replicate 1026 0) 1024 2 ∙ n;
-        };
-        its_gate = get_or-set_same (replicate 1026 0) 1024 2 0 (omega (arith, n));
-        its_needs =
-            rw f.its_needs
-            (sets_hold (plan_of p 3).needs (replicate 1024 no_needs) 0 (omega (arith, length-replicate 1024 no_needs, needs_length p 3, postfix_short p)));
+        low = omega (arith, f.its_event, sized);
+        its_gates = refl;
+        its_needs = f.its_needs;
       })
 
   -- What the passes leave.
   module _ (u : FirstAt) (d : SecondAt) (f : Stands (base_of events) start 0 u (state (size p) (plan_of p ∷ [])))
-      (g : Passed (base_of events) (length (postfix p)) (guards_of p 3 u.rows 2) (second_start u.rows u.event (length (postfix p)) u.out) d) where
+      (g : Passed (base_of events) (guards_of p 3 u.rows 2) [] [] (second_start u.rows u.event u.needs u.out) d) where
     last : d.rows ≡ middle p + length (guards_of p 3 (middle p) 2).words
     last = rw f.its_rows at g.wrote.its_rows
 
     none_left : d.event ≡ 0
     none_left = omega (arith, g.wrote.its_event, records_length p 3 u.rows 2, f.its_event)
 
-    rows_length : suc d.rows ≡ length (rows_of p)
+    rows_length : d.rows + 1 ≡ length (rows_of p)
     rows_length =
         omega (
           arith,
@@ -108,7 +76,7 @@ module _ (p : Process) (events : ℕ) (lent : List ℕ) (numbered : Numbered p 0
     its_out = rw (f.its_rows, none_left, f.its_out) at g.wrote.its_out
 
     its_done : done_row u ≡ (plan_of p 3).part.done
-    its_done = ap (λ (m : PartRows). m.done) f.its_parts.0
+    its_done = ap (λ (s : List PartRows). (top no_rows s).done) f.its_parts
 
     its_bytes : finish events u d ≡ fill lent (planned p)
     unfolding planned

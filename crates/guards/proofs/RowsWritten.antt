@@ -1,11 +1,10 @@
 -- Laws of rows that are written one after the other.
 use mathlib.Core.Path.{◌≡◌, refl, ap, ◌∙◌}
 use mathlib.Core.List.{List, [], ◌∷◌, ◌++◌}
-use Prim.Native.Nat.{ℕ, suc, ◌+◌, ◌*◌, ◌≤◌, ◌<◌, ◌/◌, ◌%◌}
-use native.Mathlib.Numerals.{add-one}
+use Prim.Native.Nat.{ℕ, ◌+◌, ◌*◌, ◌≤◌, ◌<◌, ◌/◌, ◌%◌}
 use native.Mathlib.Omega.{arith}
-use lib.ListN.{length, get_or, set, take}
-use lib.Seq.{set_comm, take-suc, length-take-le}
+use lib.ListN.{length, set}
+use lib.Seq.{set_comm}
 use Rattle.base.specs.Packed.{put_word}
 use Rattle.guards.specs.code.Rows.{put_rows}
 
@@ -14,23 +13,8 @@ pub put_rows_append : (base k : ℕ) (ws vs o : List ℕ) → put_rows base k (w
 unfolding put_rows
 put_rows_append base k [] vs o = ap (λ (n : ℕ). put_rows base n vs o) (omega arith)
 put_rows_append base k (w ∷ ws) vs o =
-    put_rows_append base (suc k) ws vs (put_word o (base + 4 * k) w)
-    ∙ ap (λ (n : ℕ). put_rows base n vs (put_rows base (suc k) ws (put_word o (base + 4 * k) w))) (omega arith)
-
--- None, and one more of those of a list.
-pub none_put : (base k : ℕ) (o : List ℕ) → o ≡ put_rows base k [] o
-unfolding put_rows
-none_put base k o = refl
-
-pub row_put : (base k i place w : ℕ) (ws o p q : List ℕ) → i < length ws → place ≡ base + 4 * (k + i) → w ≡ get_or ws i 0
-    → p ≡ put_rows base k (take i ws) o → q ≡ put_word p place w → q ≡ put_rows base k (take (i + 1) ws) o
-unfolding put_rows
-row_put base k i place w ws o p q h at e f g =
-    let n : length (take i ws) ≡ i = length-take-le i ws (omega arith) in
-    rw (g, f, at, e, add-one, take-suc ws i 0 h, put_rows_append base k (take i ws) (get_or ws i 0 ∷ []) o, n)
-
-pub rows_all : (base k i n m : ℕ) (ws o p : List ℕ) → p ≡ put_rows base k (take i ws) o → i ≡ n → n ≡ m → p ≡ put_rows base k (take m ws) o
-rows_all base k i n m ws o p h e f = rw (e, f) at h
+    put_rows_append base (k + 1) ws vs (put_word o (base + 4 * k) w)
+    ∙ ap (λ (n : ℕ). put_rows base n vs (put_rows base (k + 1) ws (put_word o (base + 4 * k) w))) (omega arith)
 
 -- What is written below a word does not meet it.
 below_word : (o : List ℕ) (i j a w : ℕ) → i < j → set (put_word o j w) i a ≡ put_word (set o i a) j w
@@ -63,13 +47,13 @@ pub word_below_rows : (base k i v : ℕ) (ws o : List ℕ) → i + 4 ≤ base + 
 unfolding put_rows
 word_below_rows base k i v [] o h = refl
 word_below_rows base k i v (w ∷ ws) o h =
-    word_below_rows base (suc k) i v ws (put_word o (base + 4 * k) w) (omega arith)
-    ∙ ap (put_rows base (suc k) ws) (word_below_word o i (base + 4 * k) v w h)
+    word_below_rows base (k + 1) i v ws (put_word o (base + 4 * k) w) (omega arith)
+    ∙ ap (put_rows base (k + 1) ws) (word_below_word o i (base + 4 * k) v w h)
 
 pub rows_below_rows : (b k base n : ℕ) (vs ws o : List ℕ) → b + 4 * (k + length vs) ≤ base + 4 * n
     → put_rows b k vs (put_rows base n ws o) ≡ put_rows base n ws (put_rows b k vs o)
 unfolding put_rows
 rows_below_rows b k base n [] ws o h = refl
 rows_below_rows b k base n (v ∷ vs) ws o h =
-    ap (put_rows b (suc k) vs) (word_below_rows base n (b + 4 * k) v ws o (omega arith))
-    ∙ rows_below_rows b (suc k) base n vs ws (put_word o (b + 4 * k) v) (omega arith)
+    ap (put_rows b (k + 1) vs) (word_below_rows base n (b + 4 * k) v ws o (omega arith))
+    ∙ rows_below_rows b (k + 1) base n vs ws (put_word o (b + 4 * k) v) (omega arith)

@@ -1,71 +1,50 @@
 -- The turns of the second pass's loop.
-use mathlib.Core.Path.{◌≡◌, refl, sym, ap, ◌∙◌}
-use mathlib.Core.List.{List}
-use Prim.Native.Nat.{ℕ, suc, ◌+◌, ◌-◌, ◌*◌, ◌≤◌, ◌<◌}
-use native.Mathlib.Omega.{arith}
-use lib.ListN.{length, get_or, set, drop}
-use lib.Seq.{drop-cons, drop-length}
+use Rattle.std.proofs.Common.{◌≡◌, ap, ◌∙◌, List, [], ◌∷◌, ◌++◌, ℕ, ◌+◌, ◌-◌, ◌*◌, ◌≤◌, length, reverse, arith, length-append}
+use Rattle.postfix.specs.declared.Code.{Code}
 use Rattle.plan.specs.declared.Needs.{Needs}
-use Rattle.rows.specs.code.Words.{listed, Lists}
-use Rattle.guards.specs.code.Rows.{put_rows}
-use Rattle.rows.specs.code.Words.{event_count, second_words, record_of, gate_row}
-use Rattle.guards.specs.code.Passes.{ring, moved, put_record, no_needs, SecondAt, second_step, second_pass, SecondEnds}
-use Rattle.rows.specs.declared.Words.{Words}
+use Rattle.guards.specs.declared.Table.{Table}
+use Rattle.guards.specs.code.Rows.{base_of}
+use Rattle.postfix.specs.declared.Code.TheVariants.{Leaf, Again, Rounds, Seq, And, Or, Xor}
+use Rattle.std.proofs.lemmas.List.{reverse-append}
+use Rattle.guards.specs.code.Passes.{stacked, top, no_needs, Pops, second_words, Guarded, SecondAt, second_start, second_step, second_pass}
 
-abbrev pub second_at : (rows event at top : ℕ) (gates out : List ℕ) → SecondAt
-second_at rows event at top gates out = record { rows = rows; event = event; at = at; top = top; gates = gates; out = out }
+abbrev pub second_at : Table → ℕ → List ℕ → List Needs → SecondAt
+second_at rows event gates needs =
+    record { rows = rows.next; event = event; gates = stacked gates; needs = stacked needs; out = rows.out.now }
 
--- Where so many numbers are left: bounds, and the state.
-pub record SecondTo (ops : List ℕ) (base : ℕ) (needs : List Needs) (start : SecondAt) (rows event left top : ℕ) (gates out : List ℕ) : Type 0 where
-  pub within : left ≤ length ops
-  pub few_rows : rows + 2 * left ≤ start.rows + 2 * length ops
-  pub low : top < 1026
-  pub same_out : length out ≡ length start.out
-  pub its_state : second_at rows event left top gates out ≡ second_pass base needs (drop left ops) start
+-- After these codes, from the end: bounds, and the state.
+pub record SecondTo (ops : List Code) (start : Table) (from : ℕ) (column : List Needs) (rows : Table) (event : ℕ) (gates : List ℕ) (needs : List Needs) : Type 0 where
+  pub same : rows.out.ghost_name ≡ start.out.ghost_name
+  pub its_events : rows.events ≡ start.events
+  pub few_rows : rows.next ≤ start.next + 2 * length ops
+  pub few_gates : length gates ≤ 1 + length ops
+  pub its_state : second_at rows event gates needs ≡ second_pass (base_of start.events) (reverse ops) (second_start start.next from (stacked column) start.out.now)
 
--- None yet.
-pub second_begins : (ops : List ℕ) (base : ℕ) (needs : List Needs) (rows event top : ℕ) (gates out : List ℕ) → top < 1026
-    → SecondTo ops base needs (second_at rows event (length ops) top gates out) rows event (length ops) top gates out
-second_begins ops base needs rows event top gates out h =
-    record { within = omega arith; few_rows = omega arith; low = h; same_out = refl; its_state = rw (drop-length ops) }
+-- A code has few rows.
+words_short : (op : Code) (m : ℕ) (n : Needs) → length (second_words op m n) ≤ 2
+words_short Leaf m n = omega arith
+words_short Again m n = omega arith
+words_short Rounds m n = omega arith
+words_short Seq m n = omega arith
+words_short And m n = omega arith
+words_short Or m n = omega arith
+words_short Xor m n = omega arith
 
-module _ (ops : List ℕ) (base : ℕ) (needs : List Needs) (start : SecondAt) (rows event left top : ℕ) (gates out : List ℕ) where
-  -- One more.
-  second_stepped : (op m : ℕ) (n : Needs) (e a b top' : ℕ) (list : Words) (mid out' : List ℕ) → m ≡ get_or gates top 0
-      → n ≡ get_or needs (left - 1) no_needs → e ≡ event - event_count op
-      → mid ≡ put_record op e (record_of op rows m n.earlier e) out → Lists list (second_words op m n) → out' ≡ put_rows base rows (listed list) mid
-      → a ≡ gate_row op (rows + 1) m → b ≡ gate_row op rows m → top' ≡ moved op top 1 1025
-      → second_at (rows + list.count) e (left - 1) top' (set (set gates top a) (ring top 1025) b) out'
-      ≡ second_step base needs op (second_at rows event left top gates out)
+-- One code more.
+module _ (ops : List Code) (start : Table) (from : ℕ) (column : List Needs) (rows : Table) (event : ℕ) (gates : List ℕ) (needs : List Needs) where
+  pub second_turn : SecondTo ops start from column rows event gates needs → (op : Code) (n : Needs) (v : Table) (r : ℕ) (gates' : List ℕ) (needs' : List Needs)
+      → Pops needs needs' no_needs n → Guarded op event n gates gates' rows v r → length gates' ≤ length gates - 1 + 2
+      → SecondTo (ops ++ (op ∷ [])) start from column v r gates' needs'
   unfolding second_step
-  second_stepped op m n e a b top' list mid out' qm qn qe qr l qo qa qb qt =
-      rw (qo, qr, l.its_words, l.its_count, qa, qb, qt, qe, qm, qn)
-
-  pub second_turn : SecondTo ops base needs start rows event left top gates out → 0 < left → (m : ℕ) (n : Needs) (e a b top' : ℕ) (list : Words)
-      (mid out' : List ℕ) → m ≡ get_or gates top 0 → n ≡ get_or needs (left - 1) no_needs → e ≡ event - event_count (get_or ops (left - 1) 0)
-      → mid ≡ put_record (get_or ops (left - 1) 0) e (record_of (get_or ops (left - 1) 0) rows m n.earlier e) out
-      → length mid ≡ length out → Lists list (second_words (get_or ops (left - 1) 0) m n) × (list.count ≤ 2)
-      → out' ≡ put_rows base rows (listed list) mid → length out' ≡ length mid → a ≡ gate_row (get_or ops (left - 1) 0) (rows + 1) m
-      → b ≡ gate_row (get_or ops (left - 1) 0) rows m → (top' ≡ moved (get_or ops (left - 1) 0) top 1 1025) × (top' < 1026)
-      → SecondTo ops base needs start (rows + list.count) e (left - 1) top' (set (set gates top a) (ring top 1025) b) out'
-  second_turn u h m n e a b top' list mid out' qm qn qe qr sr l qo so qa qb t =
-      let here : suc (left - 1) ≡ left = omega (arith, h) in
+  second_turn u op n v r gates' needs' p g f =
+      let base = base_of start.events in
+      let more = length-append ops (op ∷ []) in
       record {
-        within = omega (arith, u.within);
-        few_rows = omega (arith, l.1, u.few_rows, h);
-        low = t.1;
-        same_out = so ∙ sr ∙ u.same_out;
+        same = g.same ∙ u.same;
+        its_events = g.its_events ∙ u.its_events;
+        few_rows = omega (arith, more, g.its_rows, u.few_rows, words_short op (top 0 (stacked gates)) n);
+        few_gates = omega (arith, more, f, u.few_gates);
         its_state =
-            second_stepped (get_or ops (left - 1) 0) m n e a b top' list mid out' qm qn qe qr l.0 qo qa qb t.0
-            ∙ (ap (second_step base needs (get_or ops (left - 1) 0)) (u.its_state ∙ ap (λ (k : ℕ). second_pass base needs (drop k ops) start) (sym here))
-            ∙ sym (ap (λ (l : List ℕ). second_pass base needs l start) (drop-cons ops (left - 1) 0 (omega (arith, u.within, h)))));
+            rw (g.its_gates, p.its_rest, g.its_rows, g.its_out, g.its_event, u.its_events, p.its_top, reverse-append ops (op ∷ []))
+            (ap (second_step base op) u.its_state);
       }
-
-  -- After the last.
-  pub second_end : SecondTo ops base needs start rows event left top gates out → left ≤ 0 → length ops ≤ 1024 → start.rows ≤ 3 + 6 * 1024
-      → SecondEnds (second_pass base needs ops start) rows out
-  second_end u h few low =
-      let none : left ≡ 0 = omega (arith, h) in
-      let all : second_at rows event left top gates out ≡ second_pass base needs ops start =
-      u.its_state ∙ ap (λ (k : ℕ). second_pass base needs (drop k ops) start) none in
-      rw (← all) record { its_rows = refl; its_out = refl; few_rows = omega (arith, u.few_rows, few, low) }

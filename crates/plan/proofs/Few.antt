@@ -1,21 +1,22 @@
 -- How many rows the two passes write: at most 8 for each copy of a node.
-use mathlib.Core.Path.{◌≡◌}
-use mathlib.Core.Bool.{true, false, ◌&&◌}
+use mathlib.Core.Path.{◌≡◌, refl}
+use Rattle.std.specs.Prelude.{Some}
+use mathlib.Core.Bool.{true, ◌&&◌}
 use mathlib.Core.List.{List, [], ◌∷◌, ◌++◌}
 use Prim.Native.Nat.{ℕ, zero, suc, ◌+◌, ◌-◌, ◌*◌, ◌≤◌}
 use native.Mathlib.Nat.{suc-mul}
 use native.Mathlib.Omega.{arith}
-use lib.Dec.{eqb, leb}
+use lib.Dec.{leb}
 use lib.ListN.{length, length-append}
-use borrow.Author.Tests.{eqb-false, ne_eqb, leb-true}
-use Rattle.base.proofs.Truth.{and_l, and_r, by_cases}
+use borrow.Author.Tests.{leb-true}
+use Rattle.base.proofs.Truth.{and_l, and_r}
 use Rattle.diagram.specs.Tree.{Flow, flow, Children, none, next, Child, plain, loop, group, replicator, Member, leaf, inner, Members, end, also}
 use Rattle.diagram.specs.Count.{child_events, member_events, flow_copies, children_copies, child_copies, member_copies, members_copies}
 use Rattle.diagram.specs.Sizes.{flow_sized, children_sized, child_sized, member_sized, members_sized}
 use Rattle.process.specs.Process.{Joint, seq, and, or, xor, Process, event, join, again, rounds}
 use Rattle.process.specs.Expand.{joint, copies, expand, flow_process, children_process, child_process, loop_process, member_process, members_process}
 use Rattle.layout.specs.Fields.{both_row}
-use Rattle.plan.specs.Pieces.{settling, settled_row, rounds_piece}
+use Rattle.plan.specs.Pieces.{settling, rounds_piece}
 use Rattle.postfix.specs.Fold.{fold}
 use Rattle.plan.specs.Plan.{Plan, joined, joint_words, later_gate, earlier_gate, plan_of, guards_of, middle, rows_of}
 use Rattle.plan.specs.declared.PartRows.{PartRows}
@@ -52,19 +53,13 @@ weight (rounds p r l) = weight p + (4 + lazy p)
 
 -- ---- the row that settles a part
 -- None is written where there is one already.
-settling_none : (m : PartRows) → 1 ≤ m.settled → length (settling m) ≤ 0
-settling_none m h =
-    let f : eqb m.settled 0 ≡ false = ne_eqb m.settled 0 (λ e. omega arith) in
-    rw f (omega arith)
-
--- The row that settles a part is not row 0.
-settled_some : (k : ℕ) (m : PartRows) → 1 ≤ k → 1 ≤ settled_row k m
-settled_some k m h = by_cases (eqb m.settled 0) (λ t. rw t h) (λ f. let z = eqb-false m.settled 0 f in rw f (omega (arith, z)))
+settling_none : (m : PartRows) (row : ℕ) → m.settled ≡ Some row → length (settling m) ≤ 0
+settling_none m row h = rw h (omega arith)
 
 join_settling : (j : Joint) (k : ℕ) (a b : Plan) → length (settling (joined j k a b).part) ≤ lazy_joint j
 join_settling seq k a b = omega arith
 join_settling and k a b = omega arith
-join_settling or k a b = settling_none (joined or k a b).part (omega arith)
+join_settling or k a b = settling_none (joined or k a b).part _ refl
 join_settling xor k a b = omega arith
 
 -- One is written at most, and only for a lazy part.
@@ -73,8 +68,7 @@ unfolding fold lazy
 settling_few (event n l) k = omega arith
 settling_few (join j p q) k = join_settling j k (plan_of p k) (plan_of q (k + length (plan_of p k).words))
 settling_few (again n l) k = omega arith
-settling_few (rounds p r l) k =
-    settling_none (plan_of (rounds p r l) k).part (settled_some (k + length (plan_of p k).words + 3) (plan_of p k).part (omega arith))
+settling_few (rounds p r l) k = settling_none (plan_of (rounds p r l) k).part _ refl
 
 -- ---- the rows of both passes
 joint_few : (j : Joint) (k m : ℕ) (n : Needs) (a b : Plan) (s t : ℕ) → length (settling a.part) ≤ s → length (settling b.part) ≤ t

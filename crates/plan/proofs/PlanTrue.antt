@@ -1,13 +1,11 @@
 -- The rows of the first pass say of each part of a process what the control bits say of it.
 use mathlib.Core.Path.{◌≡◌, refl, sym, ◌∙◌, ap, ap₂}
-use mathlib.Core.Bool.{Bool, true, false, not, ◌&&◌, ◌||◌, or_comm, or-not_self}
+use mathlib.Core.Bool.{Bool, true, not, ◌&&◌, ◌||◌, or_comm, or-not_self}
 use mathlib.Core.List.{List, [], ◌∷◌, ◌++◌}
 use Prim.Native.Nat.{ℕ, zero, suc, ◌+◌, ◌≤◌, ◌<◌}
 use native.Mathlib.Omega.{arith}
-use lib.Dec.{eqb}
+use Rattle.std.specs.Prelude.{Some, None}
 use lib.ListN.{length, length-append, get_or}
-use borrow.Author.Tests.{eqb-false}
-use Rattle.base.proofs.Truth.{by_cases}
 use Rattle.process.specs.Process.{Joint, seq, and, or, xor, Event, Process, event, join, again, rounds}
 use Rattle.process.specs.Bits.{Bits}
 use Rattle.process.specs.Guards.{begun, complete}
@@ -19,7 +17,7 @@ use Rattle.postfix.specs.Fold.{fold}
 use Rattle.plan.specs.Plan.{joined, plan_of}
 use Rattle.plan.specs.declared.PartRows.{PartRows}
 use Rattle.layout.specs.Values.{says}
-use Rattle.plan.proofs.Says.{Obeys, PartAgrees, Below}
+use Rattle.plan.proofs.Says.{Obeys, PartAgrees, Below, by_option, settled_by}
 use Rattle.layout.proofs.Decoded.{bit_says, not_says, both_says, either_says}
 use Rattle.plan.proofs.Within.{obeys_split, below_more, settled_below, join_length, plan_below}
 
@@ -40,18 +38,18 @@ module _ (s : Bits) (v : ℕ → Bool) where
 
   event_true : (n : ℕ) (l : Event) (k : ℕ) → v 2 ≡ true → (v k ≡ s n) × (v (k + 1) ≡ not (s n)) → PartAgrees (event n l) s v (event_piece k n).part
   unfolding begun complete
-  event_true n l k on h = record { its_begun = h.0; its_idle = h.1; its_done = h.0; its_settled = λ z. on ∙ sym (or-not_self (s n)) }
+  event_true n l k on h = record { its_begun = h.0; its_idle = h.1; its_done = h.0; its_settled = settled_by v _ _ (on ∙ sym (or-not_self (s n))) }
 
   again_true : (n : ℕ) (l : Event) (k : ℕ) → v 2 ≡ true → (v k ≡ s n) × (v (k + 1) ≡ not (s n)) → PartAgrees (again n l) s v (again_piece k n).part
   unfolding begun complete
-  again_true n l k on h = record { its_begun = h.0; its_idle = h.1; its_done = on; its_settled = λ z. on }
+  again_true n l k on h = record { its_begun = h.0; its_idle = h.1; its_done = on; its_settled = settled_by v _ _ on }
 
   -- A part is settled by its own row or by the new one.
   settled_true : (p : Process) (k lo : ℕ) (m : PartRows) → k ≤ 16384 → Below k lo m → PartAgrees p s v m → Obeys s v k (settling m)
       → v (settled_row k m) ≡ (complete p s || not (begun p s))
-  settled_true p k lo m room a t h = by_cases (eqb m.settled 0) new own
+  settled_true p k lo m room a t h = by_option m.settled new own
     where
-      new : eqb m.settled 0 ≡ true → v (settled_row k m) ≡ (complete p s || not (begun p s))
+      new : m.settled ≡ None → v (settled_row k m) ≡ (complete p s || not (begun p s))
       new e =
           let first : get_or (settling m) 0 0 ≡ either_row m.done m.idle = rw e refl in
           let some : 1 ≤ length (settling m) = rw e (omega arith) in
@@ -59,8 +57,8 @@ module _ (s : Bits) (v : ℕ → Bool) where
           (row_says k (settling m) 0 k h (omega arith) some
           ∙ (ap (λ w. says w s v) first ∙ (either_says s v m.done m.idle (omega arith) (omega arith) ∙ ap₂ ◌||◌ t.its_done t.its_idle)))
 
-      own : eqb m.settled 0 ≡ false → v (settled_row k m) ≡ (complete p s || not (begun p s))
-      own e = rw e (t.its_settled (eqb-false m.settled 0 e))
+      own : (row : ℕ) → m.settled ≡ Some row → v (settled_row k m) ≡ (complete p s || not (begun p s))
+      own row e = rw e (t.its_settled row e)
 
   rounds_true : (p : Process) (r : ℕ) (l : Event) (k lo : ℕ) (m : PartRows) → r < 512 → k + length (rounds_piece k r m).words ≤ 16384 → Below k lo m
       → PartAgrees p s v m → Obeys s v k (rounds_piece k r m).words → PartAgrees (rounds p r l) s v (rounds_piece k r m).part
@@ -78,7 +76,7 @@ module _ (s : Bits) (v : ℕ → Bool) where
         its_begun = b;
         its_idle = row_says k _ 2 (k + 2) h (omega arith) (omega arith) ∙ (not_says s v (k + 1) (omega arith) ∙ ap not b);
         its_done = d ∙ or_comm (complete p s) (not (begun p s));
-        its_settled = λ z. d ∙ loop_settled (begun p s) (complete p s) (s r);
+        its_settled = settled_by v _ _ (d ∙ loop_settled (begun p s) (complete p s) (s r));
       }
 
   module _ (p q : Process) (k lo hi : ℕ) (m n : PartRows) (room : k ≤ 16384) (a : Below k lo m) (b : Below k hi n)
@@ -94,13 +92,13 @@ module _ (s : Bits) (v : ℕ → Bool) where
 
     -- A joint that has one row more, by which it is complete.
     three_true : (j : Joint) (w : ℕ) → Obeys s v k (either_row m.begun n.begun ∷ not_row k ∷ w ∷ []) → says w s v ≡ complete (join j p q) s
-        → PartAgrees (join j p q) s v (part_rows k (k + 1) (k + 2) 0 m.first)
+        → PartAgrees (join j p q) s v (part_rows k (k + 1) (k + 2) None m.first)
     unfolding begun
     three_true j w h c = record {
       its_begun = one_begun (w ∷ []) h;
       its_idle = none_begun (w ∷ []) h;
       its_done = row_says k _ 2 (k + 2) h (omega arith) (omega arith) ∙ c;
-      its_settled = λ z. absurd (z refl);
+      its_settled = λ row z. absurd (cc);
     }
 
     both_done : says (both_row m.done n.done) s v ≡ (complete p s && complete q s)
@@ -124,7 +122,7 @@ module _ (s : Bits) (v : ℕ → Bool) where
           its_done =
               row_says k _ 3 (k + 3) h (omega arith) (omega arith)
               ∙ (ap (λ x. says x s v) word ∙ (both_says s v k (k + 2) (omega arith) (omega arith) ∙ ap₂ ◌&&◌ (one_begun _ h) w));
-          its_settled = λ z. w ∙ some_settled (begun p s) (begun q s) (complete p s) (complete q s);
+          its_settled = settled_by v _ _ (w ∙ some_settled (begun p s) (begun q s) (complete p s) (complete q s));
         }
 
   -- The same, with the rows that settle the parts.

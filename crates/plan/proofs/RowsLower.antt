@@ -3,9 +3,7 @@ use mathlib.Core.Path.{◌≡◌, refl}
 use mathlib.Core.List.{List, [], ◌∷◌, ◌++◌}
 use Prim.Native.Nat.{ℕ, suc, ◌+◌, ◌≤◌, ◌<◌}
 use native.Mathlib.Omega.{arith}
-use lib.Dec.{eqb}
 use lib.ListN.{length, length-append}
-use Rattle.base.proofs.Truth.{by_cases}
 use Rattle.process.specs.Process.{Joint, seq, and, or, xor, Process, event, join, again, rounds}
 use Rattle.process.proofs.Numbered.{Numbered, size}
 use Rattle.layout.specs.Sound.{RowKeeps}
@@ -15,7 +13,7 @@ use Rattle.postfix.specs.Fold.{fold}
 use Rattle.plan.specs.Plan.{plan_of, guards_of, joined, joint_words, later_gate, earlier_gate}
 use Rattle.plan.specs.declared.PartRows.{PartRows}
 use Rattle.plan.specs.declared.Needs.{Needs}
-use Rattle.plan.proofs.Says.{Lower, Below}
+use Rattle.plan.proofs.Says.{Lower, Below, by_option}
 use Rattle.layout.proofs.Decoded.{Fields, bit_fields, not_fields, both_fields, either_fields}
 use Rattle.plan.proofs.Within.{lower_join, below_more, settled_below, rounds_below, join_length, plan_below}
 use Rattle.plan.proofs.Gates.{gates_below}
@@ -63,8 +61,8 @@ leaf_lower n k e h m c =
 -- A row that a part is complete or not begun, where one is needed.
 settling_lower : (n k lo : ℕ) (m : PartRows) → Below k lo m → k ≤ 16384 → Lower n k (settling m)
 settling_lower n k lo m b c =
-    by_cases (eqb m.settled 0)
-    (λ t. rw t (either_first n k [] m.done m.idle b.its_done b.its_idle c (no_rows n (suc k)))) (λ f. rw f (no_rows n k))
+    by_option m.settled
+    (λ t. rw t (either_first n k [] m.done m.idle b.its_done b.its_idle c (no_rows n (suc k)))) (λ row f. rw f (no_rows n k))
 
 rounds_lower : (n k lo e : ℕ) (m : PartRows) → Below k lo m → e < n → n ≤ 512 → k + length (rounds_piece k e m).words ≤ 16384
     → Lower n k (rounds_piece k e m).words

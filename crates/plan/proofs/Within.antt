@@ -2,10 +2,11 @@
 use mathlib.Core.Path.{◌≡◌, subst}
 use mathlib.Core.Bool.{Bool, true, false}
 use mathlib.Core.List.{List, [], ◌∷◌, ◌++◌}
+use Rattle.std.specs.Prelude.{Some, None}
 use Prim.Native.Nat.{ℕ, zero, suc, ◌+◌, ◌-◌, ◌≤◌, ◌<◌}
 use native.Mathlib.Omega.{arith}
 use native.Mathlib.Nat.{add-zero}
-use lib.Dec.{eqb, ltb}
+use lib.Dec.{ltb}
 use lib.ListN.{length, length-append, get_or, get_or-append}
 use lib.Seq.{get_or-append-add}
 use borrow.Author.Tests.{ltb-true, ltb-false}
@@ -17,7 +18,7 @@ use Rattle.plan.specs.Pieces.{part_rows, rounds_piece, settling, settled_row, jo
 use Rattle.postfix.specs.Fold.{fold}
 use Rattle.plan.specs.Plan.{joined, plan_of}
 use Rattle.plan.specs.declared.PartRows.{PartRows}
-use Rattle.plan.proofs.Says.{Obeys, Lower, Below}
+use Rattle.plan.proofs.Says.{Obeys, Lower, Below, by_option}
 
 -- ---- lists of rows
 -- Values that obey two lists of rows, one after the other, obey each.
@@ -70,9 +71,9 @@ below_more k n lo m h b = record {
 
 -- The row that settles a part is written by then.
 pub settled_below : (k lo : ℕ) (m : PartRows) → Below k lo m → settled_row k m < k + length (settling m)
-settled_below k lo m b = by_cases (eqb m.settled 0) (λ t. rw t (omega arith)) (λ f. rw f (omega (arith, b.its_settled)))
+settled_below k lo m b = by_option m.settled (λ t. rw t (omega arith)) (λ row f. rw f (omega (arith, rw f at b.its_settled)))
 
-leaf_below : (k lo e done : ℕ) → 3 ≤ k → done ≤ k → e ≡ lo → Below (k + 2) lo (part_rows k (k + 1) done 2 e)
+leaf_below : (k lo e done : ℕ) → 3 ≤ k → done ≤ k → e ≡ lo → Below (k + 2) lo (part_rows k (k + 1) done (Some 2) e)
 leaf_below k lo e done h d q =
     record { its_begun = omega arith; its_idle = omega arith; its_done = omega arith; its_settled = omega arith; its_first = q }
 
@@ -85,7 +86,7 @@ rounds_below k lo e m b =
       omega arith,
     )
 
-three_below : (k lo e : ℕ) → e ≡ lo → Below (k + 3) lo (part_rows k (k + 1) (k + 2) 0 e)
+three_below : (k lo e : ℕ) → e ≡ lo → Below (k + 3) lo (part_rows k (k + 1) (k + 2) None e)
 three_below k lo e q =
     record { its_begun = omega arith; its_idle = omega arith; its_done = omega arith; its_settled = omega arith; its_first = q }
 

@@ -1,18 +1,35 @@
--- Rows as the code holds and writes them: for the contracts of private functions.
-use Rattle.std.specs.Prelude.{◌≡◌, List, [], ◌∷◌, ℕ, suc, ◌+◌, ◌*◌, ◌≤◌}
+-- Rows as the code writes them, one after the other: for the contracts of private functions.
+use Rattle.std.specs.Prelude.{◌≡◌, List, [], ◌∷◌, ℕ, ◌+◌, ◌*◌, length}
+use Rattle.std.specs.Borrow.{MutBor}
 use Rattle.base.specs.Packed.{put_word}
-use Rattle.plan.specs.Pieces.{Piece}
-use Rattle.rows.specs.code.Words.{Lists}
-use Rattle.guards.specs.declared.Added.{Added}
+use Rattle.guards.specs.declared.Table.{Table}
 
 -- The bytes with rows from row k on, where row 0 stands at `base`.
 unfoldable pub put_rows : ℕ → ℕ → List ℕ → List ℕ → List ℕ
 put_rows base k [] o = o
-put_rows base k (w ∷ ws) o = put_rows base (suc k) ws (put_word o (base + 4 * k) w)
+put_rows base k (w ∷ ws) o = put_rows base (k + 1) ws (put_word o (base + 4 * k) w)
 
--- The value of a piece.
-pub record Adds (p : Piece) (r : Added) : Type 0 where
-  pub its_list : Lists r.words p.words
-  pub few : r.words.count ≤ 6
-  pub its_part : r.part ≡ p.part
-  pub its_needs : r.needs ≡ p.needs
+-- Row 0 stands after the event records.
+abbrev pub base_of : ℕ → ℕ
+base_of events = 4 + 4 * events
+
+-- Over lent bytes, for so many events: no row yet.
+pub record Begins (lent : MutBor (List ℕ)) (events : ℕ) (w : Table) : Type 0 where
+  pub same : w.out.ghost_name ≡ lent.ghost_name
+  pub its_events : w.events ≡ events
+  pub its_next : w.next ≡ 0
+  pub its_bytes : w.out.now ≡ lent.now
+
+-- From w to v these rows are added.
+pub record Adds (w v : Table) (ws : List ℕ) : Type 0 where
+  pub same : v.out.ghost_name ≡ w.out.ghost_name
+  pub its_events : v.events ≡ w.events
+  pub its_next : v.next ≡ w.next + length ws
+  pub its_bytes : v.out.now ≡ put_rows (base_of w.events) w.next ws w.out.now
+
+-- From w to v no row is added, and the bytes are these.
+pub record Keeps (w v : Table) (bytes : List ℕ) : Type 0 where
+  pub same : v.out.ghost_name ≡ w.out.ghost_name
+  pub its_events : v.events ≡ w.events
+  pub its_next : v.next ≡ w.next
+  pub its_bytes : v.out.now ≡ bytes
