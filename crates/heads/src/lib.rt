@@ -1,273 +1,232 @@
 #![tactic(auto)]
 
-ghost use Rattle.std.specs.Prelude.{◌≡◌, [], ◌∷◌, ℕ, ◌+◌, ◌*◌, ◌-◌, ◌<◌};
+ghost use Rattle.std.specs.Prelude.{◌≡◌, [], ◌∷◌, ℕ, ◌+◌, ◌*◌, ◌-◌, ◌<◌, ◌≤◌, ◌⊎◌, length, IfOk, IfErr, MatchResult};
+ghost use Rattle.base.specs.declared.Reason.TheVariants.{Token, Text};
+ghost use Rattle.base.specs.Refusals.{refusal};
 ghost use Rattle.tokens.specs.Token.{Sign, opening, closing as closing_sign, colon, sign_code};
 ghost use Rattle.grammar.specs.Machine.{sign as sign_of, named, number, params};
 ghost use Rattle.walked.specs.Walk.{store, begun};
-ghost use Rattle.walked.specs.code.Readers.{Closing, Reads, Fills, Begins, Marks};
-ghost use Rattle.heads.specs.code.Lent.{Lent};
+ghost use Rattle.walked.specs.code.Readers.{Closing, Reads, Fills, Marks};
+ghost use Rattle.heads.specs.code.Seen.{Seen, Begun};
 
+use base::Reason;
+use base::Refusal;
+use lexer::Lexer;
 use tokens::Lexeme;
-use walked::Step;
+use walked::Position;
 
 // What the lines of the thesis's Figure 5.2 have in parentheses, and a node's keyword. The lines themselves are read in `walk`.
 
-// One of the signs ( ) , : by its class. No word is looked at.
-pub fn sign(text: &[u8], at: usize, n: usize, want: u8, lexicon: &[u8; 400]) -> Step
-    requires { Lent text.now lexicon.now }
-    ensures { (s : Sign) → sign_code s ≡ want → Reads text.now (sign_of s ∷ []) n at result }
-{
-    let start = lexer::gap(text, at, lexicon);
-    if text.len() <= start {
-        return Step::Stop(5, text.len());
-    }
-    let c = lexer::class(text[start], lexicon);
-    if c != want {
-        return Step::Stop(5, start);
-    }
-    Step::Go(start + 1, n)
-}
+// The numbers of a node's row, in their order: the place of its keyword, its solid mark, the place of its name or par, its keyword, its size, its depth,
+// its sw, the place past its name or par.
+pub const PLACE: usize = 0;
 
-// Whether a `)` comes next, by its class alone: the position past it, or 0.
-pub fn closing(text: &[u8], at: usize, lexicon: &[u8; 400]) -> usize
-    requires { Lent text.now lexicon.now }
-    ensures { Closing text.now at result }
-{
-    let start = lexer::gap(text, at, lexicon);
-    if text.len() <= start {
-        return 0;
-    }
-    let c = lexer::class(text[start], lexicon);
-    if c != 2 {
-        return 0;
-    }
-    start + 1
-}
+pub const SOLID: usize = 1;
+
+pub const NAME: usize = 2;
+
+pub const KEYWORD: usize = 3;
+
+pub const SIZE: usize = 4;
+
+pub const DEPTH: usize = 5;
+
+pub const SWITCH: usize = 6;
+
+pub const PAST: usize = 7;
 
 // A store into the row n. Past the last row it does nothing.
 fn put(rows: &mut [u16; 2056], n: usize, column: usize, v: u16)
-    requires { column < 8 }
+    requires { column < 16 }
     ensures { rows.new ≡ store rows.old (n * 8 + column) v }
 {
-    if 256 < n {
-        return;
+    if n <= 256 {
+        base::put(rows, n * 8 + column, v);
     }
-    rows[n * 8 + column] = v;
 }
 
-// The solid mark of the node before which i nodes stand. Past the last row nothing is done.
-fn mark(rows: &mut [u16; 2056], i: usize, v: u16)
-    ensures { rows.new ≡ store rows.old (i * 8 + 9) v }
-{
-    if 255 < i {
-        return;
-    }
-    rows[i * 8 + 9] = v;
-}
-
-// The depth of a node for which so many depths are left.
-fn depth_of(left: usize) -> u16
-    ensures { result ≡ 13 - left }
-{
-    if 13 <= left {
-        return 0;
-    }
-    (13 - left) as u16
-}
-
-// Begins the row of the node that is counted n with those before it: the place of its keyword c, the keyword's number, and its depth, by the depths
-// left for it.
+// Begins the row of the node before which n nodes stand: the place of its keyword c, the keyword's number, and its depth, by the depths left for it.
 fn begin_row(rows: &mut [u16; 2056], n: usize, c: u8, place: u16, left: usize)
-    ensures { (m : ℕ) → n ≡ m + 1 → rows.new ≡ begun rows.old m c place left }
+    requires { n < 256 }
+    ensures { rows.new ≡ begun rows.old n c place left }
 {
-    put(rows, n, 0, place);
-    put(rows, n, 3, c as u16);
-    put(rows, n, 5, depth_of(left));
+    let row = n + 1;
+    put(rows, row, PLACE, place);
+    put(rows, row, KEYWORD, u16::from(c));
+    put(rows, row, DEPTH, 13usize.saturating_sub(left) as u16);
 }
 
-// The keyword t of a node, for which so many depths are left and before which n nodes stand: number 5 where it is none of those up to the number top,
-// number 6 where the node is too deep or too many; else its row is begun.
-pub fn begin_node(t: Lexeme, top: u8, left: usize, n: usize, rows: &mut [u16; 2056]) -> Step
-    requires { t.start < 65536 }
-    ensures { Begins t top left n rows.old result rows.new }
+// The number that a numeral from `least` to `most` stands for; number 5 for another token.
+fn value(t: Lexeme, least: u8, most: u8) -> Result<u16, Refusal>
+    requires { (least < 200) × (most < 200) }
+    ensures ok { IfOk result (λ v. (16 + least ≤ t.code) × (t.code ≤ 16 + most) × (v ≡ t.code - 16)) }
+    ensures err { IfErr result (λ r. (r ≡ refusal Token t.start) × ((t.code < 16 + least) ⊎ (16 + most < t.code))) }
 {
-    let c = t.code;
-    if c < 7 {
-        return Step::Stop(5, t.start);
+    if t.code < lexer::ZERO + least || lexer::ZERO + most < t.code {
+        return Err(Reason::Token.at(t.start));
     }
-    if top < c {
-        return Step::Stop(5, t.start);
-    }
-    if left == 0 {
-        return Step::Stop(6, t.start);
-    }
-    if n >= 256 {
-        return Step::Stop(6, t.start);
-    }
-    let m = n + 1;
-    begin_row(rows, m, c, t.start as u16, left);
-    Step::Go(t.end, m)
+    Ok(u16::from(t.code - lexer::ZERO))
 }
 
-// The name of the node n, or its par: its place, and the place past it.
-fn read_name(text: &[u8], at: usize, n: usize, rows: &mut [u16; 2056], lexicon: &[u8; 400]) -> Step
-    requires { Lent text.now lexicon.now }
-    ensures { Fills text.now (named ∷ []) n at rows.old result rows.new }
-{
-    let t: Lexeme = lexer::next(text, at, lexicon);
-    if t.code != 6 {
-        return Step::Stop(5, t.start);
-    }
-    put(rows, n, 2, t.start as u16);
-    put(rows, n, 7, t.end as u16);
-    Step::Go(t.end, n)
+// What reads a text token by token. A text has at most 16,384 bytes, so each place in it fits 16 bits.
+pub struct Parser<'a> {
+    pub lexer: Lexer<'a>,
+    ghost short: { length lexer.text.now ≤ 16384 },
 }
 
-// `(` and a name.
-fn read_named(text: &[u8], at: usize, n: usize, rows: &mut [u16; 2056], lexicon: &[u8; 400]) -> Step
-    requires { Lent text.now lexicon.now }
-    ensures { Fills text.now (sign_of opening ∷ named ∷ []) n at rows.old result rows.new }
-{
-    let s = sign(text, at, n, 1, lexicon);
-    let Step::Go(p, m) = s else {
-        return s;
-    };
-    read_name(text, p, m, rows, lexicon)
-}
-
-// Figure 5.2, flow: the pars and the sw, each after a comma, and the `)`. What is no name after a comma has to be the sw.
-fn read_params(
-    text: &[u8],
-    at: usize,
-    n: usize,
-    rows: &mut [u16; 2056],
-    lexicon: &[u8; 400],
-) -> Step
-    requires { Lent text.now lexicon.now }
-    ensures { Fills text.now (params ∷ []) n at rows.old result rows.new }
-{
-    let mut p = at;
-    loop {
-        let comma: Lexeme = lexer::next(text, p, lexicon);
-        if comma.code != 3 {
-            return Step::Stop(5, comma.start);
+impl<'a> Parser<'a> {
+    // Number 2 for a longer text.
+    pub fn new(text: &'a [u8]) -> Result<Self, Refusal>
+        ensures ok { IfOk result (λ r. (r.lexer.text.now ≡ text.now) × (length text.now ≤ 16384)) }
+        ensures err { IfErr result (λ r. (r ≡ refusal Text 16384) × (16384 < length text.now)) }
+    {
+        if 16384 < text.len() {
+            return Err(Reason::Text.at(16384));
         }
-        let t: Lexeme = lexer::next(text, comma.end, lexicon);
-        if t.code != 6 {
-            if t.code < 16 {
-                return Step::Stop(5, t.start);
-            }
-            if 17 < t.code {
-                return Step::Stop(5, t.start);
-            }
-            put(rows, n, 6, (t.code - 16) as u16);
-            return sign(text, t.end, n, 2, lexicon);
+        Ok(Parser {
+            lexer: Lexer::new(text),
+        })
+    }
+
+    // The keyword of a node, for which so many depths are left, and the position past it: number 5 where none of those up to the number top comes next,
+    // number 6 where the node is too deep or too many; else its row is begun.
+    pub fn node(&self, p: Position, top: u8, left: usize, rows: &mut [u16; 2056]) -> Result<(u8, Position), Refusal>
+        ensures { Begun self.now.lexer.text.now p.at top left p.nodes rows.old result rows.new }
+    {
+        let t = self.lexer.next(p.at);
+        if t.code < lexer::FLOW || top < t.code {
+            return Err(Reason::Token.at(t.start));
         }
-        p = t.end;
+        if left == 0 || 256 <= p.nodes {
+            return Err(Reason::Node.at(t.start));
+        }
+        begin_row(rows, p.nodes, t.code, t.start as u16, left);
+        let past = Position {
+            at: t.end,
+            nodes: p.nodes + 1,
+        };
+        Ok((t.code, past))
     }
-}
 
-// Figure 5.2, flow: what stands between the keyword and the children, which is the name, the pars and the sw, and a `(`.
-pub fn read_flow_head(
-    text: &[u8],
-    at: usize,
-    n: usize,
-    rows: &mut [u16; 2056],
-    lexicon: &[u8; 400],
-) -> Step
-    requires { Lent text.now lexicon.now }
-    ensures { Fills text.now (sign_of opening ∷ named ∷ params ∷ sign_of opening ∷ []) n at rows.old result rows.new }
-{
-    let s = read_named(text, at, n, rows, lexicon);
-    let Step::Go(p, m) = s else {
-        return s;
-    };
-    let s = read_params(text, p, m, rows, lexicon);
-    let Step::Go(p, m) = s else {
-        return s;
-    };
-    sign(text, p, m, 1, lexicon)
-}
-
-// Document 01's addition to the par of Figure 5.2, constructor: the size of the node n, from 1 to 16, and the `)`.
-fn read_size(text: &[u8], at: usize, n: usize, rows: &mut [u16; 2056], lexicon: &[u8; 400]) -> Step
-    requires { Lent text.now lexicon.now }
-    ensures { Fills text.now (number 1 16 ∷ sign_of closing_sign ∷ []) n at rows.old result rows.new }
-{
-    let t: Lexeme = lexer::next(text, at, lexicon);
-    if t.code < 17 {
-        return Step::Stop(5, t.start);
+    // One of the signs ( ) , : by its class: the place past it, or that of what stands there. No word is looked at.
+    fn seen(&self, at: usize, want: u8) -> Result<usize, usize>
+        ensures { (s : Sign) → sign_code s ≡ want → Seen self.now.lexer.text.now want at result }
+    {
+        let start = self.lexer.gap(at);
+        if self.lexer.text.len() <= start {
+            return Err(self.lexer.text.len());
+        }
+        if self.lexer.class(self.lexer.text[start]) != want {
+            return Err(start);
+        }
+        Ok(start + 1)
     }
-    if 32 < t.code {
-        return Step::Stop(5, t.start);
-    }
-    put(rows, n, 4, (t.code - 16) as u16);
-    sign(text, t.end, n, 2, lexicon)
-}
 
-// Figure 5.2, constructor: what stands between all, some, one and the member, which is a par with its size.
-pub fn read_copies(
-    text: &[u8],
-    at: usize,
-    n: usize,
-    rows: &mut [u16; 2056],
-    lexicon: &[u8; 400],
-) -> Step
-    requires { Lent text.now lexicon.now }
-    ensures { Fills text.now (sign_of opening ∷ named ∷ sign_of colon ∷ number 1 16 ∷ sign_of closing_sign ∷ []) n at rows.old result rows.new }
-{
-    let s = read_named(text, at, n, rows, lexicon);
-    let Step::Go(p, m) = s else {
-        return s;
-    };
-    let s = sign(text, p, m, 4, lexicon);
-    let Step::Go(p, m) = s else {
-        return s;
-    };
-    read_size(text, p, m, rows, lexicon)
-}
-
-// Figure 5.2, child and cons-child: what follows leaf, a name in parentheses.
-pub fn read_leaf(
-    text: &[u8],
-    at: usize,
-    n: usize,
-    rows: &mut [u16; 2056],
-    lexicon: &[u8; 400],
-) -> Step
-    requires { Lent text.now lexicon.now }
-    ensures { Fills text.now (sign_of opening ∷ named ∷ sign_of closing_sign ∷ []) n at rows.old result rows.new }
-{
-    let s = read_named(text, at, n, rows, lexicon);
-    let Step::Go(p, m) = s else {
-        return s;
-    };
-    sign(text, p, m, 2, lexicon)
-}
-
-// Figure 5.2, flow: the ref of the child before which i nodes stand, `(0)` or `(1)`, which is its solid mark.
-pub fn read_ref(
-    text: &[u8],
-    at: usize,
-    n: usize,
-    i: usize,
-    rows: &mut [u16; 2056],
-    lexicon: &[u8; 400],
-) -> Step
-    requires { Lent text.now lexicon.now }
-    ensures { Marks text.now i n at rows.old result rows.new }
-{
-    let s = sign(text, at, n, 1, lexicon);
-    let Step::Go(p, m) = s else {
-        return s;
-    };
-    let t: Lexeme = lexer::next(text, p, lexicon);
-    if t.code < 16 {
-        return Step::Stop(5, t.start);
+    // One of the signs has to come next.
+    pub fn sign(&self, p: Position, want: u8) -> Result<Position, Refusal>
+        ensures { (s : Sign) → sign_code s ≡ want → Reads self.now.lexer.text.now (sign_of s ∷ []) p.nodes p.at result }
+    {
+        match self.seen(p.at, want) {
+            Ok(at) => Ok(Position { at, nodes: p.nodes }),
+            Err(place) => Err(Reason::Token.at(place)),
+        }
     }
-    if 17 < t.code {
-        return Step::Stop(5, t.start);
+
+    // Whether a `)` comes next: the place past it.
+    pub fn closing(&self, at: usize) -> Option<usize>
+        ensures { Closing self.now.lexer.text.now at result }
+    {
+        self.seen(at, lexer::CLOSING).ok()
     }
-    mark(rows, i, (t.code - 16) as u16);
-    sign(text, t.end, m, 2, lexicon)
+
+    // The name of the last node, or its par: its place, and the place past it.
+    fn name(&self, p: Position, rows: &mut [u16; 2056]) -> Result<Position, Refusal>
+        ensures { Fills self.now.lexer.text.now (named ∷ []) p.nodes p.at rows.old result rows.new }
+    {
+        let t = self.lexer.next(p.at);
+        if t.code != lexer::NAME {
+            return Err(Reason::Token.at(t.start));
+        }
+        put(rows, p.nodes, NAME, t.start as u16);
+        put(rows, p.nodes, PAST, t.end as u16);
+        Ok(Position {
+            at: t.end,
+            nodes: p.nodes,
+        })
+    }
+
+    // `(` and a name.
+    fn opened_name(&self, p: Position, rows: &mut [u16; 2056]) -> Result<Position, Refusal>
+        ensures { Fills self.now.lexer.text.now (sign_of opening ∷ named ∷ []) p.nodes p.at rows.old result rows.new }
+    {
+        let p = self.sign(p, lexer::OPENING)?;
+        self.name(p, rows)
+    }
+
+    // Figure 5.2, flow: the pars and the sw, each after a comma, and the `)`. What is no name after a comma has to be the sw.
+    fn params(&self, p: Position, rows: &mut [u16; 2056]) -> Result<Position, Refusal>
+        ensures { Fills self.now.lexer.text.now (params ∷ []) p.nodes p.at rows.old result rows.new }
+    {
+        let mut at = p.at;
+        loop {
+            let comma = self.lexer.next(at);
+            if comma.code != lexer::COMMA {
+                return Err(Reason::Token.at(comma.start));
+            }
+            let t = self.lexer.next(comma.end);
+            at = t.end;
+            if t.code != lexer::NAME {
+                let switch = value(t, 0, 1)?;
+                put(rows, p.nodes, SWITCH, switch);
+                return self.sign(Position { at, nodes: p.nodes }, lexer::CLOSING);
+            }
+        }
+    }
+
+    // Figure 5.2, flow: what stands between the keyword and the children, which is the name, the pars and the sw, and a `(`.
+    pub fn flow_head(&self, p: Position, rows: &mut [u16; 2056]) -> Result<Position, Refusal>
+        ensures { Fills self.now.lexer.text.now (sign_of opening ∷ named ∷ params ∷ sign_of opening ∷ []) p.nodes p.at rows.old result rows.new }
+    {
+        let p = self.opened_name(p, rows)?;
+        let p = self.params(p, rows)?;
+        self.sign(p, lexer::OPENING)
+    }
+
+    // Document 01's addition to the par of Figure 5.2, constructor: the size of the last node, from 1 to 16, and the `)`.
+    fn size(&self, p: Position, rows: &mut [u16; 2056]) -> Result<Position, Refusal>
+        ensures { Fills self.now.lexer.text.now (number 1 16 ∷ sign_of closing_sign ∷ []) p.nodes p.at rows.old result rows.new }
+    {
+        let t = self.lexer.next(p.at);
+        let size = value(t, 1, 16)?;
+        put(rows, p.nodes, SIZE, size);
+        self.sign(Position { at: t.end, nodes: p.nodes }, lexer::CLOSING)
+    }
+
+    // Figure 5.2, constructor: what stands between all, some, one and the member, which is a par with its size.
+    pub fn copies(&self, p: Position, rows: &mut [u16; 2056]) -> Result<Position, Refusal>
+        ensures { Fills self.now.lexer.text.now (sign_of opening ∷ named ∷ sign_of colon ∷ number 1 16 ∷ sign_of closing_sign ∷ []) p.nodes p.at rows.old result rows.new }
+    {
+        let p = self.opened_name(p, rows)?;
+        let p = self.sign(p, lexer::COLON)?;
+        self.size(p, rows)
+    }
+
+    // Figure 5.2, child and cons-child: what follows leaf, a name in parentheses.
+    pub fn leaf(&self, p: Position, rows: &mut [u16; 2056]) -> Result<Position, Refusal>
+        ensures { Fills self.now.lexer.text.now (sign_of opening ∷ named ∷ sign_of closing_sign ∷ []) p.nodes p.at rows.old result rows.new }
+    {
+        let p = self.opened_name(p, rows)?;
+        self.sign(p, lexer::CLOSING)
+    }
+
+    // Figure 5.2, flow: the ref of the child before which i nodes stand, `(0)` or `(1)`, which is its solid mark.
+    pub fn reference(&self, p: Position, i: usize, rows: &mut [u16; 2056]) -> Result<Position, Refusal>
+        ensures { Marks self.now.lexer.text.now i p.nodes p.at rows.old result rows.new }
+    {
+        let p = self.sign(p, lexer::OPENING)?;
+        let t = self.lexer.next(p.at);
+        let solid = value(t, 0, 1)?;
+        put(rows, i, 8 + SOLID, solid);
+        self.sign(Position { at: t.end, nodes: p.nodes }, lexer::CLOSING)
+    }
 }
