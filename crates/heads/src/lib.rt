@@ -9,8 +9,7 @@ ghost use Rattle.walked.specs.Walk.{store, begun};
 ghost use Rattle.walked.specs.code.Readers.{Closing, Reads, Fills, Marks};
 ghost use Rattle.heads.specs.code.Seen.{Seen, Begun};
 
-use base::Reason;
-use base::Refusal;
+use base::{Reason, Refusal};
 use lexer::Lexer;
 use tokens::Lexeme;
 use walked::Position;
@@ -90,7 +89,13 @@ impl<'a> Parser<'a> {
 
     // The keyword of a node, for which so many depths are left, and the position past it: number 5 where none of those up to the number top comes next,
     // number 6 where the node is too deep or too many; else its row is begun.
-    pub fn node(&self, p: Position, top: u8, left: usize, rows: &mut [u16; 2056]) -> Result<(u8, Position), Refusal>
+    pub fn node(
+        &self,
+        p: Position,
+        top: u8,
+        left: usize,
+        rows: &mut [u16; 2056],
+    ) -> Result<(u8, Position), Refusal>
         ensures { Begun self.now.lexer.text.now p.at top left p.nodes rows.old result rows.new }
     {
         let t = self.lexer.next(p.at);
@@ -199,7 +204,13 @@ impl<'a> Parser<'a> {
         let t = self.lexer.next(p.at);
         let size = value(t, 1, 16)?;
         put(rows, p.nodes, SIZE, size);
-        self.sign(Position { at: t.end, nodes: p.nodes }, lexer::CLOSING)
+        self.sign(
+            Position {
+                at: t.end,
+                nodes: p.nodes,
+            },
+            lexer::CLOSING,
+        )
     }
 
     // Figure 5.2, constructor: what stands between all, some, one and the member, which is a par with its size.
@@ -220,13 +231,24 @@ impl<'a> Parser<'a> {
     }
 
     // Figure 5.2, flow: the ref of the child before which i nodes stand, `(0)` or `(1)`, which is its solid mark.
-    pub fn reference(&self, p: Position, i: usize, rows: &mut [u16; 2056]) -> Result<Position, Refusal>
+    pub fn reference(
+        &self,
+        p: Position,
+        i: usize,
+        rows: &mut [u16; 2056],
+    ) -> Result<Position, Refusal>
         ensures { Marks self.now.lexer.text.now i p.nodes p.at rows.old result rows.new }
     {
         let p = self.sign(p, lexer::OPENING)?;
         let t = self.lexer.next(p.at);
         let solid = value(t, 0, 1)?;
         put(rows, i, 8 + SOLID, solid);
-        self.sign(Position { at: t.end, nodes: p.nodes }, lexer::CLOSING)
+        self.sign(
+            Position {
+                at: t.end,
+                nodes: p.nodes,
+            },
+            lexer::CLOSING,
+        )
     }
 }

@@ -5,229 +5,147 @@ ghost use Rattle.grammar.specs.Machine.{root, member, child, flow_parts, group_p
 ghost use Rattle.grammar.specs.code.Coded.{coded_parts};
 ghost use Rattle.walked.specs.Walk.{ending};
 ghost use Rattle.walked.specs.code.Readers.{Fills, Opens, told};
-ghost use Rattle.heads.specs.code.Lent.{Lent};
 
-use tokens::Lexeme;
-use walked::{Step, Walk};
+use base::{Reason, Refusal};
+use heads::Parser;
+use walked::Position;
 
 // Figure 5.2 of the thesis has four lines: flow, child, cons-child and constructor. Each has its reader here, in the figure's order, and each reader tries
 // what its line names in the line's order. By document 01 one flow stands where the figure has one or more, and a replicator's par has a size.
 // The readers take the tokens straight from the text, and write the rows of the nodes as they go.
 
-// Numbers of keywords. They go in document 01's order: and, or stand between LEAF and XOR, all, some between XOR and ONE.
-const FLOW: u8 = 7;
-
-const LEAF: u8 = 8;
-
-const XOR: u8 = 11;
-
-const ONE: u8 = 14;
-
-const LOOP: u8 = 15;
-
 // Figure 5.2, flow, after the keyword: the name, the pars and the sw; one or more children, each with its ref, up to the `)`.
-#[cycle(read_body_read_child_read_constructor_read_flow_read_group_read_member)]
-fn read_flow(
-    text: &[u8],
-    at: usize,
+#[cycle(figure)]
+fn flow(
+    parser: &Parser,
+    p: Position,
     depth: usize,
-    n: usize,
     rows: &mut [u16; 2056],
-    lexicon: &[u8; 400],
-) -> Step
-    requires { Lent text.now lexicon.now }
-    ensures { Fills text.now (flow_parts depth) n at rows.old result rows.new }
+) -> Result<Position, Refusal>
+    ensures { Fills parser.now.lexer.text.now (flow_parts depth) p.nodes p.at rows.old result rows.new }
 {
-    let s = heads::read_flow_head(text, at, n, rows, lexicon);
-    let Step::Go(mut p, mut m) = s else {
-        return s;
-    };
+    let mut p = parser.flow_head(p, rows)?;
     loop {
-        let s = read_child(text, p, depth, m, rows, lexicon);
-        let Step::Go(q, k) = s else {
-            return s;
-        };
-        let s = heads::read_ref(text, q, k, m, rows, lexicon);
-        let Step::Go(q, k) = s else {
-            return s;
-        };
-        let e = heads::closing(text, q, lexicon);
-        if 0 < e {
-            return Step::Go(e, k);
+        let i = p.nodes;
+        p = read_child(parser, p, depth, rows)?;
+        p = parser.reference(p, i, rows)?;
+        if let Some(at) = parser.closing(p.at) {
+            return Ok(Position { at, nodes: p.nodes });
         }
-        p = q;
-        m = k;
     }
 }
 
 // Figure 5.2, child: leaf, constructor, flow.
-#[cycle(read_body_read_child_read_constructor_read_flow_read_group_read_member)]
+#[cycle(figure)]
 fn read_child(
-    text: &[u8],
-    at: usize,
+    parser: &Parser,
+    p: Position,
     depth: usize,
-    n: usize,
     rows: &mut [u16; 2056],
-    lexicon: &[u8; 400],
-) -> Step
-    requires { Lent text.now lexicon.now }
-    ensures { Opens text.now child depth n at rows.old result rows.new }
+) -> Result<Position, Refusal>
+    ensures { Opens parser.now.lexer.text.now child depth p.nodes p.at rows.old result rows.new }
 {
-    let t: Lexeme = lexer::next(text, at, lexicon);
-    let s = heads::begin_node(t, LOOP, depth, n, rows);
-    let Step::Go(p, m) = s else {
-        return s;
-    };
-    let c = t.code;
-    let d = depth - 1;
-    if c == LEAF {
-        return heads::read_leaf(text, p, m, rows, lexicon);
+    let (keyword, p) = parser.node(p, lexer::LOOP, depth, rows)?;
+    let below = depth - 1;
+    if keyword == lexer::LEAF {
+        return parser.leaf(p, rows);
     }
-    if LEAF < c {
-        return read_constructor(text, p, c, d, m, rows, lexicon);
+    if lexer::LEAF < keyword {
+        return constructor(parser, p, keyword, below, rows);
     }
-    read_flow(text, p, d, m, rows, lexicon)
+    flow(parser, p, below, rows)
 }
 
 // Figure 5.2, cons-child, which document 01 calls a member: leaf, flow.
-#[cycle(read_body_read_child_read_constructor_read_flow_read_group_read_member)]
+#[cycle(figure)]
 fn read_member(
-    text: &[u8],
-    at: usize,
+    parser: &Parser,
+    p: Position,
     depth: usize,
-    n: usize,
     rows: &mut [u16; 2056],
-    lexicon: &[u8; 400],
-) -> Step
-    requires { Lent text.now lexicon.now }
-    ensures { Opens text.now member depth n at rows.old result rows.new }
+) -> Result<Position, Refusal>
+    ensures { Opens parser.now.lexer.text.now member depth p.nodes p.at rows.old result rows.new }
 {
-    let t: Lexeme = lexer::next(text, at, lexicon);
-    let s = heads::begin_node(t, LEAF, depth, n, rows);
-    let Step::Go(p, m) = s else {
-        return s;
-    };
-    let c = t.code;
-    let d = depth - 1;
-    if c == LEAF {
-        return heads::read_leaf(text, p, m, rows, lexicon);
+    let (keyword, p) = parser.node(p, lexer::LEAF, depth, rows)?;
+    if keyword == lexer::LEAF {
+        return parser.leaf(p, rows);
     }
-    read_flow(text, p, d, m, rows, lexicon)
+    flow(parser, p, depth - 1, rows)
 }
 
-// Figure 5.2, constructor, after the keyword c: and, or, xor over members; all, some, one with a par over a member; loop over a member.
-#[cycle(read_body_read_child_read_constructor_read_flow_read_group_read_member)]
-fn read_constructor(
-    text: &[u8],
-    at: usize,
-    c: u8,
+// Figure 5.2, constructor, after the keyword: and, or, xor over members; all, some, one with a par over a member; loop over a member.
+#[cycle(figure)]
+fn constructor(
+    parser: &Parser,
+    p: Position,
+    keyword: u8,
     depth: usize,
-    n: usize,
     rows: &mut [u16; 2056],
-    lexicon: &[u8; 400],
-) -> Step
-    requires { Lent text.now lexicon.now }
-    ensures { 8 < c → Fills text.now (coded_parts c depth) n at rows.old result rows.new }
+) -> Result<Position, Refusal>
+    ensures { 8 < keyword → Fills parser.now.lexer.text.now (coded_parts keyword depth) p.nodes p.at rows.old result rows.new }
 {
-    if c <= XOR {
-        return read_group(text, at, depth, n, rows, lexicon);
+    if keyword <= lexer::XOR {
+        return group(parser, p, depth, rows);
     }
-    if c <= ONE {
-        let s = heads::read_copies(text, at, n, rows, lexicon);
-        let Step::Go(p, m) = s else {
-            return s;
-        };
-        return read_body(text, p, depth, m, rows, lexicon);
+    if keyword <= lexer::ONE {
+        let p = parser.copies(p, rows)?;
+        return body(parser, p, depth, rows);
     }
-    read_body(text, at, depth, n, rows, lexicon)
+    body(parser, p, depth, rows)
 }
 
 // Figure 5.2, constructor, the first way: after and, or, xor two members, and others up to the `)`.
-#[cycle(read_body_read_child_read_constructor_read_flow_read_group_read_member)]
-fn read_group(
-    text: &[u8],
-    at: usize,
+#[cycle(figure)]
+fn group(
+    parser: &Parser,
+    p: Position,
     depth: usize,
-    n: usize,
     rows: &mut [u16; 2056],
-    lexicon: &[u8; 400],
-) -> Step
-    requires { Lent text.now lexicon.now }
-    ensures { Fills text.now (group_parts depth) n at rows.old result rows.new }
+) -> Result<Position, Refusal>
+    ensures { Fills parser.now.lexer.text.now (group_parts depth) p.nodes p.at rows.old result rows.new }
 {
-    let s = heads::sign(text, at, n, 1, lexicon);
-    let Step::Go(p, m) = s else {
-        return s;
-    };
-    let s = read_member(text, p, depth, m, rows, lexicon);
-    let Step::Go(mut p, mut m) = s else {
-        return s;
-    };
+    let p = parser.sign(p, lexer::OPENING)?;
+    let mut p = read_member(parser, p, depth, rows)?;
     loop {
-        let s = read_member(text, p, depth, m, rows, lexicon);
-        let Step::Go(q, k) = s else {
-            return s;
-        };
-        let e = heads::closing(text, q, lexicon);
-        if 0 < e {
-            return Step::Go(e, k);
+        p = read_member(parser, p, depth, rows)?;
+        if let Some(at) = parser.closing(p.at) {
+            return Ok(Position { at, nodes: p.nodes });
         }
-        p = q;
-        m = k;
     }
 }
 
 // Figure 5.2, constructor, the end of the second and the third way: one member in parentheses.
-#[cycle(read_body_read_child_read_constructor_read_flow_read_group_read_member)]
-fn read_body(
-    text: &[u8],
-    at: usize,
+#[cycle(figure)]
+fn body(
+    parser: &Parser,
+    p: Position,
     depth: usize,
-    n: usize,
     rows: &mut [u16; 2056],
-    lexicon: &[u8; 400],
-) -> Step
-    requires { Lent text.now lexicon.now }
-    ensures { Fills text.now (loop_parts depth) n at rows.old result rows.new }
+) -> Result<Position, Refusal>
+    ensures { Fills parser.now.lexer.text.now (loop_parts depth) p.nodes p.at rows.old result rows.new }
 {
-    let s = heads::sign(text, at, n, 1, lexicon);
-    let Step::Go(p, m) = s else {
-        return s;
-    };
-    let s = read_member(text, p, depth, m, rows, lexicon);
-    let Step::Go(p, m) = s else {
-        return s;
-    };
-    heads::sign(text, p, m, 2, lexicon)
+    let p = parser.sign(p, lexer::OPENING)?;
+    let p = read_member(parser, p, depth, rows)?;
+    parser.sign(p, lexer::CLOSING)
 }
 
 // Figure 5.2, flow, with the keyword: the root.
-fn read_root(text: &[u8], rows: &mut [u16; 2056], lexicon: &[u8; 400]) -> Step
-    requires { Lent text.now lexicon.now }
-    ensures { Opens text.now root 12 0 0 rows.old result rows.new }
+fn read_root(parser: &Parser, rows: &mut [u16; 2056]) -> Result<Position, Refusal>
+    ensures { Opens parser.now.lexer.text.now root 12 0 0 rows.old result rows.new }
 {
-    let t: Lexeme = lexer::next(text, 0, lexicon);
-    let s = heads::begin_node(t, FLOW, 12, 0, rows);
-    let Step::Go(p, m) = s else {
-        return s;
-    };
-    read_flow(text, p, 11, m, rows, lexicon)
+    let start = Position { at: 0, nodes: 0 };
+    let (_, p) = parser.node(start, lexer::FLOW, 12, rows)?;
+    flow(parser, p, 11, rows)
 }
 
-// The text is one flow, and nothing stands after it: its nodes are written over the rows, from the second on.
-pub fn parse(text: &[u8], rows: &mut [u16; 2056], lexicon: &[u8; 400]) -> Walk
-    requires { Lent text.now lexicon.now }
-    ensures { ending text.now rows.old ≡ told result rows.new }
+// The text is one flow, and nothing stands after it: its nodes are written over the rows, from the second on, and counted.
+pub fn parse(parser: &Parser, rows: &mut [u16; 2056]) -> Result<usize, Refusal>
+    ensures { ending parser.now.lexer.text.now rows.old ≡ told result rows.new }
 {
-    let s = read_root(text, rows, lexicon);
-    match s {
-        Step::Stop(number, place) => Walk::Refused(number, place),
-        Step::Go(p, m) => {
-            let t: Lexeme = lexer::next(text, p, lexicon);
-            if t.start < text.len() {
-                return Walk::Refused(5, t.start);
-            }
-            Walk::Whole(m)
-        }
+    let p = read_root(parser, rows)?;
+    let t = parser.lexer.next(p.at);
+    if t.start < parser.lexer.text.len() {
+        return Err(Reason::Token.at(t.start));
     }
+    Ok(p.nodes)
 }

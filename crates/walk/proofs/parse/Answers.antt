@@ -1,14 +1,12 @@
 -- `walk::parse` meets its contract: the root is read, and nothing stands after it.
-use Rattle.walked.proofs.Laws.{refused, trailing, read_all}
+use Rattle.walked.proofs.Laws.{passed, refused, trailing, read_all}
 use Rattle.walk.proofs.parse.Goals as goal
 
-pub returns-then-t-text : goal.returns-then-t-text
-returns-then-t-text c =
-    trailing (c.read_root-s.ensures _) c.in-Go.is c.next-t.ensures c.if-t-text.true
+pub returns-in_err-p : goal.returns-in_err-p
+returns-in_err-p c = refused (c.in_err-p.ensures _) (passed c.from_residual.ensures)
 
-pub returns-in-Stop : goal.returns-in-Stop
-returns-in-Stop c = refused (c.read_root-s.ensures _) c.in-Stop.is
+pub returns-then-t-parser : goal.returns-then-t-parser
+returns-then-t-parser c = trailing (c.in_ok-p.ensures _) c.next-t.ensures c.at.ensures c.if-t-parser.true
 
-pub returns-else-t-text : goal.returns-else-t-text
-returns-else-t-text c =
-    read_all (c.read_root-s.ensures _) c.in-Go.is c.next-t.ensures c.if-t-text.false
+pub returns : goal.returns
+returns c = read_all (c.in_ok-p.ensures _) c.next-t.ensures c.if-t-parser.false

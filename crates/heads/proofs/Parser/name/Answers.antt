@@ -1,5 +1,4 @@
 -- `heads::Parser::name` meets its contract: a name, or another token.
-use Rattle.std.proofs.Common.{arith}
 use Rattle.walked.specs.code.Coded.{coded_effect}
 use Rattle.walked.proofs.Laws.{starts, closes, off_grammar, name_takes, name_other}
 use Rattle.heads.proofs.Parser.name.Goals as goal

@@ -1,5 +1,5 @@
 -- `heads::Parser::node` meets its contract: the tests of the machine at a node's keyword, and its row.
-use Rattle.std.proofs.Common.{refl, ◌∙◌, arith, rules}
+use Rattle.std.proofs.Common.{refl, arith}
 use Rattle.walked.proofs.Laws.{err_not_ok, starts, off_grammar, over_limit, opens, node_below, node_above, node_deep, node_many}
 use Rattle.heads.proofs.Parser.node.Goals as goal
 use Rattle.heads.proofs.Parser.node.Goals.{then-t-lt-FLOW-via-then-t-lt-FLOW, then-t-lt-FLOW-via-else-t-lt-FLOW+then-top-t, then-left-eq0-via-then-left-eq0, then-left-eq0-via-else-left-eq0+then-p-ge256}
@@ -14,8 +14,8 @@ returns-then-t-lt-FLOW c =
         taken = λ p g. err_not_ok g;
         turns = λ p e q s. off_grammar starts q c.at.ensures
             (elim c.then-t-lt-FLOW.branch [
-              then-t-lt-FLOW-via-then-t-lt-FLOW w ↦ node_below _ _ _ p w.if-t-lt-FLOW.true
-            | then-t-lt-FLOW-via-else-t-lt-FLOW+then-top-t w ↦ node_above _ _ _ p (rw e w.if-top-t.true)
+              | then-t-lt-FLOW-via-then-t-lt-FLOW w ↦ node_below _ _ _ p w.if-t-lt-FLOW.true
+              | then-t-lt-FLOW-via-else-t-lt-FLOW+then-top-t w ↦ node_above _ _ _ p (rw e w.if-top-t.true)
             ]);
       };
     }
@@ -30,8 +30,8 @@ returns-then-left-eq0 c =
         taken = λ p g. err_not_ok g;
         turns = λ p e q s. over_limit starts q c.at-then-left-eq0.ensures
             (elim c.then-left-eq0.branch [
-              then-left-eq0-via-then-left-eq0 w ↦ node_deep _ _ _ p c.if-t-lt-FLOW.false (rw e c.if-top-t.false) w.if-left-eq0.true
-            | then-left-eq0-via-else-left-eq0+then-p-ge256 w ↦ node_many _ _ _ p c.if-t-lt-FLOW.false (rw e c.if-top-t.false) (omega arith)
+              | then-left-eq0-via-then-left-eq0 w ↦ node_deep _ _ _ p c.if-t-lt-FLOW.false (rw e c.if-top-t.false) w.if-left-eq0.true
+              | then-left-eq0-via-else-left-eq0+then-p-ge256 w ↦ node_many _ _ _ p c.if-t-lt-FLOW.false (rw e c.if-top-t.false) (omega arith)
             ]);
       };
     }

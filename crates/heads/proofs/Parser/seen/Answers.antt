@@ -1,6 +1,5 @@
 -- `heads::Parser::seen` meets its contract: the class of the byte after the gap tells the sign.
-use Rattle.std.proofs.Common.{refl, sym, ◌∙◌, arith}
-use Rattle.tokens.specs.Token.{sign_code}
+use Rattle.std.proofs.Common.{refl, arith}
 use Rattle.lexer.proofs.Positions.{no_token, sign_here, other_token}
 use Rattle.grammar.proofs.Coded.{sign_small}
 use Rattle.heads.proofs.Parser.seen.Goals as goal

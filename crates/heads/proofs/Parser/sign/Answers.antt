@@ -1,5 +1,5 @@
 -- `heads::Parser::sign` meets its contract: the sign that is wanted, or another token.
-use Rattle.std.proofs.Common.{sym, refl, ◌∙◌, arith}
+use Rattle.std.proofs.Common.{sym, ◌∙◌, arith}
 use Rattle.grammar.proofs.Coded.{sign_small}
 use Rattle.walked.proofs.Laws.{starts, arrives, sign_taken, other_sign}
 use Rattle.heads.proofs.Parser.sign.Goals as goal

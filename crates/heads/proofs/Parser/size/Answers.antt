@@ -1,5 +1,5 @@
 -- `heads::Parser::size` meets its contract: a number from 1 to 16 is written, and the `)`.
-use Rattle.std.proofs.Common.{refl, ◌∙◌}
+use Rattle.std.proofs.Common.{refl}
 use Rattle.tokens.specs.Token.{closing}
 use Rattle.walked.specs.code.Coded.{coded_effect}
 use Rattle.walked.proofs.Laws.{starts, ends, off_grammar, taken, number_takes, passed}
