@@ -22,10 +22,12 @@ use Rattle.process.specs.Expand.{leaf_copy, reset_of, joint, copies, expand, flo
 use Rattle.process.proofs.Numbered.{size_events}
 use Rattle.process.proofs.Cleared.{size_positive}
 use Rattle.process.proofs.Events.{events_counted}
+use Rattle.std.specs.Prelude.{Option, Some, None, cond}
+use Rattle.postfix.specs.declared.Code.TheVariants.{Seq}
 use Rattle.labels.specs.declared.Spot.{Spot}
 use Rattle.labels.specs.Values.{packed}
 use Rattle.labels.specs.Weights.{product_mod, parts, resets, weight, weigh}
-use Rattle.labels.specs.Seeks.{next as after}
+use Rattle.labels.specs.Seeks.{next as after, seek}
 use Rattle.labels.proofs.NodeDepths.{Deep, done, deeper, deep_then, Tree, tree, tree_deep, first_depth, tree_first}
 use Rattle.labels.proofs.TreeWeights.{sum_small, Joins, group_joins, replicator_joins, weighed, first_weight, weight_parts, weight_copies, parts_then, parts_end}
 use Rattle.labels.proofs.EventOrder.{member_count, children_rest, children_split, members_rest, members_split, copies_count, copies_at}
@@ -40,6 +42,10 @@ pub record Labels (ok : Name → ℕ → Type 0) (l : Event) (s : Spot) : Type 0
   pub mark : s.reset ≡ l.reset
   pub its_values : s.values ≡ packed l.values
   pub named : ok l.name s.place
+
+-- A search that finds the event.
+abbrev pub Finds : (Name → ℕ → Type 0) → Event → Option Spot → Type 0
+Finds ok l o = (s : Spot) × (o ≡ Some s) × Labels ok l s
 
 pub member_surrounded : (m : Member) (around : List Name) → member_parameters m around ≡ true → length around ≤ 3
 unfolding member_parameters flow_parameters
@@ -74,14 +80,14 @@ module _ (at : TextNode → ℕ) (ok : Name → ℕ → Type 0) where
   known_more (deeper l p) k = known_more p k.1
 
   -- The same of an equal event and what is found.
-  moved : {l m : Event} {s t : Spot} → Labels ok l s → l ≡ m → s ≡ t → Labels ok m t
-  moved {s = s} g p q = rw (← q) (subst (λ (x : Event). Labels ok x s) p g)
+  moved : {l m : Event} {s t : Option Spot} → Finds ok l s → l ≡ m → s ≡ t → Finds ok m t
+  moved {s = s} g p q = rw (← q) (subst (λ (x : Event). Finds ok x s) p g)
 
   -- Each of the events es is found among the nodes hs, from a search in the node around them, at depth d, with the values vs. What comes after
   -- hs is no deeper than its parts.
   Found : ℕ → List ℕ → List Event → List TextNode → List TextNode → Type 0
   Found d vs es hs more =
-      Known hs → first_depth more ≤ suc d → length es < 1024 → (i : ℕ) → i < length es → Labels ok (get_or es i nothing) (sought at hs (search d i vs))
+      Known hs → first_depth more ≤ suc d → length es < 1024 → (i : ℕ) → i < length es → Finds ok (get_or es i nothing) (sought at hs (search d i vs))
 
   -- One part of that node, and then others.
   record Part (d : ℕ) (vs : List ℕ) (es : List Event) (hs more : List TextNode) : Type 0 where
@@ -127,7 +133,7 @@ module _ (at : TextNode → ℕ) (ok : Name → ℕ → Type 0) where
       }
 
   -- A node whose parts are joined.
-  joined : {d : ℕ} {vs : List ℕ} {es : List Event} (h : TextNode) {hs more : List TextNode} → h.depth ≡ suc d → Joins h.kind 0
+  joined : {d : ℕ} {vs : List ℕ} {es : List Event} (h : TextNode) {hs more : List TextNode} → h.depth ≡ suc d → Joins h.kind None
       → Parts (suc d) vs es hs more → Part d vs es (h ∷ hs) more
   unfolding Found Known weigh
   joined {d} {vs} {es} h {hs} {more} e j q =
@@ -151,7 +157,7 @@ module _ (at : TextNode → ℕ) (ok : Name → ℕ → Type 0) where
         weighs = λ s f. weighs;
         found = λ k s f i l.
             let z : 0 ≡ i = omega arith in
-            moved (record { mark = refl; its_values = refl; named = k.0 (rw t) }) (ap (λ (j : ℕ). get_or (leaf_copy h.name vs ∷ []) j nothing) z)
+            moved (_, refl, record { mark = refl; its_values = refl; named = k.0 (rw t) }) (ap (λ (j : ℕ). get_or (leaf_copy h.name vs ∷ []) j nothing) z)
             (sym (seek_leaf at h more d i vs e (omega (arith, weighs)) (rw t)));
       }
 
@@ -164,21 +170,22 @@ module _ (at : TextNode → ℕ) (ok : Name → ℕ → Type 0) where
   -- A loop, by the reset of its body.
   module _ {d : ℕ} {vs : List ℕ} {es : List Event} (h : TextNode) {hs more : List TextNode} (t : h.kind ≡ Loop) (e : h.depth ≡ suc d)
       (p : Part (suc d) vs es hs more) where
-    loop_weighs : (r : ℕ) → resets (weighed at hs) ≡ r → first_depth more ≤ suc d → length es + r < 1024 → first_weight at (h ∷ hs) ≡ length es + r
+    loop_weighs : (b : Bool) → resets (weighed at hs) ≡ b → first_depth more ≤ suc d → length es + cond b 1 0 < 1024
+        → first_weight at (h ∷ hs) ≡ length es + cond b 1 0
     unfolding weigh weight
-    loop_weighs r q s f = rw (t, e, lone p s (omega arith), q) (sum_small (length es) r f)
+    loop_weighs b q s f = rw (t, e, lone p s (omega arith), q) (sum_small (length es) (cond b 1 0) f)
 
-    leaf_loop : resets (weighed at hs) ≡ 0 → Part d vs es (h ∷ hs) more
+    leaf_loop : resets (weighed at hs) ≡ false → Part d vs es (h ∷ hs) more
     unfolding Found Known
     leaf_loop q = record {
       tree = tree e (tree_deep p.tree);
-      weighs = λ s f. loop_weighs 0 q s (omega arith) ∙ omega arith;
+      weighs = λ s f. loop_weighs false q s (omega arith) ∙ omega arith;
       found = λ k s f i l.
           moved (p.found k.1 (omega arith) f i l) refl
-          (sym (seek_body at h hs d i vs e (omega (arith, loop_weighs 0 q s (omega arith))) (rw t) (omega (arith, p.weighs (omega arith) f)) (rw t)));
+          (sym (seek_body at h hs d i vs e (omega (arith, loop_weighs false q s (omega arith))) (rw t) (omega (arith, p.weighs (omega arith) f))));
     }
 
-    flow_loop : (x : Event) → resets (weighed at hs) ≡ 1
+    flow_loop : (x : Event) → resets (weighed at hs) ≡ true
         → (Known hs → Labels ok x (record { reset = true; place = (after (weighed at hs)).place; values = packed vs }))
         → Part d vs (es ++ (x ∷ [])) (h ∷ hs) more
     unfolding Found Known
@@ -186,21 +193,21 @@ module _ (at : TextNode → ℕ) (ok : Name → ℕ → Type 0) where
         let both = length-append es (x ∷ []) in
         record {
           tree = tree e (tree_deep p.tree);
-          weighs = λ s f. loop_weighs 1 q s (omega arith) ∙ omega arith;
+          weighs = λ s f. loop_weighs true q s (omega arith) ∙ omega arith;
           found = λ k s f i l.
-              let own : i < first_weight at (h ∷ hs) = omega (arith, loop_weighs 1 q s (omega arith)) in
+              let own : i < first_weight at (h ∷ hs) = omega (arith, loop_weighs true q s (omega arith)) in
               let body = p.weighs (omega arith) (omega arith) in
               part_or_past i (length es)
               (λ m. moved (p.found k.1 (omega arith) (omega arith) i m) (sym (get_or-append es (x ∷ []) nothing i m))
-              (sym (seek_body at h hs d i vs e own (rw t) (omega arith) (rw t))))
+              (sym (seek_body at h hs d i vs e own (rw t) (omega arith))))
               (λ m.
               let last : length es ≡ i = omega arith in
-              moved (named k.1) (sym (get_or-append_seam es x [] nothing) ∙ ap (λ (j : ℕ). get_or (es ++ (x ∷ [])) j nothing) last)
+              moved (_, refl, named k.1) (sym (get_or-append_seam es x [] nothing) ∙ ap (λ (j : ℕ). get_or (es ++ (x ∷ [])) j nothing) last)
               (sym (seek_reset at h hs d i vs e own (rw t) (omega arith))));
         }
 
   -- A replicator: the copies of its member, each with its value.
-  copied : {d : ℕ} {vs : List ℕ} (h : TextNode) {hs more : List TextNode} → h.depth ≡ suc d → {size : ℕ} → Joins h.kind size → 1 ≤ size → length vs < 3
+  copied : {d : ℕ} {vs : List ℕ} (h : TextNode) {hs more : List TextNode} → h.depth ≡ suc d → {size : ℕ} → Joins h.kind (Some size) → 1 ≤ size → length vs < 3
       → (j : Joint) (copy : ℕ → Process) (n : ℕ) → ((v : ℕ) → length (events (copy v)) ≡ n) → 1 ≤ n
       → ((v : ℕ) → Part (suc d) (vs ++ (v ∷ [])) (events (copy v)) hs more) → Part d vs (events (copies j copy (size - 1))) (h ∷ hs) more
   unfolding Found Known weigh
@@ -208,7 +215,7 @@ module _ (at : TextNode → ℕ) (ok : Name → ℕ → Type 0) where
       let count : length (events (copies j copy (size - 1))) ≡ size * n = copies_count j copy n each (size - 1) ∙ ap (λ (x : ℕ). x * n) (omega arith) in
       let less : n ≤ size * n = copies_more size n some in
       let weighs : first_depth more ≤ suc d → size * n < 1024 → first_weight at (h ∷ hs) ≡ size * n =
-      λ s f. weight_copies at h (weighed at hs) js some
+      λ s f. weight_copies at h (weighed at hs) js
       ∙ (ap (λ (x : ℕ). product_mod size (parts x 0 (weighed at hs))) e
       ∙ (ap (product_mod size) (lone (p 0) s (omega (arith, each 0)) ∙ each 0) ∙ mod-eq_of_lt f)) in
       record {
@@ -221,7 +228,7 @@ module _ (at : TextNode → ℕ) (ok : Name → ℕ → Type 0) where
             (sym (copies_at j copy n each (size - 1) v (i % n) nothing
             (omega (arith, (div-lt_iff_lt-mul {x = i} {y = size} one).1 (omega arith))) (mod-lt i one))
             ∙ ap (λ (x : ℕ). get_or (events (copies j copy (size - 1))) x nothing) (div-add-mod' i n))
-            (sym (seek_copy at h hs d i vs e (omega (arith, weighs s (omega arith))) js some (omega arith) room
+            (sym (seek_copy at h hs d i vs e (omega (arith, weighs s (omega arith))) js (omega arith) room
             ∙ ap (λ (x : ℕ). sought at hs (search (suc d) (i % x) (vs ++ ((i / x) ∷ [])))) body));
       }
 
@@ -231,7 +238,7 @@ module _ (at : TextNode → ℕ) (ok : Name → ℕ → Type 0) where
   unfolding flow_tree_nodes Known weigh
   reset_named (flow n ps sw c r cs) around d i more vs known = record { mark = refl; its_values = refl; named = known.0 refl }
 
-  flow_resets : (f : Flow) (around : List Name) (d i : ℕ) (more : List TextNode) → resets (weighed at (flow_tree_nodes own f around false d i more)) ≡ 1
+  flow_resets : (f : Flow) (around : List Name) (d i : ℕ) (more : List TextNode) → resets (weighed at (flow_tree_nodes own f around false d i more)) ≡ true
   unfolding flow_tree_nodes weigh
   flow_resets (flow n ps sw c r cs) around d i more = refl
 
@@ -252,7 +259,7 @@ module _ (at : TextNode → ℕ) (ok : Name → ℕ → Type 0) where
     flow_part (flow n ps sw c r cs) around b d i more sized kept vs long e =
         let kepts = and_r (surrounded around && equal same ps around) (child_parameters c around && children_parameters cs around) kept in
         rw (children_split cs vs (child_process c vs e) (e + child_events c))
-        (joined _ refl (record { parted = omega arith; sized = refl })
+        (joined _ refl (record { code = Seq; form_is = refl })
         (and_parts
         (child_part c around r (suc d) _ _ (and_l (child_sized c) (children_sized cs) sized)
         (and_l (child_parameters c around) (children_parameters cs around) kepts) vs long e)
@@ -299,7 +306,8 @@ module _ (at : TextNode → ℕ) (ok : Name → ℕ → Type 0) where
         let inside = around ++ (par ∷ []) in
         let kept1 = and_r (surrounded around && new par around) (member_parameters m inside) kept in
         let longer = length-append around (par ∷ []) in
-        copied _ refl (replicator_joins y size) (leb-true 1 size (and_l (leb 1 size) (leb size 16) sizes))
+        let some = leb-true 1 size (and_l (leb 1 size) (leb size 16) sizes) in
+        copied _ refl (replicator_joins y size some) some
         (omega (arith, member_surrounded m inside kept1)) (joint y) (λ v. member_process m (vs ++ (v ∷ [])) (e + v * member_events m)) (member_events m)
         (λ v. member_count m sized1 (vs ++ (v ∷ [])) (e + v * member_events m)) (member_some m sized1)
         (λ v. member_part m inside false (suc d) _ more sized1 kept1 (vs ++ (v ∷ [])) (omega (arith, length-append vs (v ∷ []))) _)
@@ -322,8 +330,17 @@ module _ (at : TextNode → ℕ) (ok : Name → ℕ → Type 0) where
 
   -- The events of a whole diagram.
   pub event_found : (d : Flow) → flow_sized d ≡ true → flow_parameters d [] ≡ true → flow_events d < 1024 → Known (nodes_by own d) → (e : ℕ) → e < flow_events d
-      → Labels ok (get_or (events (expand d)) e nothing) (sought at (nodes_by own d) (search 0 e []))
+      → Finds ok (get_or (events (expand d)) e nothing) (sought at (nodes_by own d) (search 0 e []))
   unfolding Found
   event_found d sized kept few known e l =
       let count = events_counted d sized in
       (flow_part d [] false 0 0 [] sized kept [] refl 0).found known (omega arith) (omega arith) e (omega arith)
+
+  -- Past the last of them there is none.
+  pub none_found : (d : Flow) → flow_sized d ≡ true → flow_parameters d [] ≡ true → flow_events d < 1024 → (e : ℕ) → flow_events d ≤ e
+      → sought at (nodes_by own d) (search 0 e []) ≡ None
+  unfolding seek weigh
+  none_found d sized kept few e l =
+      let count = events_counted d sized in
+      let p = flow_part d [] false 0 0 [] sized kept [] refl 0 in
+      seek_past at 0 e [] (length (events (expand d))) p.tree (p.weighs (omega arith) (omega arith)) (omega arith)

@@ -1,5 +1,8 @@
 -- How many events one copy of each node has, worked out from the last node to the first.
-use Rattle.std.specs.Prelude.{cond, List, [], ◌∷◌, ℕ, suc, ◌+◌, ◌*◌, ◌%◌, eqb, leb}
+use Rattle.std.specs.Prelude.{Bool, false, not, cond, List, [], ◌∷◌, Some, None, ℕ, suc, ◌+◌, ◌*◌, ◌%◌, eqb, leb}
+use Rattle.nodes.specs.declared.Form.{Form}
+use Rattle.nodes.specs.declared.Form.TheVariants.{Leaf, Loop, Joined}
+use Rattle.nodes.specs.Nodes.{leaf_form}
 use Rattle.labels.specs.declared.SearchNode.{SearchNode}
 
 -- Sums and products modulo 1,024, as the code has them. A drawing that is read has at most 512 events, so none of them comes to 1,024.
@@ -15,22 +18,25 @@ parts d n [] = n
 parts d n (r ∷ rs) = cond (leb r.depth d) n (parts d (cond (eqb r.depth (suc d)) (sum_mod n r.weight) n) rs)
 
 -- A loop has a reset if its member, the node after it, is no leaf.
-abbrev pub resets : List SearchNode → ℕ
-resets [] = 0
-resets (r ∷ rs) = cond (eqb r.kind 0) 0 1
+abbrev pub resets : List SearchNode → Bool
+resets [] = false
+resets (r ∷ rs) = not (leaf_form r.form)
 
--- "Events are the leaf copies and, for each copy of a loop over a flow, its reset": those of a node's copy, by what the node is, its size, the events of its parts
--- and its reset.
-abbrev pub weight_by : ℕ → ℕ → ℕ → ℕ → ℕ
-weight_by kind size n reset = cond (eqb kind 0) 1 (cond (eqb kind 1) (sum_mod n reset) (cond (eqb size 0) n (product_mod size n)))
+-- "Events are the leaf copies and, for each copy of a loop over a flow, its reset": those of a node's copy, by its form, the events of its parts, and whether it
+-- has a reset.
+abbrev pub weight_by : Form → ℕ → Bool → ℕ
+weight_by Leaf n reset = 1
+weight_by Loop n reset = sum_mod n (cond reset 1 0)
+weight_by (Joined code None) n reset = n
+weight_by (Joined code (Some size)) n reset = product_mod size n
 
 -- By the nodes after it.
 unfoldable pub weight : SearchNode → List SearchNode → ℕ
-weight r rs = weight_by r.kind r.size (parts r.depth 0 rs) (resets rs)
+weight r rs = weight_by r.form (parts r.depth 0 rs) (resets rs)
 
 -- The nodes, each with its events.
 abbrev pub with_weight : SearchNode → ℕ → SearchNode
-with_weight r w = record { kind = r.kind; size = r.size; depth = r.depth; place = r.place; weight = w }
+with_weight r w = record { form = r.form; depth = r.depth; place = r.place; weight = w }
 
 unfoldable pub weigh : List SearchNode → List SearchNode
 weigh [] = []

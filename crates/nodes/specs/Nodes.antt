@@ -1,5 +1,5 @@
 -- The nodes of a diagram in the order of the text, as the walks over them read them.
-use Rattle.std.specs.Prelude.{List, ℕ, zero, suc, Option, Some, None, get_or}
+use Rattle.std.specs.Prelude.{Bool, true, false, List, ℕ, zero, suc, Option, Some, None, get_or}
 use Rattle.diagram.specs.declared.Kind.{Kind}
 use Rattle.diagram.specs.declared.Kind.TheVariants.{Flow, Leaf, And, Or, Xor, All, Some as SomeKind, One, Loop}
 use Rattle.diagram.specs.declared.Node.{Node}
@@ -36,6 +36,11 @@ form_of (All size) = Joined AndCode (copies_of size)
 form_of (SomeKind size) = Joined OrCode (copies_of size)
 form_of (One size) = Joined XorCode (copies_of size)
 form_of Loop = LoopForm
+
+abbrev pub leaf_form : Form → Bool
+leaf_form LeafForm = true
+leaf_form LoopForm = false
+leaf_form (Joined code copies) = false
 
 -- Node i: its kind, its form and its depth; past the last there is a leaf of depth 0.
 abbrev pub kind_at : List Node → ℕ → Kind
