@@ -1,17 +1,17 @@
 -- The lines of each kind are those of the machine's text.
 use mathlib.Core.Path.{◌≡◌, refl, ap, ap₂, sym, ◌∙◌}
 use mathlib.Core.Bool.{true, false}
-use mathlib.Core.List.{List, ◌∷◌, ◌++◌, append_assoc}
-use Prim.Native.Nat.{ℕ, zero, suc, ◌+◌, ◌-◌, ◌≤◌, ◌<◌}
-use native.Mathlib.Numerals.{add-one}
+use mathlib.Core.List.{List, [], ◌∷◌, ◌++◌, append_assoc, append-nil}
+use Prim.Native.Nat.{ℕ, zero, suc, ◌+◌, ◌-◌, ◌≤◌}
 use native.Mathlib.Omega.{arith}
+use Rattle.std.proofs.Common.{zero-add}
 use Rattle.base.specs.Text.{bytes}
 use Rattle.output.specs.Decimal.{decimal}
-use Rattle.output.specs.Buffer.{Buffer, put_all}
-use Rattle.output.proofs.Buffers.{put_all_append}
 use Rattle.formulas.specs.Lines.{Naming, labelled, action, action_lines}
 use Rattle.formulas.specs.Actions.{becomes}
 use Rattle.formulas.specs.Opening.{variable_lines, invariant_lines, cleared_all, opening_lines}
+use Rattle.actions.specs.declared.Kind.{Kind}
+use Rattle.actions.specs.declared.Kind.TheVariants.{Named, Typed, Set, Cleared}
 use Rattle.actions.specs.code.Written.{line, lines, declarations}
 
 -- ---- one line
@@ -24,67 +24,65 @@ labelled_line label name rest k =
     ∙ ap (λ (l : List ℕ). decimal k ++ (bytes " " ++ l)) (sym (append_assoc name rest (bytes "\n"))))
 
 module _ (v : Naming) (k n : ℕ) where
-  typed_line : line v 1 k n ≡ labelled (bytes "@inv_") k (v n ++ bytes " : BOOL")
+  typed_line : line v Typed k n ≡ labelled (bytes "@inv_") k (v n ++ bytes " : BOOL")
   typed_line = labelled_line (bytes "@inv_") (v n) (bytes " : BOOL") k
 
-  set_line : line v 2 k n ≡ labelled (bytes "@act_") k (action v (becomes n true))
+  set_line : line v Set k n ≡ labelled (bytes "@act_") k (action v (becomes n true))
   set_line = labelled_line (bytes "@act_") (v n) (bytes " := TRUE") k
 
-  cleared_line : line v 3 k n ≡ labelled (bytes "@act_") k (action v (becomes n false))
+  cleared_line : line v Cleared k n ≡ labelled (bytes "@act_") k (action v (becomes n false))
   cleared_line = labelled_line (bytes "@act_") (v n) (bytes " := FALSE") k
 
 -- ---- one after the other
 module _ (v : Naming) where
-  named_lines : (k from n : ℕ) → lines v 0 k from n ≡ variable_lines v from n
+  named_lines : (k from n : ℕ) → lines v Named k from n ≡ variable_lines v from n
   unfolding lines variable_lines
   named_lines k from zero = refl
   named_lines k from (suc n) = ap (λ (l : List ℕ). (v from ++ bytes "\n") ++ l) (named_lines (suc k) (suc from) n)
 
-  typed_lines : (k from n : ℕ) → lines v 1 k from n ≡ invariant_lines v k from n
+  typed_lines : (k from n : ℕ) → lines v Typed k from n ≡ invariant_lines v k from n
   unfolding lines invariant_lines
   typed_lines k from zero = refl
   typed_lines k from (suc n) = ap₂ (λ (l m : List ℕ). l ++ m) (typed_line v k from) (typed_lines (suc k) (suc from) n)
 
-  cleared_lines : (k from n : ℕ) → lines v 3 k from n ≡ action_lines v k (cleared_all from n)
+  cleared_lines : (k from n : ℕ) → lines v Cleared k from n ≡ action_lines v k (cleared_all from n)
   unfolding lines action_lines cleared_all
   cleared_lines k from zero = refl
   cleared_lines k from (suc n) = ap₂ (λ (l m : List ℕ). l ++ m) (cleared_line v k from) (cleared_lines (suc k) (suc from) n)
 
   -- An event's actions.
-  pub event_actions : (e from n : ℕ) → line v 2 1 e ++ lines v 3 2 from n ≡ action_lines v 1 (becomes e true ∷ cleared_all from n)
+  pub event_actions : (e from n : ℕ) → action_lines v 1 (becomes e true ∷ cleared_all from n) ≡ line v Set 1 e ++ lines v Cleared 2 from n
   unfolding action_lines
-  event_actions e from n = ap₂ (λ (l m : List ℕ). l ++ m) (set_line v 1 e) (cleared_lines 2 from n)
+  event_actions e from n = sym (ap₂ (λ (l m : List ℕ). l ++ m) (set_line v 1 e) (cleared_lines 2 from n))
 
   -- A machine up to its first event.
   pub opened : (name : List ℕ) (n : ℕ)
-      → declarations v name n ++ (bytes "events\nevent INITIALISATION\nthen\n" ++ (lines v 3 1 0 n ++ bytes "end\n")) ≡ opening_lines v name n
+      → opening_lines v name n ≡ declarations v name n ++ (bytes "events\nevent INITIALISATION\nthen\n" ++ (lines v Cleared 1 0 n ++ bytes "end\n"))
   unfolding opening_lines
   opened name n =
       rw (named_lines 0 0 n, typed_lines 1 0 n, cleared_lines 1 0 n)
-      (ap (λ (l : List ℕ). bytes "machine " ++ l)
+      (sym (ap (λ (l : List ℕ). bytes "machine " ++ l)
       (append_assoc name _ _
       ∙ ap (λ (l : List ℕ). name ++ (bytes "\nvariables\n" ++ l))
-      (append_assoc (variable_lines v 0 n) _ _)))
+      (append_assoc (variable_lines v 0 n) _ _))))
 
 -- ---- as the code goes, from event `from` to event i
-module _ (v : Naming) (kind k from to i : ℕ) where
-  abbrev left_over : ℕ → List ℕ
-  left_over i = lines v kind (i - from + k) i (to - i)
-
-  pub lines_begin : from ≤ to → left_over from ≡ lines v kind k from (to - from)
-  lines_begin h = let e : from - from + k ≡ k = omega arith in rw e
-
-  pub lines_next : (s : Buffer) {t : Buffer} → from ≤ i → i < to → t ≡ put_all (line v kind (i - from + k) i) s → put_all (left_over (i + 1)) t ≡ put_all (left_over i) s
+module _ (v : Naming) (kind : Kind) where
+  -- The last of n + 1 lines.
+  last_line : (k from n : ℕ) → lines v kind k from (suc n) ≡ lines v kind k from n ++ line v kind (n + k) (n + from)
   unfolding lines
-  lines_next s h l q =
-      let e : to - i ≡ suc (to - (i + 1)) = omega arith in
-      let f : i + 1 - from + k ≡ suc (i - from + k) = omega arith in
-      rw (e, f, q, ← add-one i) (sym (put_all_append (line v kind (i - from + k) i) _ s))
+  last_line k from zero = rw (zero-add k, zero-add from) (append-nil (line v kind k from))
+  last_line k from (suc n) =
+      let a : n + suc k ≡ suc n + k = omega arith in
+      let b : n + suc from ≡ suc n + from = omega arith in
+      ap (λ (l : List ℕ). line v kind k from ++ l) (rw (a, b) at (last_line (suc k) (suc from) n)) ∙ sym (append_assoc (line v kind k from) _ _)
 
-  pub lines_end : (s : Buffer) → to ≤ i → s ≡ put_all (left_over i) s
-  unfolding lines put_all
-  lines_end s h = let e : to - i ≡ 0 = omega arith in rw e
+  pub lines_none : (k from : ℕ) → lines v kind k from (from - from) ≡ []
+  unfolding lines
+  lines_none k from = let e : from - from ≡ 0 = omega arith in rw e
 
--- From the first event on.
-pub from_first : (v : Naming) (kind k n : ℕ) → lines v kind k 0 (n - 0) ≡ lines v kind k 0 n
-from_first v kind k n = let e : n - 0 ≡ n = omega arith in rw e
+  pub lines_more : (k from i : ℕ) → from ≤ i → lines v kind k from (i + 1 - from) ≡ lines v kind k from (i - from) ++ line v kind (i - from + k) i
+  lines_more k from i h =
+      let e : i + 1 - from ≡ suc (i - from) = omega arith in
+      let f : i - from + from ≡ i = omega arith in
+      rw e (rw f at (last_line k from (i - from)))

@@ -1,143 +1,115 @@
-#![tactic(auto)]
+#![tactic(auto, using(output::proofs::Buffers::put_all_append), unfolding(output::specs::Buffer::put_all))]
 
 ghost use Rattle.std.specs.Prelude.{◌≡◌, true, ◌∷◌, ◌-◌, ◌≤◌};
-ghost use Rattle.output.specs.Buffer.{buffer, put_all};
+ghost use Rattle.output.specs.Writes.{Writes};
 ghost use Rattle.tokens.specs.Words.{word_at};
 ghost use Rattle.formulas.specs.Lines.{action_lines};
 ghost use Rattle.formulas.specs.Actions.{becomes};
 ghost use Rattle.formulas.specs.Opening.{cleared_all, opening_lines};
-ghost use Rattle.variables.specs.code.Spelled.{spelled};
-ghost use Rattle.actions.specs.code.Written.{label as label_of, head as head_of, tail as tail_of, line as line_of, lines as lines_of, declarations as declarations_of};
+ghost use Rattle.variables.specs.code.Spelled.{naming};
+ghost use Rattle.actions.specs.code.Written.{numbered as numbered_by, head as head_of, tail as tail_of, line as line_of, lines as lines_of, declarations as declarations_of};
 
-use variables::Variables;
+use output::Writer;
+use variables::Spelling;
 
 // The lines that name a variable: as one of the machine's, with its type, set TRUE, and set FALSE.
-const NAMED: u8 = 0;
-
-const TYPED: u8 = 1;
-
-const SET: u8 = 2;
-
-const CLEARED: u8 = 3;
-
-// What stands before the variable: a label and a number, or nothing.
-fn head(kind: u8, number: usize, out: &mut [u8], at: usize) -> usize
-    ensures { buffer result out.new ≡ put_all (head_of kind number) (buffer at out.old) }
-{
-    if kind == NAMED {
-        return at;
-    }
-    let a = label(kind, out, at);
-    let b = output::number(out, a, number);
-    output::bytes(out, b, b" ")
+#[derive(Clone, Copy, Debug, PartialEq, Eq)]
+enum Kind {
+    Named,
+    Typed,
+    Set,
+    Cleared,
 }
 
-// The label of a line.
-fn label(kind: u8, out: &mut [u8], at: usize) -> usize
-    ensures { buffer result out.new ≡ put_all (label_of kind) (buffer at out.old) }
+// A label and its number.
+fn numbered(label: &[u8], number: usize, w: &mut Writer)
+    ensures { Writes w.old w.new (numbered_by label.now number) }
 {
-    variables::one_of(kind == TYPED, b"@inv_", b"@act_", out, at)
+    w.bytes(label);
+    w.number(number);
+    w.bytes(b" ");
 }
 
-// What stands after the variable.
-fn tail(kind: u8, out: &mut [u8], at: usize) -> usize
-    ensures { buffer result out.new ≡ put_all (tail_of kind) (buffer at out.old) }
-{
-    if kind == NAMED {
-        return output::bytes(out, at, b"\n");
+impl Kind {
+    // What stands before the variable: a label and a number, or nothing.
+    fn head(self, number: usize, w: &mut Writer)
+        ensures { Writes w.old w.new (head_of self number) }
+    {
+        match self {
+            Kind::Named => (),
+            Kind::Typed => numbered(b"@inv_", number, w),
+            Kind::Set | Kind::Cleared => numbered(b"@act_", number, w),
+        }
     }
-    if kind == TYPED {
-        return output::bytes(out, at, b" : BOOL\n");
-    }
-    if kind == SET {
-        return output::bytes(out, at, b" := TRUE\n");
-    }
-    output::bytes(out, at, b" := FALSE\n")
-}
 
-// The line of event n's variable.
-fn line(
-    text: &[u8],
-    v: Variables,
-    kind: u8,
-    number: usize,
-    n: usize,
-    out: &mut [u8],
-    at: usize,
-) -> usize
-    ensures { buffer result out.new ≡ put_all (line_of (spelled text.now v) kind number n) (buffer at out.old) }
-{
-    let a = head(kind, number, out, at);
-    let b = variables::name(text, v, n, out, a);
-    tail(kind, out, b)
-}
-
-// The lines of the variables of the events from `from` up to `to`, from number k on.
-fn lines(
-    text: &[u8],
-    v: Variables,
-    kind: u8,
-    k: usize,
-    from: usize,
-    to: usize,
-    out: &mut [u8],
-    at: usize,
-) -> usize
-    requires { (to ≤ 512) × (k ≤ 2) × (from ≤ to) }
-    ensures { buffer result out.new ≡ put_all (lines_of (spelled text.now v) kind k from (to - from)) (buffer at out.old) }
-{
-    let mut a = at;
-    let mut i = from;
-    while i < to {
-        a = line(text, v, kind, i - from + k, i, out, a);
-        i += 1;
+    // What stands after it.
+    fn tail(self) -> &'static [u8]
+        ensures { result.now ≡ tail_of self }
+    {
+        match self {
+            Kind::Named => b"\n",
+            Kind::Typed => b" : BOOL\n",
+            Kind::Set => b" := TRUE\n",
+            Kind::Cleared => b" := FALSE\n",
+        }
     }
-    a
+
+    // The line of event n's variable.
+    fn line(self, number: usize, n: usize, spelling: &Spelling, w: &mut Writer)
+        ensures { Writes w.old w.new (line_of (naming spelling.now) self number n) }
+    {
+        self.head(number, w);
+        spelling.name(n, w);
+        w.bytes(self.tail());
+    }
+
+    // The lines of the variables of the events from `from` up to `to`, from number k on.
+    #[tactic(auto, using(output::proofs::Buffers::put_all_append, crate::proofs::ByKind::lines_none, crate::proofs::ByKind::lines_more), unfolding(output::specs::Buffer::put_all))]
+    fn lines(self, k: usize, from: usize, to: usize, spelling: &Spelling, w: &mut Writer)
+        requires { (to ≤ 512) × (k ≤ 2) × (from ≤ to) }
+        ensures { Writes w.old w.new (lines_of (naming spelling.now) self k from (to - from)) }
+    {
+        for i in from..to {
+            self.line(i - from + k, i, spelling, w);
+        }
+    }
 }
 
 // The actions of event e: its own variable, and then those of the events from `from` up to it, which it clears. There are at most 512 events.
-pub fn write(text: &[u8], v: Variables, e: usize, from: usize, out: &mut [u8], at: usize) -> usize
-    ensures { e ≤ 512 → from ≤ e → buffer result out.new ≡ put_all (action_lines (spelled text.now v) 1 (becomes e true ∷ cleared_all from (e - from))) (buffer at out.old) }
+#[tactic(auto, using(output::proofs::Buffers::put_all_append, crate::proofs::ByKind::event_actions), unfolding(output::specs::Buffer::put_all))]
+pub fn write(e: usize, from: usize, spelling: &Spelling, w: &mut Writer)
+    ensures { e ≤ 512 → from ≤ e → Writes w.old w.new (action_lines (naming spelling.now) 1 (becomes e true ∷ cleared_all from (e - from))) }
 {
-    if 512 < e {
-        return at;
+    if 512 < e || e < from {
+        return;
     }
-    if e < from {
-        return at;
-    }
-    let a = line(text, v, SET, 1, e, out, at);
-    lines(text, v, CLEARED, 2, from, e, out, a)
+    Kind::Set.line(1, e, spelling, w);
+    Kind::Cleared.lines(2, from, e, spelling, w);
 }
 
 // A machine's name, at its place in the text, its n variables and their types.
-fn declarations(
-    text: &[u8],
-    v: Variables,
-    root: usize,
-    n: usize,
-    out: &mut [u8],
-    at: usize,
-) -> usize
+fn declarations(root: usize, n: usize, spelling: &Spelling, w: &mut Writer)
     requires { n ≤ 512 }
-    ensures { buffer result out.new ≡ put_all (declarations_of (spelled text.now v) (word_at text.now root) n) (buffer at out.old) }
+    ensures { Writes w.old w.new (declarations_of (naming spelling.now) (word_at spelling.now.text.now root) n) }
 {
-    let a = output::bytes(out, at, b"machine ");
-    let b = output::bytes(out, a, lexer::word(text, root));
-    let c = output::bytes(out, b, b"\nvariables\n");
-    let d = lines(text, v, NAMED, 0, 0, n, out, c);
-    let e = output::bytes(out, d, b"invariants\n");
-    lines(text, v, TYPED, 1, 0, n, out, e)
+    w.bytes(b"machine ");
+    w.bytes(lexer::word(spelling.text, root));
+    w.bytes(b"\nvariables\n");
+    Kind::Named.lines(0, 0, n, spelling, w);
+    w.bytes(b"invariants\n");
+    Kind::Typed.lines(1, 0, n, spelling, w);
 }
 
 // A machine up to its first event.
-pub fn open(text: &[u8], v: Variables, root: usize, n: usize, out: &mut [u8], at: usize) -> usize
-    ensures { n ≤ 512 → buffer result out.new ≡ put_all (opening_lines (spelled text.now v) (word_at text.now root) n) (buffer at out.old) }
+#[tactic(auto, using(output::proofs::Buffers::put_all_append, crate::proofs::ByKind::opened), unfolding(output::specs::Buffer::put_all))]
+pub fn open(root: usize, n: usize, spelling: &Spelling, w: &mut Writer)
+    ensures { n ≤ 512 → Writes w.old w.new (opening_lines (naming spelling.now) (word_at spelling.now.text.now root) n) }
 {
     if 512 < n {
-        return at;
+        return;
     }
-    let a = declarations(text, v, root, n, out, at);
-    let b = output::bytes(out, a, b"events\nevent INITIALISATION\nthen\n");
-    let c = lines(text, v, CLEARED, 1, 0, n, out, b);
-    output::bytes(out, c, b"end\n")
+    declarations(root, n, spelling, w);
+    w.bytes(b"events\nevent INITIALISATION\nthen\n");
+    Kind::Cleared.lines(1, 0, n, spelling, w);
+    w.bytes(b"end\n");
 }
