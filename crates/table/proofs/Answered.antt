@@ -7,8 +7,10 @@ use native.Mathlib.Numerals.{add-one}
 use native.Mathlib.Omega.{arith}
 use lib.ListN.{length, get_or, take}
 use lib.Seq.{get_or-take}
+use lib.Dec.{ltb}
 use borrow.Author.Tests.{lt-ltb, le-ltb}
-use Rattle.std.specs.Prelude.{Result, Ok, Err}
+use Rattle.std.specs.Prelude.{⊤, Result, Ok, Err}
+use Rattle.std.specs.Result.{result_and}
 use Rattle.base.specs.Fill.{fill}
 use Rattle.base.specs.Refusals.{refusal}
 use Rattle.base.specs.declared.Reason.TheVariants as Reason
@@ -22,7 +24,7 @@ use Rattle.layout.specs.Sound.{sound}
 use Rattle.layout.specs.Values.{values_of, allows, ended}
 use Rattle.layout.proofs.Sizes.{sound_shaped}
 use Rattle.layout.proofs.Events.{sound_guard}
-use Rattle.table.specs.Steps.{check_of, admit_of, taken, taken_or_not, take_of, stepped, step_of, finished_of, offered, offer_of, offer_left}
+use Rattle.table.specs.Steps.{check_of, admit_of, taken, taken_or_not, allowed_of, stepped, step_of, finished_of, offered, offer_of, offer_left}
 
 pub checked : (t : List ℕ) (v : Bool) → sound t ≡ v → cond v (Ok tt) (Err (refusal Reason.Table 0)) ≡ check_of t
 unfolding check_of
@@ -65,27 +67,46 @@ pub gathered : (t : List ℕ) (vs : List Bool) (e w : ℕ) (o : List ℕ) (v : B
 unfolding offered
 gathered t vs e w o v ok h W O y = rw (add-one e, ← O, sym (guard_said t ok vs _ refl e w h W) ∙ y)
 
-module _ (t : List ℕ) (before : Record) (e : ℕ) where
-  pub take_passed : (r : Refusal) → Err r ≡ admit_of t before.bits → Err r ≡ take_of t before e
-  take_passed r q = rw (← q)
+module _ (t bits : List ℕ) (e : ℕ) where
+  pub allowed_passed : (r : Refusal) → Err r ≡ admit_of t bits → Err r ≡ allowed_of t bits e
+  allowed_passed r q = rw (← q)
 
-  module _ (d : admit_of t before.bits ≡ Ok tt) where
-    pub take_14 : events t ≤ e → Err (refusal Reason.Event 0) ≡ take_of t before e
+  module _ (d : admit_of t bits ≡ Ok tt) where
+    pub allowed_14 : events t ≤ e → Err (refusal Reason.Event 0) ≡ allowed_of t bits e
     unfolding taken_or_not
-    take_14 h = rw (d, le-ltb e (events t) h)
+    allowed_14 h = rw (d, le-ltb e (events t) h)
 
     module _ (h : e < events t) where
-      pub take_15 : allows t (values_of t before.bits) e ≡ false → Err (refusal Reason.Guard 0) ≡ take_of t before e
+      pub allowed_15 : allows t (values_of t bits) e ≡ false → Err (refusal Reason.Guard 0) ≡ allowed_of t bits e
       unfolding taken_or_not
-      take_15 g = rw (d, lt-ltb e (events t) h, g)
+      allowed_15 g = rw (d, lt-ltb e (events t) h, g)
 
-      pub take_done : allows t (values_of t before.bits) e ≡ true → Ok (record { bits = taken t before.bits e }) ≡ take_of t before e
+      pub allowed_done : allows t (values_of t bits) e ≡ true → Ok (event_word t e) ≡ allowed_of t bits e
       unfolding taken_or_not
-      take_done g = rw (d, lt-ltb e (events t) h, g)
+      allowed_done g = rw (d, lt-ltb e (events t) h, g)
 
-  pub step_as : (r : Result Record Refusal) → r ≡ take_of t before e → stepped before r ≡ step_of t before e
+  -- What is answered is the event's record.
+  pub allowed_word : (w : ℕ) → Ok w ≡ allowed_of t bits e → w ≡ event_word t e
+  unfolding taken_or_not
+  allowed_word w = only (admit_of t bits) (ltb e (events t)) (allows t (values_of t bits) e)
+    where
+      only : (a : Result ⊤ Refusal) (x y : Bool)
+          → Ok w ≡ result_and a (cond x (cond y (Ok (event_word t e)) (Err (refusal Reason.Guard 0))) (Err (refusal Reason.Event 0))) → w ≡ event_word t e
+      only (Ok done) true true q = cc
+      only (Ok done) true false q = cc
+      only (Ok done) false y q = cc
+      only (Err r) x y q = cc
+
+module _ (t : List ℕ) (before : Record) (e : ℕ) where
+  pub step_as : (a : Result ℕ Refusal) → a ≡ allowed_of t before.bits e → stepped t before e a ≡ step_of t before e
   unfolding step_of
-  step_as r q = ap (stepped before) q
+  step_as a q = ap (stepped t before e) q
+
+  -- The record after it, by the event's record w.
+  pub step_taken : (w : ℕ) (set cleared : List ℕ) → Ok w ≡ allowed_of t before.bits e → set ≡ set_bit before.bits e
+      → cleared ≡ clear_bits set (first_of w) (count_of w) → record { answer = Ok tt; after = record { bits = cleared } } ≡ step_of t before e
+  unfolding taken
+  step_taken w set cleared q S C = rw (C, S, allowed_word t before.bits e w q) (step_as (Ok w) q)
 
 module _ (t : List ℕ) (before : Record) where
   pub finished_passed : (r : Refusal) → Err r ≡ admit_of t before.bits → Err r ≡ finished_of t before
@@ -115,28 +136,24 @@ module _ (t : List ℕ) (before : Record) (lent : List ℕ) where
     offer_ready d = (rw (le-ltb (length lent) 64 h, d), rw (le-ltb (length lent) 64 h, d))
 
 -- After a first look that let the call go on, with what every row says on the sheet.
-module _ (t : List ℕ) (before : Record) (vs : List Bool) (d : admit_of t before.bits ≡ Ok tt) (q : take (rows t) vs ≡ values_of t before.bits) where
-  pub looked_sound : sound t ≡ true
-  looked_sound = done_sound t before.bits d
+module _ (t bits : List ℕ) (vs : List Bool) (d : admit_of t bits ≡ Ok tt) (q : take (rows t) vs ≡ values_of t bits) where
+  module _ (e w : ℕ) (h : e < events t) (W : w ≡ event_word t e) where
+    pub looked_guard : guard_of w < 12288
+    looked_guard = guard_within t (done_sound t bits d) e w h W
 
+    says : get_or vs (guard_of w) false ≡ allows t (values_of t bits) e
+    says = guard_said t (done_sound t bits d) vs _ q e w h W
+
+    pub looked_15 : get_or vs (guard_of w) false ≡ false → Err (refusal Reason.Guard 0) ≡ allowed_of t bits e
+    looked_15 y = allowed_15 t bits e d h (sym says ∙ y)
+
+    pub looked_done : get_or vs (guard_of w) false ≡ true → Ok w ≡ allowed_of t bits e
+    looked_done y = rw W (allowed_done t bits e d h (sym says ∙ y))
+
+module _ (t : List ℕ) (before : Record) (vs : List Bool) (d : admit_of t before.bits ≡ Ok tt) (q : take (rows t) vs ≡ values_of t before.bits) where
   pub looked_finished : (m : ℕ) → m ≡ rows t → Ok (get_or vs (m - 1) false) ≡ finished_of t before
-  looked_finished m M = finished_as t before _ d (sym (last_said t looked_sound vs _ q m M))
+  looked_finished m M = finished_as t before _ d (sym (last_said t (done_sound t before.bits d) vs _ q m M))
 
   pub looked_offer : (lent o out : List ℕ) → 64 ≤ length lent → o ≡ offered t (take (rows t) vs) (events t) → out ≡ fill lent (bytes_of o)
       → out ≡ offer_left t before lent (offer_of t before lent)
   looked_offer lent o out h O W = W ∙ rw (O, q) (sym (offer_ready t before lent h d).1)
-
-  module _ (e w : ℕ) (h : e < events t) (W : w ≡ event_word t e) where
-    pub looked_guard : guard_of w < 12288
-    looked_guard = guard_within t looked_sound e w h W
-
-    allowed : get_or vs (guard_of w) false ≡ allows t (values_of t before.bits) e
-    allowed = guard_said t looked_sound vs _ q e w h W
-
-    pub looked_15 : get_or vs (guard_of w) false ≡ false → Err (refusal Reason.Guard 0) ≡ take_of t before e
-    looked_15 y = take_15 t before e d h (sym allowed ∙ y)
-
-    pub looked_taken : (set cleared : List ℕ) → get_or vs (guard_of w) false ≡ true → set ≡ set_bit before.bits e → cleared ≡ clear_bits set (first_of w) (count_of w)
-        → Ok (record { bits = cleared }) ≡ take_of t before e
-    unfolding taken
-    looked_taken set cleared y S C = rw (C, S, W) (take_done t before e d h (sym allowed ∙ y))

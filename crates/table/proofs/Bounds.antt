@@ -19,7 +19,7 @@ use Rattle.layout.specs.Values.{values_of, allows, ended}
 use Rattle.table.specs.Steps.{check_of, admit_of, step_of, finished_of, offer_of, offer_left}
 use Rattle.table.specs.Bounds.{Answers, CheckAnswer, is_sound, not_sound, Ready, NotReady, unsound, bit_past, StepAnswer, event_taken, step_not_ready, past_events, guard_says_no, FinishAnswer, run_finished, run_open, finished_not_ready, OfferAnswer, offer_made, buffer_short, offer_not_ready}
 use Rattle.table.specs.declared.Stepped.{Stepped}
-use Rattle.table.proofs.Answered.{checked, admit_12, admit_13, admit_done, take_passed, take_14, take_15, take_done, step_as, finished_passed, finished_as, offer_1, offer_passed, offer_ready}
+use Rattle.table.proofs.Answered.{checked, admit_12, admit_13, admit_done, allowed_passed, allowed_14, allowed_15, allowed_done, step_as, finished_passed, finished_as, offer_1, offer_passed, offer_ready}
 
 pub check_answered : (t : List ℕ) → CheckAnswer t (check_of t)
 check_answered t = by_cases (sound t) (λ e. is_sound (sym (checked t true e)) e) (λ e. not_sound (sym (checked t false e)) e)
@@ -40,10 +40,10 @@ step_answered t before e =
     (λ r d. by_cases (ltb e (events t))
     (λ b. let h = ltb-true e (events t) b in
     by_cases (allows t (values_of t before.bits) e)
-    (λ y. event_taken (sym (step_as t before e _ (take_done t before e d h y))) record { ready = r; below = h; allowed = y })
-    (λ y. guard_says_no (sym (step_as t before e _ (take_15 t before e d h y))) r h y))
-    (λ b. let h = ltb-false e (events t) b in past_events (sym (step_as t before e _ (take_14 t before e d h))) r h))
-    (λ r q n. step_not_ready r (sym (step_as t before e _ (take_passed t before e r q))) n)
+    (λ y. event_taken (sym (step_as t before e _ (allowed_done t before.bits e d h y))) record { ready = r; below = h; allowed = y })
+    (λ y. guard_says_no (sym (step_as t before e _ (allowed_15 t before.bits e d h y))) r h y))
+    (λ b. let h = ltb-false e (events t) b in past_events (sym (step_as t before e _ (allowed_14 t before.bits e d h))) r h))
+    (λ r q n. step_not_ready r (sym (step_as t before e _ (allowed_passed t before.bits e r q))) n)
 
 pub finished_answered : (t : List ℕ) (before : Record) → FinishAnswer t before (finished_of t before)
 finished_answered t before =
@@ -77,10 +77,10 @@ only_check t a (not_sound q y) = q ∙ checked t false y
 
 pub only_step : (t : List ℕ) (before : Record) (e : ℕ) (s : Stepped) → StepAnswer t before e s → s ≡ step_of t before e
 only_step t before e s (event_taken q k) =
-    q ∙ step_as t before e _ (take_done t before e (ready_admitted t before.bits k.ready) k.below k.allowed)
-only_step t before e s (step_not_ready r q n) = q ∙ step_as t before e _ (take_passed t before e r (not_admitted t before.bits r n))
-only_step t before e s (past_events q r h) = q ∙ step_as t before e _ (take_14 t before e (ready_admitted t before.bits r) h)
-only_step t before e s (guard_says_no q r h y) = q ∙ step_as t before e _ (take_15 t before e (ready_admitted t before.bits r) h y)
+    q ∙ step_as t before e _ (allowed_done t before.bits e (ready_admitted t before.bits k.ready) k.below k.allowed)
+only_step t before e s (step_not_ready r q n) = q ∙ step_as t before e _ (allowed_passed t before.bits e r (not_admitted t before.bits r n))
+only_step t before e s (past_events q r h) = q ∙ step_as t before e _ (allowed_14 t before.bits e (ready_admitted t before.bits r) h)
+only_step t before e s (guard_says_no q r h y) = q ∙ step_as t before e _ (allowed_15 t before.bits e (ready_admitted t before.bits r) h y)
 
 pub only_finish : (t : List ℕ) (before : Record) (f : Result Bool Refusal) → FinishAnswer t before f → f ≡ finished_of t before
 only_finish t before f (run_finished q k) = q ∙ finished_as t before true (ready_admitted t before.bits k.ready) k.says_so

@@ -30,7 +30,7 @@ use Rattle.layout.proofs.Sizes.{sound_shaped}
 use Rattle.layout.proofs.Events.{run_below, sound_event}
 use Rattle.table.specs.Bounds.{Ready, Takes, Ends, NotReady, unsound, bit_past, StepAnswer, event_taken, step_not_ready, past_events, guard_says_no, FinishAnswer, run_finished, run_open, finished_not_ready}
 use Rattle.table.proofs.Bounds.{first_look, ready_admitted, step_answered, finished_answered}
-use Rattle.table.proofs.Answered.{take_done, step_as, offer_1, finished_as}
+use Rattle.table.proofs.Answered.{allowed_done, step_as, offer_1, finished_as}
 
 -- The run of bits that event e clears: from the first on, up to the end and without it.
 abbrev pub run_first : List ℕ → ℕ → ℕ
@@ -56,7 +56,7 @@ by_answer t before e s done not (guard_says_no q r h y) = not (refusal Reason.Gu
 
 module _ (t : List ℕ) (before : Record) (e : ℕ) where
   taken_done : Takes t before e → record { answer = Ok tt; after = record { bits = taken t before.bits e } } ≡ step_of t before e
-  taken_done k = step_as t before e _ (take_done t before e (ready_admitted t before.bits k.ready) k.below k.allowed)
+  taken_done k = step_as t before e _ (allowed_done t before.bits e (ready_admitted t before.bits k.ready) k.below k.allowed)
 
   -- It takes the event, or it refuses, at place 0.
   by_step {ℓ} : {P : Type ℓ} → (Takes t before e → P) → ((r : Refusal) → r.place ≡ 0 → step_of t before e ≡ refused before r → P) → P

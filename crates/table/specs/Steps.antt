@@ -23,32 +23,31 @@ unfoldable pub admit_of : List ℕ → List ℕ → Result ⊤ Refusal
 admit_of t bits =
     cond (sound t) (cond (set_past bits (events t)) (Err (refusal Reason.Record 0)) (Ok tt)) (Err (refusal Reason.Table 0))
 
+-- Numbers 14 and 15, or the event's record.
+unfoldable pub taken_or_not : List ℕ → List ℕ → ℕ → Result ℕ Refusal
+taken_or_not t bits e =
+    cond (ltb e (events t)) (cond (allows t (values_of t bits) e) (Ok (event_word t e)) (Err (refusal Reason.Guard 0)))
+    (Err (refusal Reason.Event 0))
+
+-- The record of an event that is taken, or the refusal: that of the first look before all others.
+abbrev pub allowed_of : List ℕ → List ℕ → ℕ → Result ℕ Refusal
+allowed_of t bits e = result_and (admit_of t bits) (taken_or_not t bits e)
+
 -- "Event e has control bit e: set when e is taken." The event's record says which bits are cleared.
 unfoldable pub taken : List ℕ → List ℕ → ℕ → List ℕ
 taken t bits e = clear_bits (set_bit bits e) (first_of (event_word t e)) (count_of (event_word t e))
-
--- Numbers 14 and 15, or the record after the event.
-unfoldable pub taken_or_not : List ℕ → Record → ℕ → Result Record Refusal
-taken_or_not t before e =
-    cond (ltb e (events t))
-    (cond (allows t (values_of t before.bits) e) (Ok (record { bits = taken t before.bits e })) (Err (refusal Reason.Guard 0)))
-    (Err (refusal Reason.Event 0))
-
--- The record after event e, or the refusal: that of the first look before all others.
-abbrev pub take_of : List ℕ → Record → ℕ → Result Record Refusal
-take_of t before e = result_and (admit_of t before.bits) (taken_or_not t before e)
 
 -- "Lent buffers and records keep their bytes" where the answer is a refusal.
 abbrev pub refused : Record → Refusal → Stepped
 refused before r = record { answer = Err r; after = before }
 
-abbrev pub stepped : Record → Result Record Refusal → Stepped
-stepped before (Ok after) = record { answer = Ok tt; after = after }
-stepped before (Err r) = refused before r
+abbrev pub stepped : List ℕ → Record → ℕ → Result ℕ Refusal → Stepped
+stepped t before e (Ok w) = record { answer = Ok tt; after = record { bits = taken t before.bits e } }
+stepped t before e (Err r) = refused before r
 
 -- What a step with event e answers, and the record after it.
 unfoldable pub step_of : List ℕ → Record → ℕ → Stepped
-step_of t before e = stepped before (take_of t before e)
+step_of t before e = stepped t before e (allowed_of t before.bits e)
 
 -- Whether a run is finished.
 unfoldable pub finished_of : List ℕ → Record → Result Bool Refusal

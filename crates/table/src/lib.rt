@@ -4,7 +4,7 @@ ghost use Rattle.std.specs.Prelude.{◌≡◌, true, take, OnOk};
 ghost use Rattle.layout.specs.Fields.{events, rows};
 ghost use Rattle.layout.specs.Sound.{sound};
 ghost use Rattle.layout.specs.Values.{values_of};
-ghost use Rattle.table.specs.Steps.{check_of, admit_of, take_of, step_of, finished_of, offered, offer_of, offer_left};
+ghost use Rattle.table.specs.Steps.{check_of, admit_of, allowed_of, step_of, finished_of, offered, offer_of, offer_left};
 
 use base::{Reason, Refusal};
 use record::Record;
@@ -29,11 +29,10 @@ pub fn check(table: &[u8]) -> Result<(), Refusal>
 
 // What every call but `check` looks at first, numbers 12 and 13; where there is neither, `values` has what every row says.
 #[tactic(auto, unfolding(crate::specs::Steps::admit_of))]
-fn admit(t: &[u8], before: Record, values: &mut [bool; 12288]) -> Result<(), Refusal>
-    ensures value { result ≡ admit_of t.now before.bits }
-    ensures values_after { OnOk result (take (rows t.now) values.new ≡ values_of t.now before.bits) }
+fn admit(t: &[u8], bits: [u64; 8], values: &mut [bool; 12288]) -> Result<(), Refusal>
+    ensures value { result ≡ admit_of t.now bits }
+    ensures values_after { OnOk result (take (rows t.now) values.new ≡ values_of t.now bits) }
 {
-    let bits = before.bits;
     if !layout::work_out(t, &bits, values) {
         return Err(Reason::Table.at(0));
     }
@@ -43,12 +42,12 @@ fn admit(t: &[u8], before: Record, values: &mut [bool; 12288]) -> Result<(), Ref
     Ok(())
 }
 
-// The record after the event, which is taken if the table is sound, the record has no set bit at or past E, there is such an event and its guard row says yes.
-fn take(table: &[u8], before: Record, event: u64) -> Result<Record, Refusal>
-    ensures { result ≡ take_of table.now before event }
+// The event's record, where a step takes it: the table is sound, the record has no set bit at or past E, there is such an event and its guard row says yes.
+fn allowed(table: &[u8], bits: [u64; 8], event: u64) -> Result<usize, Refusal>
+    ensures { result ≡ allowed_of table.now bits event }
 {
     let mut values = [false; 12288];
-    admit(table, before, &mut values)?;
+    admit(table, bits, &mut values)?;
     let e = event as usize;
     if base::number::<2>(table, 0) <= e {
         return Err(Reason::Event.at(0));
@@ -58,21 +57,22 @@ fn take(table: &[u8], before: Record, event: u64) -> Result<Record, Refusal>
     if !values[guard] {
         return Err(Reason::Guard.at(0));
     }
-    let set = record::set(before.bits, e);
-    let bits = record::clear(set, w / layout::RUN % layout::RUN, w % layout::RUN);
-    Ok(Record { bits })
+    Ok(w)
 }
 
-// Takes an event, or leaves the record.
-#[tactic(auto, unfolding(crate::specs::Steps::step_of))]
+// Takes an event: its bit is set and its run cleared; or leaves the record.
 pub fn step(table: &[u8], before: Record, event: u64) -> Stepped
     ensures { result ≡ step_of table.now before event }
 {
-    match take(table, before, event) {
-        Ok(after) => Stepped {
-            answer: Ok(()),
-            after,
-        },
+    match allowed(table, before.bits, event) {
+        Ok(w) => {
+            let set = record::set(before.bits, event as usize);
+            let bits = record::clear(set, w / layout::RUN % layout::RUN, w % layout::RUN);
+            Stepped {
+                answer: Ok(()),
+                after: Record { bits },
+            }
+        }
         Err(refusal) => Stepped {
             answer: Err(refusal),
             after: before,
@@ -86,7 +86,7 @@ pub fn finished(table: &[u8], before: Record) -> Result<bool, Refusal>
     ensures { result ≡ finished_of table.now before }
 {
     let mut values = [false; 12288];
-    admit(table, before, &mut values)?;
+    admit(table, before.bits, &mut values)?;
     let last = base::number::<2>(table, 2) - 1;
     Ok(values[last])
 }
@@ -118,7 +118,7 @@ pub fn offer(table: &[u8], before: Record, out: &mut [u8]) -> Result<(), Refusal
         return Err(Reason::Buffer.at(0));
     }
     let mut values = [false; 12288];
-    admit(table, before, &mut values)?;
+    admit(table, before.bits, &mut values)?;
     record::store(out, gather(table, &values));
     Ok(())
 }
