@@ -1,7 +1,7 @@
 #![tactic(auto)]
 // The nodes of a diagram in the order of the text, as the walks over them read them.
 
-ghost use Rattle.std.specs.Prelude.{◌≡◌, take};
+ghost use Rattle.std.specs.Prelude.{◌≡◌, length, min, take};
 ghost use Rattle.diagram.specs.TreeNodes.{size_of};
 ghost use Rattle.nodes.specs.Nodes.{kind_index, form_of, depth_at};
 
@@ -18,7 +18,8 @@ pub enum Form {
 
 // Those that count: a diagram holds 256 nodes whatever its count says.
 pub fn counted(d: &Diagram) -> &[Node]
-    ensures { result.now ≡ take d.now.count d.now.nodes }
+    ensures value { result.now ≡ take d.now.count d.now.nodes }
+    ensures how_many { length result.now ≡ min d.now.count 256 }
 {
     let nodes: &[Node] = &d.nodes;
     nodes.get(..d.count).unwrap_or(nodes)

@@ -1,2 +1,1 @@
-pub mod Columns
 pub mod Searched

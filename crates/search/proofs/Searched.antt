@@ -1,105 +1,85 @@
--- The definitions along the columns of a diagram, by the tests that the code makes: what each of them comes to. Assumes nothing.
-use mathlib.Core.Path.{◌≡◌, sym, ap, ◌∙◌}
-use mathlib.Core.List.{List}
-use Prim.Native.Nat.{ℕ, suc, ◌+◌, ◌-◌, ◌*◌, ◌^◌, ◌≤◌, ◌<◌}
-use native.Mathlib.Nat.{mul-le-mul}
-use native.Mathlib.Numerals.{add-one}
-use native.Mathlib.Omega.{arith}
-use lib.ListN.{get_or, set}
+-- The definitions along the nodes, by the tests that the code makes: what each of them comes to. Assumes nothing.
+use Rattle.std.proofs.Common.{◌≡◌, refl, sym, ap, ◌∙◌, ℕ, zero, suc, ◌+◌, ◌-◌, ◌≤◌, ◌<◌, List, [], ◌∷◌, length, get_or, take, drop, set, arith, add-one, drop-cons, Some, None}
+use Rattle.std.proofs.Math.ListN.{drop_of_length-le, length-map}
+use Rattle.std.proofs.lemmas.List.{take_min, drop-take}
+use Rattle.std.specs.Prelude.{map, min}
+use Rattle.diagram.specs.declared.Node.{Node}
+use Rattle.labels.specs.SearchNodes.{search_node}
 use borrow.Author.Tests.{le-leb, lt-leb, eq-eqb, ne_eqb}
-use Rattle.columns.specs.declared.Nodes.{Nodes}
+use Rattle.std.specs.declared.ops.ControlFlow.{ControlFlow}
+use Rattle.std.specs.declared.ops.ControlFlow.TheVariants.{Continue, Break}
 use Rattle.labels.specs.declared.Spot.{Spot}
 use Rattle.labels.specs.declared.SearchNode.{SearchNode}
 use Rattle.labels.specs.declared.Search.{Search}
-use Rattle.labels.specs.declared.Step.{Step}
-use Rattle.labels.specs.declared.Step.TheVariants.{Go, Found}
-use Rattle.labels.specs.Weights.{sum_mod, product_mod, parts, resets, weight, weight_by}
-use Rattle.labels.specs.Seeks.{next, turn, onward, nowhere, seek}
+use Rattle.labels.specs.Weights.{sum_mod, parts, with_weight, weight, weigh}
+use Rattle.labels.specs.Seeks.{next, turn, seek}
 use Rattle.labels.proofs.Steps.{seek_turn}
-use Rattle.search.specs.code.Columns.{node_at, nodes_from, weighed}
-use Rattle.search.proofs.Columns.{nodes_some, nodes_none}
 
--- The search from node i on, of n.
-module _ (c : Nodes) (ws : List ℕ) (i n : ℕ) (s : Search) where
-  module _ {r q : SearchNode} {t : Step} (h : i < n) (a : r ≡ next (nodes_from c ws i (n - i))) (b : q ≡ next (nodes_from c ws (i + 1) (n - (i + 1)))) (e : t ≡ turn r q s) where
-    here : seek (nodes_from c ws i (n - i)) s ≡ onward t (λ u. seek (nodes_from c ws (i + 1) (n - (i + 1))) u)
-    here =
-        let f : r ≡ node_at c ws i = a ∙ ap next (nodes_some c ws i n h) in
-        let g : nodes_from c ws (suc i) (n - suc i) ≡ nodes_from c ws (i + 1) (n - (i + 1)) = rw add-one in
-        ap (λ (l : List SearchNode). seek l s) (nodes_some c ws i n h)
-        ∙ (rw g (seek_turn (node_at c ws i) (nodes_from c ws (i + 1) (n - (i + 1))) s t (rw (← f, ← b) (sym e))))
+-- The search along nodes of which r is the first.
+module _ (rs after : List SearchNode) (r q : SearchNode) (s : Search) {t : ControlFlow Spot Search} (e : rs ≡ r ∷ after) (b : q ≡ next after) (k : t ≡ turn r q s) where
+  pub seek_found : (p : Spot) → t ≡ Break p → Some p ≡ seek rs s
+  seek_found p o = rw e (sym (seek_turn r after s (Break p) (rw (← b, ← k) o)))
 
-    pub seek_found : (p : Spot) → t ≡ Found p → p ≡ seek (nodes_from c ws i (n - i)) s
-    seek_found p o = sym (here ∙ rw o)
+  pub seek_on : (u : Search) → t ≡ Continue u → seek after u ≡ seek rs s
+  seek_on u o = rw e (sym (seek_turn r after s (Continue u) (rw (← b, ← k) o)))
 
-    pub seek_on : (u : Search) → t ≡ Go u → seek (nodes_from c ws (i + 1) (n - (i + 1))) u ≡ seek (nodes_from c ws i (n - i)) s
-    seek_on u o = sym (here ∙ rw o)
+pub seek_end : (rs : List SearchNode) (s : Search) → length rs ≡ 0 → None ≡ seek rs s
+unfolding seek
+seek_end [] s h = refl
+seek_end (r ∷ rs) s h = absurd (omega arith)
 
-  pub seek_end : n ≤ i → nowhere ≡ seek (nodes_from c ws i (n - i)) s
-  unfolding seek
-  seek_end h = rw (nodes_none c ws i n h)
-
--- The sum over the parts of a node, from node j on, of those before `end`.
-module _ (c : Nodes) (ws : List ℕ) (d n j end : ℕ) where
-  pub parts_done : end ≤ j → parts d n (nodes_from c ws j (end - j)) ≡ n
+-- The sum over the parts of a node, of those from node i on.
+module _ (d n i : ℕ) (rs : List SearchNode) where
+  pub parts_done : length rs ≤ i → parts d n (drop i rs) ≡ n
   unfolding parts
-  parts_done h = rw (nodes_none c ws j end h)
+  parts_done h = rw (drop_of_length-le rs h)
 
-  module _ {e : ℕ} (q : e ≡ get_or c.depths j 0) (h : j < end) where
-    pub parts_stop : e ≤ d → parts d n (nodes_from c ws j (end - j)) ≡ n
+  module _ (x : SearchNode) (h : i < length rs) where
+    pub parts_stop : (get_or rs i x).depth ≤ d → parts d n (drop i rs) ≡ n
     unfolding parts
-    parts_stop l = rw (nodes_some c ws j end h, ← q, le-leb e d l)
+    parts_stop l = rw (drop-cons rs i x h, le-leb (get_or rs i x).depth d l)
 
-    pub parts_add : {w : ℕ} → d < e → e - d ≡ 1 → w ≡ get_or ws j 0
-        → parts d (sum_mod n w) (nodes_from c ws (j + 1) (end - (j + 1))) ≡ parts d n (nodes_from c ws j (end - j))
+    pub parts_add : (w : ℕ) → d < (get_or rs i x).depth → (get_or rs i x).depth - d ≡ 1 → w ≡ (get_or rs i x).weight
+        → parts d (sum_mod n w) (drop (i + 1) rs) ≡ parts d n (drop i rs)
     unfolding parts
-    parts_add l o g = rw (nodes_some c ws j end h, add-one j, ← q, lt-leb e d l, eq-eqb e (suc d) (omega arith), g)
+    parts_add w l o g =
+        rw (drop-cons rs i x h, add-one i, lt-leb (get_or rs i x).depth d l, eq-eqb (get_or rs i x).depth (suc d) (omega arith), g)
 
-    pub parts_skip : d < e → (e - d ≡ 1 → ⊥) → parts d n (nodes_from c ws (j + 1) (end - (j + 1))) ≡ parts d n (nodes_from c ws j (end - j))
+    pub parts_skip : d < (get_or rs i x).depth → ((get_or rs i x).depth - d ≡ 1 → ⊥) → parts d n (drop (i + 1) rs) ≡ parts d n (drop i rs)
     unfolding parts
-    parts_skip l o = rw (nodes_some c ws j end h, add-one j, ← q, lt-leb e d l, ne_eqb e (suc d) (λ z. o (omega arith)))
+    parts_skip l o =
+        rw (drop-cons rs i x h, add-one i, lt-leb (get_or rs i x).depth d l, ne_eqb (get_or rs i x).depth (suc d) (λ z. o (omega arith)))
 
--- A loop's reset, by what its member is, node j.
-module _ (c : Nodes) (ws : List ℕ) (j end : ℕ) where
-  pub no_member : end ≤ j → 0 ≡ resets (nodes_from c ws j (end - j))
-  no_member h = rw (nodes_none c ws j end h)
+-- The nodes with their events, from the last to the first.
+pub none_weighed : (ns : List Node) (ws : List SearchNode) → drop (length ns) (take (length ns) ws) ≡ weigh (drop (length ns) (map search_node ns))
+unfolding weigh
+none_weighed [] ws = refl
+none_weighed (n ∷ ns) [] = rw (drop_of_length-le (map search_node ns) {i = length ns} (omega (arith, length-map ns search_node)))
+none_weighed (n ∷ ns) (w ∷ ws) = none_weighed ns ws
 
-  module _ {k : ℕ} (q : k ≡ get_or c.kinds j 0) (h : j < end) where
-    pub no_reset : k ≡ 0 → 0 ≡ resets (nodes_from c ws j (end - j))
-    no_reset z = rw (nodes_some c ws j end h, ← q, eq-eqb k 0 z)
+one_more : (ns : List Node) (ws : List SearchNode) (k : ℕ) (x : Node) (w : SearchNode) → k < length ns → length ns ≤ length ws
+    → drop (suc k) (take (length ns) ws) ≡ weigh (drop (suc k) (map search_node ns))
+    → w ≡ with_weight (search_node (get_or ns k x)) (weight (search_node (get_or ns k x)) (drop (suc k) (take (length ns) ws)))
+    → drop k (take (length ns) (set ws k w)) ≡ weigh (drop k (map search_node ns))
+unfolding weigh
+one_more [] ws k x w h l e q = absurd (omega arith)
+one_more (n ∷ ns) [] k x w h l e q = absurd (omega arith)
+one_more (n ∷ ns) (v ∷ ws) zero x w h l e q = rw (q, e)
+one_more (n ∷ ns) (v ∷ ws) (suc k) x w h l e q = one_more ns ws k x w (omega arith) (omega arith) e q
 
-    pub one_reset : (k ≡ 0 → ⊥) → 1 ≡ resets (nodes_from c ws j (end - j))
-    one_reset z = rw (nodes_some c ws j end h, ← q, ne_eqb k 0 z)
+-- As the code goes, from node m to the one before it.
+module _ (ns : List Node) (ws : List SearchNode) (k m : ℕ) (x : Node) (w : SearchNode) (b : m ≡ suc k) (h : k < length ns) (l : length ns ≤ length ws) where
+  pub one_weighed : drop m (take (length ns) ws) ≡ weigh (drop m (map search_node ns))
+      → w ≡ with_weight (search_node (get_or ns k x)) (weight (search_node (get_or ns k x)) (take (length ns - m) (drop m ws)))
+      → drop k (take (length ns) (set ws k w)) ≡ weigh (drop k (map search_node ns))
+  one_weighed e q =
+      let whole : m + (length ns - m) ≡ length ns = omega arith in
+      let t : take (length ns - m) (drop m ws) ≡ drop (suc k) (take (length ns) ws) =
+      sym (drop-take m (length ns - m) ws) ∙ rw (whole, b) in
+      one_more ns ws k x w h l (rw (← b) e) (rw (← t) q)
 
--- How many events a node has, by what it is.
-module _ (k size n reset : ℕ) where
-  pub weight_leaf : k ≡ 0 → 1 ≡ weight_by k size n reset
-  weight_leaf e = rw (eq-eqb k 0 e)
-
-  pub weight_loop : k ≡ 1 → sum_mod n reset ≡ weight_by k size n reset
-  weight_loop e = rw (ne_eqb k 0 (λ z. omega arith), eq-eqb k 1 e)
-
-  module _ (a : k ≡ 0 → ⊥) (b : k ≡ 1 → ⊥) where
-    pub weight_parts : size ≡ 0 → n ≡ weight_by k size n reset
-    weight_parts e = rw (ne_eqb k 0 a, ne_eqb k 1 b, eq-eqb size 0 e)
-
-    pub weight_copies : (size ≡ 0 → ⊥) → product_mod size n ≡ weight_by k size n reset
-    weight_copies e = rw (ne_eqb k 0 a, ne_eqb k 1 b, ne_eqb size 0 e)
-
--- A size and a sum are small enough to be multiplied.
-pub small_product : (size n : ℕ) → size < 256 → n < 1024 → size * n < 2 ^ 64
-small_product size n a b = let l : size * n ≤ 255 * 1023 = mul-le-mul {n₁ = size} {m₁ = n} {n₂ = 255} {m₂ = 1023} (omega arith) (omega arith) in omega arith
-
--- One node more, from the last to the first.
-pub weighed_more : (c : Nodes) (i : ℕ) (ws : List ℕ) {k size n reset w : ℕ} → 0 < i → k ≡ get_or c.kinds (i - 1) 0 → size ≡ get_or c.sizes (i - 1) 0
-    → n ≡ parts (get_or c.depths (i - 1) 0) 0 (nodes_from c ws (i - 1 + 1) (c.count - (i - 1 + 1)))
-    → reset ≡ resets (nodes_from c ws (i - 1 + 1) (c.count - (i - 1 + 1))) → w ≡ weight_by k size n reset
-    → weighed c (i - 1) (set ws (i - 1) w) ≡ weighed c i ws
-unfolding weighed weight
-weighed_more c i ws h a b f g e =
-    let q : i ≡ suc (i - 1) = omega arith in
-    rw (e, a, b, f, g, add-one (i - 1)) (ap (λ (j : ℕ). weighed c j ws) (sym q))
-
-pub weighed_done : (c : Nodes) (i : ℕ) (ws : List ℕ) → i ≤ 0 → ws ≡ weighed c i ws
-unfolding weighed
-weighed_done c i ws h = let q : i ≡ 0 = omega arith in rw q
+pub all_weighed : (count : ℕ) (ns ms : List Node) (ws : List SearchNode) → length ns ≡ min count 256 → length ws ≡ 256 → ns ≡ ms
+    → take (length ns) ws ≡ weigh (map search_node ns) → take count ws ≡ weigh (map search_node ms)
+all_weighed count ns ms ws m l v e =
+    let same : take (min count (length ws)) ws ≡ take (length ns) ws = rw (l, m) in
+    sym (take_min count ws) ∙ (same ∙ (e ∙ ap (λ (x : List Node). weigh (map search_node x)) v))

@@ -1,275 +1,187 @@
 #![tactic(auto)]
 
-ghost use Rattle.std.specs.Prelude.{◌≡◌, List, ℕ, ◌+◌, ◌-◌, ◌<◌, get_or, replicate};
-ghost use Rattle.columns.specs.declared.Nodes.{Nodes};
-ghost use Rattle.labels.specs.Values.{values as values_of, push as pushed};
-ghost use Rattle.labels.specs.Weights.{parts as parts_of, resets as resets_of, weight_by};
-ghost use Rattle.labels.specs.Seeks.{next, entered as entered_of, inside as inside_of, turn as turn_of, seek as seek_of, begin, spot_of};
-ghost use Rattle.search.specs.code.Columns.{lent, nodes_from, weighed};
+ghost use Rattle.std.specs.Prelude.{◌≡◌, ◌<◌, map, take, length};
+ghost use Rattle.nodes.specs.Nodes.{form_of};
+ghost use Rattle.labels.specs.SearchNodes.{search_node};
+ghost use Rattle.labels.specs.Weights.{parts as parts_of, resets as resets_of, weight_by, weight as weight_of, weigh as weigh_nodes, with_weight};
+ghost use Rattle.labels.specs.Seeks.{next, into_copy as into_copy_of, inside as inside_of, turn as turn_of, seek as seek_of, begin, spot_of};
 
-use columns::Nodes;
-use diagram::Diagram;
-use labels::{Search, SearchNode, Spot, Step, Values};
+use diagram::{Diagram, Node};
+use labels::{Search, SearchNode, Spot, Values};
+use nodes::Form;
+use std::ops::ControlFlow;
 
-// A value after the others.
-pub fn push(v: Values, x: usize) -> Values
-    ensures { result ≡ pushed v x }
-{
-    if v.count == 0 {
-        return Values {
-            count: 1,
-            first: x,
-            second: 0,
-            third: 0,
-        };
-    }
-    if v.count == 1 {
-        return Values {
-            count: 2,
-            first: v.first,
-            second: x,
-            third: 0,
-        };
-    }
-    if v.count == 2 {
-        return Values {
-            count: 3,
-            first: v.first,
-            second: v.second,
-            third: x,
-        };
-    }
-    v
-}
+// No node is left: like a leaf with no events.
+const NONE: SearchNode = SearchNode {
+    form: Form::Leaf,
+    depth: 0,
+    place: 0,
+    weight: 0,
+};
 
-// The events of the parts of node i, those of the nodes before `end` that are one deeper than it.
-fn parts(depths: &[u16], weights: &[usize], i: usize, end: usize) -> usize
-    requires { i < end }
-    ensures value { (c : Nodes) → c.depths ≡ depths.now → result ≡ parts_of (get_or c.depths i 0) 0 (nodes_from c weights.now (i + 1) (end - (i + 1))) }
+// The events of the parts of a node, those of the nodes at the front that are one deeper than it.
+fn parts(depth: u16, rest: &[SearchNode]) -> usize
+    ensures value { result ≡ parts_of depth 0 rest.now }
     ensures upper_bound { result < 1024 }
 {
-    let d = columns::number(depths, i);
     let mut n = 0;
-    let mut j = i + 1;
-    while j < end {
-        let e = columns::number(depths, j);
-        if e <= d {
+    for node in rest {
+        if node.depth <= depth {
             return n;
         }
-        if e - d == 1 {
-            n = (n + base::number(weights, j) % 1024) % 1024;
+        if node.depth - depth == 1 {
+            n = (n + usize::from(node.weight) % 1024) % 1024;
         }
-        j += 1;
     }
     n
 }
 
-// A loop over the node after node i has a reset if that is there and no leaf.
-fn resets(kinds: &[u8], i: usize, end: usize) -> usize
-    requires { i < end }
-    ensures { (c : Nodes) (ws : List ℕ) → c.kinds ≡ kinds.now → result ≡ resets_of (nodes_from c ws (i + 1) (end - (i + 1))) }
+// A loop over the first of these nodes has a reset if that is there and no leaf.
+fn resets(rest: &[SearchNode]) -> bool
+    ensures { result ≡ resets_of rest.now }
 {
-    let j = i + 1;
-    if end <= j {
-        return 0;
+    match rest.first() {
+        Some(member) => !matches!(member.form, Form::Leaf),
+        None => false,
     }
-    if base::byte(kinds, j) == postfix::LEAF {
-        return 0;
-    }
-    1
 }
 
-// How many events one copy of a node has, where its parts have n, and it has so many resets.
-fn weight(kind: u8, size: u8, n: usize, reset: usize) -> usize
-    requires { n < 1024 }
-    ensures { result ≡ weight_by kind size n reset }
+// How many events one copy of a node has, by its form and the nodes after it.
+fn weight(form: Form, depth: u16, rest: &[SearchNode]) -> usize
+    ensures value { result ≡ weight_by form (parts_of depth 0 rest.now) (resets_of rest.now) }
+    ensures upper_bound { result < 1024 }
 {
-    if kind == postfix::LEAF {
-        return 1;
+    let n = parts(depth, rest);
+    match form {
+        Form::Leaf => 1,
+        Form::Loop => (n + usize::from(resets(rest)) % 1024) % 1024,
+        Form::Joined(_, None) => n,
+        Form::Joined(_, Some(size)) => usize::from(size) * n % 1024,
     }
-    if kind == columns::LOOP {
-        return (n + reset % 1024) % 1024;
-    }
-    if size == 0 {
-        return n;
-    }
-    base::wide(size) * n % 1024
 }
 
-// How many events one copy of each node has, from the last node to the first.
-pub fn weigh(c: Nodes) -> [usize; 256]
-    ensures { result ≡ weighed c c.count (replicate 256 0) }
+// A node with its events, by the nodes after it.
+#[tactic(auto, unfolding(labels::specs::Weights::weight))]
+fn weighed(node: Node, rest: &[SearchNode]) -> SearchNode
+    ensures { result ≡ with_weight (search_node node) (weight_of (search_node node) rest.now) }
 {
-    let mut weights = [0usize; 256];
-    let mut i = c.count;
-    while 0 < i {
-        i -= 1;
-        let n = parts(&c.depths, &weights, i, c.count);
-        let reset = resets(&c.kinds, i, c.count);
-        let w = weight(base::byte(&c.kinds, i), base::byte(&c.sizes, i), n, reset);
-        base::put_number(&mut weights, i, w);
+    let form = Form::from(node.kind);
+    SearchNode {
+        form,
+        depth: node.depth,
+        place: node.name,
+        weight: weight(form, node.depth, rest) as u16,
     }
-    weights
 }
 
-// Into a node of this depth and size, whose member has these events.
-fn entered(depth: usize, size: u8, inner: usize, s: Search) -> Search
-    ensures { result ≡ entered_of depth size inner s }
+// The nodes of a diagram that count with how many events one copy of each of them has, worked out from the last to the first.
+pub fn weigh(d: &Diagram) -> [SearchNode; 256]
+    ensures { take d.now.count result ≡ weigh_nodes (map search_node (take d.now.count d.now.nodes)) }
 {
-    let values = s.values;
-    if (size == 0) | (inner == 0) {
+    let nodes = nodes::counted(d);
+    let mut weighed_nodes = [NONE; 256];
+    for i in (0..nodes.len()).rev() {
+        weighed_nodes[i] = weighed(nodes[i], &weighed_nodes[i + 1..nodes.len()]);
+    }
+    weighed_nodes
+}
+
+// Into a copy of a replicator's member, which has these events.
+#[tactic(auto, unfolding(labels::specs::Seeks::into_copy))]
+fn into_copy(depth: u16, inner: u16, s: Search) -> Search
+    ensures { result ≡ into_copy_of depth inner s }
+{
+    let inner = usize::from(inner);
+    if inner == 0 {
         return Search {
             above: depth,
             rest: s.rest,
-            values,
+            values: s.values,
         };
     }
-    let longer = push(values, s.rest / inner);
     Search {
         above: depth,
         rest: s.rest % inner,
-        values: longer,
+        values: s.values.push(s.rest / inner),
     }
 }
 
 // The event is one of node r's, and q is the node after it.
-fn inside(r: SearchNode, q: SearchNode, s: Search) -> Step
+#[tactic(auto, unfolding(labels::specs::Seeks::inside))]
+fn inside(r: SearchNode, q: SearchNode, s: Search) -> ControlFlow<Spot, Search>
     ensures { result ≡ inside_of r q s }
 {
     let values = s.values;
-    if r.kind == postfix::LEAF {
-        let spot = Spot {
+    match r.form {
+        Form::Leaf => ControlFlow::Break(Spot {
             reset: false,
-            place: r.place,
+            place: usize::from(r.place),
             values,
-        };
-        return Step::Found(spot);
+        }),
+        Form::Loop if usize::from(q.weight) <= s.rest => ControlFlow::Break(Spot {
+            reset: true,
+            place: usize::from(q.place),
+            values,
+        }),
+        Form::Loop | Form::Joined(_, None) => ControlFlow::Continue(Search {
+            above: r.depth,
+            rest: s.rest,
+            values,
+        }),
+        Form::Joined(_, Some(_)) => ControlFlow::Continue(into_copy(r.depth, q.weight, s)),
     }
-    if r.kind == columns::LOOP {
-        if q.weight <= s.rest {
-            let spot = Spot {
-                reset: true,
-                place: q.place,
-                values,
-            };
-            return Step::Found(spot);
-        }
-    }
-    Step::Go(entered(r.depth, r.size, q.weight, s))
 }
 
 // One node further: node r, and q is the node after it.
-fn turn(r: SearchNode, q: SearchNode, s: Search) -> Step
+fn turn(r: SearchNode, q: SearchNode, s: Search) -> ControlFlow<Spot, Search>
     ensures { result ≡ turn_of r q s }
 {
-    if r.depth <= s.above {
-        return Step::Go(s);
+    if r.depth <= s.above || r.depth - s.above != 1 {
+        return ControlFlow::Continue(s);
     }
-    if r.depth - s.above != 1 {
-        return Step::Go(s);
-    }
-    if r.weight <= s.rest {
-        let values = s.values;
-        let further = Search {
+    let weight = usize::from(r.weight);
+    if weight <= s.rest {
+        return ControlFlow::Continue(Search {
             above: s.above,
-            rest: s.rest - r.weight,
-            values,
-        };
-        return Step::Go(further);
+            rest: s.rest - weight,
+            values: s.values,
+        });
     }
     inside(r, q, s)
 }
 
-// Node i of those that count; past them there is none.
-fn node<'a>(
-    kinds: &'a [u8],
-    sizes: &'a [u8],
-    depths: &'a [u16],
-    names: &'a [u16],
-    weights: &'a [usize],
-    count: usize,
-    i: usize,
-) -> SearchNode
-    ensures { result ≡ next (nodes_from (lent kinds.now sizes.now depths.now names.now count) weights.now i (count - i)) }
+// The first of some nodes.
+fn first(nodes: &[SearchNode]) -> SearchNode
+    ensures { result ≡ next nodes.now }
 {
-    if count <= i {
-        return SearchNode {
-            kind: 0,
-            size: 0,
-            depth: 0,
-            place: 0,
-            weight: 0,
-        };
-    }
-    SearchNode {
-        kind: base::byte(kinds, i),
-        size: base::byte(sizes, i),
-        depth: columns::number(depths, i),
-        place: columns::number(names, i),
-        weight: base::number(weights, i),
-    }
+    base::at(nodes, 0, NONE)
 }
 
-// Outside every replicator.
-fn no_values() -> Values
-    ensures { result ≡ values_of 0 0 0 0 }
+// What an event number stands for, by the nodes in the order of the text.
+pub fn seek(nodes: &[SearchNode], event: usize) -> Option<Spot>
+    ensures { result ≡ seek_of nodes.now (begin event) }
 {
-    Values {
-        count: 0,
-        first: 0,
-        second: 0,
-        third: 0,
-    }
-}
-
-// What an event number stands for, by the nodes in the order of the text; no event has a name at place 0.
-pub fn seek<'a>(
-    kinds: &'a [u8],
-    sizes: &'a [u8],
-    depths: &'a [u16],
-    names: &'a [u16],
-    weights: &'a [usize],
-    count: usize,
-    event: usize,
-) -> Spot
-    ensures { result ≡ seek_of (nodes_from (lent kinds.now sizes.now depths.now names.now count) weights.now 0 count) (begin event) }
-{
-    let none = no_values();
     let mut s = Search {
         above: 0,
         rest: event,
-        values: none,
+        values: Values::none(),
     };
-    let mut r = node(kinds, sizes, depths, names, weights, count, 0);
-    let mut i = 0;
-    while i < count {
-        i += 1;
-        let q = node(kinds, sizes, depths, names, weights, count, i);
-        let t = turn(r, q, s);
-        match t {
-            Step::Found(spot) => {
-                return spot;
-            }
-            Step::Go(next) => {
-                s = next;
-            }
+    let mut rest = nodes;
+    while let Some((r, after)) = rest.split_first() {
+        match turn(*r, first(after), s) {
+            ControlFlow::Break(spot) => return Some(spot),
+            ControlFlow::Continue(further) => s = further,
         }
-        r = q;
+        rest = after;
     }
-    Spot {
-        reset: false,
-        place: 0,
-        values: none,
-    }
+    None
 }
 
 // What an event number of a diagram stands for.
-pub fn find(d: Diagram, event: usize) -> Spot
-    ensures { result ≡ spot_of d event }
+#[tactic(auto, unfolding(labels::specs::Seeks::spot_of))]
+pub fn find(d: &Diagram, event: usize) -> Option<Spot>
+    ensures { result ≡ spot_of d.now event }
 {
-    let c = columns::columns(d);
-    let weights = weigh(c);
-    seek(
-        &c.kinds, &c.sizes, &c.depths, &c.names, &weights, c.count, event,
-    )
+    let nodes: &[SearchNode] = &weigh(d);
+    seek(nodes.get(..d.count).unwrap_or(nodes), event)
 }

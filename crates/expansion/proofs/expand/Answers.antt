@@ -8,5 +8,5 @@ use Rattle.expansion.proofs.expand.Goals as goal
 pub returns : goal.returns
 unfolding expanded
 returns c =
-    let w = c.part.ensures ∙ ap (λ (ns : List Node). part 12 ns (place 0 0 c.args.codes.now)) c.counted.ensures in
+    let w = c.part.ensures ∙ ap (λ (ns : List Node). part 12 ns (place 0 0 c.args.codes.now)) c.counted.ensures.value in
     record { value = ap (λ (x : Place). x.walk.count) w; codes_after = ap (λ (x : Place). x.codes) w }

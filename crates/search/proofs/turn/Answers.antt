@@ -1,19 +1,25 @@
 -- `search::turn` meets its contract, by the node's depth and how many events it has. Assumes nothing.
-use mathlib.Core.Path.{sym, ◌∙◌}
-use native.Mathlib.Omega.{arith}
+use Rattle.std.proofs.Common.{sym, ◌∙◌, arith}
 use Rattle.labels.proofs.Steps.{turn_other, turn_past, turn_inside}
 use Rattle.search.proofs.turn.Goals as goal
+use Rattle.search.proofs.turn.Goals.{then-r-s-via-then-r-s, then-r-s-via-else-r-s+then-r-s-ne1}
 
 pub returns-then-r-s : goal.returns-then-r-s
-returns-then-r-s c = sym (turn_other _ _ _ (λ e. omega (arith, c.if-r-s.true, e)))
+returns-then-r-s c =
+    let a = c.args in
+    sym (elim c.then-r-s.branch [
+      | then-r-s-via-then-r-s w ↦ turn_other a.r a.q a.s (λ e. omega (arith, w.if-r-s.true, e))
+      | then-r-s-via-else-r-s+then-r-s-ne1 w ↦ turn_other a.r a.q a.s (λ e. w.if-r-s-ne1.true (omega (arith, e)))
+    ])
 
-pub returns-then-r-s-ne1 : goal.returns-then-r-s-ne1
-returns-then-r-s-ne1 c = sym (turn_other _ _ _ (λ e. c.if-r-s-ne1.true (omega (arith, e))))
-
-pub returns-then-r-s-2 : goal.returns-then-r-s-2
-returns-then-r-s-2 c =
-    sym (turn_past _ _ _ (omega (arith, c.if-r-s-ne1.false, c.if-r-s.false)) c.if-r-s-2.true)
+pub returns-then-weight-s : goal.returns-then-weight-s
+returns-then-weight-s c =
+    let a = c.args in
+    let w = c.from-weight.ensures in
+    rw w (sym (turn_past a.r a.q a.s (omega (arith, c.if-r-s-ne1.false, c.if-r-s.false)) (omega (arith, w, c.if-weight-s.true))))
 
 pub returns : goal.returns
 returns c =
-    c.inside.ensures ∙ sym (turn_inside _ _ _ (omega (arith, c.if-r-s-ne1.false, c.if-r-s.false)) c.if-r-s-2.false)
+    let a = c.args in
+    c.inside.ensures
+    ∙ sym (turn_inside a.r a.q a.s (omega (arith, c.if-r-s-ne1.false, c.if-r-s.false)) (omega (arith, c.from-weight.ensures, c.if-weight-s.false)))

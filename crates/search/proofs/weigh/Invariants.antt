@@ -1,13 +1,10 @@
--- `search::weigh` meets its contract. The loop's invariant: what is left to be done brings the column to its end. Its measure is how many nodes are left.
--- Assumes nothing.
-use mathlib.Core.Path.{◌≡◌}
-use Prim.Native.Nat.{◌≤◌}
-use lib.ListN.{length, replicate}
-use Rattle.search.specs.code.Columns.{weighed}
+-- The invariant: from node i on each has its events.
+use Rattle.std.proofs.Common.{◌≡◌, take, drop, length}
+use Rattle.std.specs.Prelude.{map}
+use Rattle.labels.specs.SearchNodes.{search_node}
+use Rattle.labels.specs.Weights.{weigh}
 use Rattle.search.proofs.weigh.Given as goal
 
 abbrev pub invariant-loop-i : goal.invariant-loop-i
-invariant-loop-i l = (l.i ≤ l.c.count) × (length l.weights ≡ 256) × (weighed l.c l.i l.weights ≡ weighed l.c l.c.count (replicate 256 0))
-
-abbrev pub decreases-loop-i : goal.decreases-loop-i
-decreases-loop-i l = l.i
+invariant-loop-i l =
+    (length l.weighed_nodes ≡ 256) × (drop l.i (take (length l.nodes) l.weighed_nodes) ≡ weigh (drop l.i (map search_node l.nodes)))
