@@ -1,10 +1,12 @@
--- The invariant: the columns hold the names of the events before e. The measure is what is left of the columns.
-use Prim.Native.Nat.{◌-◌}
-use Rattle.profile.proofs.NamesFilled.{Filled}
+-- The variables of the events before e.
+use Rattle.std.proofs.Common.{◌≡◌, ℕ, ◌<◌, length, get_or}
+use Rattle.labels.specs.Seeks.{spot_of}
+use Rattle.variables.specs.code.Spelled.{none}
+use Rattle.profile.specs.code.Profiles.{variable}
 use Rattle.profile.proofs.names.Given as goal
 
 abbrev pub invariant-loop-e : goal.invariant-loop-e
-invariant-loop-e l = Filled l.d l.places l.resets l.e
-
-abbrev pub decreases-loop-e : goal.decreases-loop-e
-decreases-loop-e l = 32 - l.e
+invariant-loop-e l = record {
+  long : length l.variables ≡ 32;
+  filled : (n : ℕ) → n < l.e → get_or l.variables n none ≡ variable (spot_of l.d n);
+}

@@ -1,21 +1,27 @@
 -- Whether a diagram by value has a machine, and where the names of its events stand: for the contracts of the functions. That the first is
 -- `modelling.specs.Profile.in_profile` of the diagram that was read is `machines.proofs.Drawn.outside_profile` and `machines.proofs.Drawn.inside_profile`.
-use Rattle.std.specs.Prelude.{◌≡◌, Bool, false, ◌||◌, cond, List, [], ◌∷◌, ℕ, ◌<◌, ltb, get_or, take}
+use Rattle.std.specs.Prelude.{◌≡◌, Bool, ◌||◌, List, ℕ, ◌<◌, ltb, get_or, take, Option, Some, None}
+use Rattle.std.specs.List.{list_any}
 use Rattle.diagram.specs.TreeNodes.{copying}
 use Rattle.diagram.specs.declared.Diagram.{Diagram}
-use Rattle.diagram.specs.declared.Node.{Node}
 use Rattle.labels.specs.Seeks.{spot_of}
-use Rattle.variables.specs.declared.Variables.{Variables}
+use Rattle.labels.specs.declared.Spot.{Spot}
+use Rattle.variables.specs.code.Spelled.{none}
+use Rattle.variables.specs.declared.Variable.{Variable}
 
--- A node is a replicator.
-unfoldable pub some_copies : List Node → Bool
-some_copies [] = false
-some_copies (n ∷ ns) = copying n.kind || some_copies ns
+-- One of the nodes is a replicator.
+abbrev pub copies : Diagram → Bool
+copies g = list_any (λ n. copying n.kind) (take g.count g.nodes)
 
--- A replicator in it, or over 32 events.
+-- That, or over 32 events.
 abbrev pub outside_of : Diagram → Bool
-outside_of g = some_copies (take g.count g.nodes) || ltb 32 g.events
+outside_of g = copies g || ltb 32 g.events
 
--- Where the names of the first 32 events stand, and which of these are resets.
-abbrev pub Names : Diagram → Variables → Type 0
-Names g v = (n : ℕ) → n < 32 → n < g.events → (get_or v.places n 0 ≡ (spot_of g n).place) × (get_or v.resets n 0 ≡ cond (spot_of g n).reset 1 0)
+-- What the event that stands here is called.
+abbrev pub variable : Option Spot → Variable
+variable (Some s) = record { place = s.place; reset = s.reset }
+variable None = none
+
+-- Of the first 32 events.
+abbrev pub Names : Diagram → List Variable → Type 0
+Names g vs = (n : ℕ) → n < 32 → get_or vs n none ≡ variable (spot_of g n)

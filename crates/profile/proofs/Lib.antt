@@ -1,2 +1,0 @@
-pub mod Looked
-pub mod NamesFilled
