@@ -1,5 +1,6 @@
 -- What is shown of a run is never cut: a buffer of 262,144 bytes has room for it, where the listing has at most 32,768 bytes and what is said at most 64.
 use mathlib.Core.Path.{◌≡◌}
+use Rattle.std.specs.Prelude.{⊤, Result, Ok, Err}
 use mathlib.Core.Bool.{Bool, true, false}
 use mathlib.Core.List.{List, [], ◌∷◌}
 use Prim.Native.Nat.{ℕ, suc, ◌+◌, ◌*◌, ◌≤◌}
@@ -8,6 +9,8 @@ use lib.Dec.{eqb}
 use lib.ListN.{length, length-append}
 use Rattle.base.specs.Fill.{fill}
 use Rattle.base.specs.Text.{bytes}
+use Rattle.base.specs.Refusals.{number}
+use Rattle.base.specs.declared.Refusal.{Refusal}
 use Rattle.base.proofs.Truth.{by_cases}
 use Rattle.output.specs.Buffer.{buffer, put_all}
 use Rattle.output.proofs.Buffers.{whole}
@@ -16,10 +19,6 @@ use Rattle.record.specs.Bits.{bit_at}
 use Rattle.record.specs.Blank.{blank_record}
 use Rattle.record.specs.declared.Record.{Record}
 use Rattle.table.specs.Steps.{finished_of}
-use Rattle.table.specs.declared.Answer.{Answer}
-use Rattle.table.specs.declared.Answer.TheVariants.{Done, Refused}
-use Rattle.table.specs.declared.Finish.{Finish}
-use Rattle.table.specs.declared.Finish.TheVariants.{No, Yes, Refused as FinishRefused}
 use Rattle.table.specs.declared.Stepped.{Stepped}
 use Rattle.said.specs.Lines.{onto, lines, first, rest, event_lines}
 use Rattle.player.specs.Shown.{item, chosen, events_line, next_bits, state_text, answer_text, answer_line, stepped_text, said_step, opening_text, finish_text, closing_text}
@@ -70,14 +69,14 @@ unfolding state_text
 state_short listing table r =
     simp length-append (omega (arith, line_short (bytes "bits") listing r.bits, line_short (bytes "next") listing (next_bits table r)))
 
-answer_short : (a : Answer) → length (answer_text a) ≤ 50
-answer_short Done = omega arith
-answer_short (Refused number place) = refused_most number place
+answer_short : (a : Result ⊤ Refusal) → length (answer_text a) ≤ 50
+answer_short (Ok done) = omega arith
+answer_short (Err r) = refused_most (number r.reason) r.place
 
-finish_short : (f : Finish) → length (finish_text f) ≤ 50
-finish_short Yes = omega arith
-finish_short No = omega arith
-finish_short (FinishRefused number place) = refused_most number place
+finish_short : (f : Result Bool Refusal) → length (finish_text f) ≤ 50
+finish_short (Ok true) = omega arith
+finish_short (Ok false) = omega arith
+finish_short (Err r) = refused_most (number r.reason) r.place
 
 stepped_short : (listing table said : List ℕ) (s : Stepped) → length (stepped_text listing table said s) ≤ 6 * length listing + length said + 68
 unfolding stepped_text answer_line

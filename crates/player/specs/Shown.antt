@@ -1,15 +1,13 @@
 -- What is shown of a run: the answer to each event that is said, the control bits that are set, and what may come next.
-use Rattle.std.specs.Prelude.{Bool, cond, List, [], ◌∷◌, ◌++◌, ℕ, suc, replicate}
+use Rattle.std.specs.Prelude.{Bool, true, false, cond, List, [], ◌∷◌, ◌++◌, ℕ, suc, replicate, ⊤, Result, Ok, Err}
 use Rattle.base.specs.Text.{bytes}
+use Rattle.base.specs.Refusals.{number}
+use Rattle.base.specs.declared.Refusal.{Refusal}
 use Rattle.record.specs.Bits.{bit_at}
 use Rattle.record.specs.Bytes.{words_of}
 use Rattle.record.specs.Blank.{blank_record}
 use Rattle.record.specs.declared.Record.{Record}
 use Rattle.table.specs.Steps.{step_of, finished_of, offer_of, offer_left}
-use Rattle.table.specs.declared.Answer.{Answer}
-use Rattle.table.specs.declared.Answer.TheVariants.{Done, Refused}
-use Rattle.table.specs.declared.Finish.{Finish}
-use Rattle.table.specs.declared.Finish.TheVariants.{No, Yes, Refused as FinishRefused}
 use Rattle.table.specs.declared.Stepped.{Stepped}
 use Rattle.output.specs.Lines.{refused_line}
 use Rattle.said.specs.Lines.{lines, first, event_lines}
@@ -37,12 +35,12 @@ unfoldable pub state_text : List ℕ → List ℕ → Record → List ℕ
 state_text listing table r = events_line (bytes "bits") listing r.bits ++ events_line (bytes "next") listing (next_bits table r)
 
 -- `done`, or `refused`, number and place.
-abbrev pub answer_text : Answer → List ℕ
-answer_text Done = bytes "done\n"
-answer_text (Refused number place) = refused_line number place
+abbrev pub answer_text : Result ⊤ Refusal → List ℕ
+answer_text (Ok done) = bytes "done\n"
+answer_text (Err r) = refused_line (number r.reason) r.place
 
 -- What was said, and the answer to it.
-unfoldable pub answer_line : List ℕ → Answer → List ℕ
+unfoldable pub answer_line : List ℕ → Result ⊤ Refusal → List ℕ
 answer_line said a = said ++ (bytes ": " ++ answer_text a)
 
 -- What was said, the answer to it, and the state after it.
@@ -57,11 +55,11 @@ said_step listing table before said = step_of table before (event_said listing s
 unfoldable pub opening_text : List ℕ → List ℕ → List ℕ
 opening_text listing table = (first (lines listing) ++ bytes "\n") ++ state_text listing table blank_record
 
--- `finished` or `not finished`.
-abbrev pub finish_text : Finish → List ℕ
-finish_text Yes = bytes "finished\n"
-finish_text No = bytes "not finished\n"
-finish_text (FinishRefused number place) = refused_line number place
+-- `finished` or `not finished`, or `refused`, number and place.
+abbrev pub finish_text : Result Bool Refusal → List ℕ
+finish_text (Ok true) = bytes "finished\n"
+finish_text (Ok false) = bytes "not finished\n"
+finish_text (Err r) = refused_line (number r.reason) r.place
 
 unfoldable pub closing_text : List ℕ → Record → List ℕ
 closing_text table r = finish_text (finished_of table r)

@@ -1,3 +1,4 @@
+mod Search
 pub mod Lines
 mod Saying
 pub mod Meant

@@ -1,64 +1,48 @@
 -- Which line says it. Assumes nothing.
-use mathlib.Core.Path.{◌≡◌, refl, sym, ◌∙◌}
-use mathlib.Core.Bool.{Bool, true, false, ◌||◌}
-use mathlib.Core.List.{List, [], ◌∷◌}
-use Prim.Native.Nat.{ℕ, suc, ◌+◌, ◌-◌, ◌≤◌, ◌<◌}
-use native.Mathlib.Nat.{zero-add}
-use native.Mathlib.Numerals.{add-one}
-use native.Mathlib.Omega.{arith}
-use lib.Dec.{eqb}
-use lib.ListN.{length, take, drop, drop_of_length-le}
+use Rattle.std.proofs.Common.{◌≡◌, ℕ, suc, Bool, true, false, ◌||◌, eqb, List, ◌∷◌, length, take, drop, sym, ◌∙◌}
+use Rattle.std.specs.Cmp.Lexicographic.{pointwise}
+use Rattle.std.proofs.lemmas.Bool.Decides.{same_from_decides}
+use Rattle.std.proofs.lemmas.Slice.Eq.{bytes_eq-Decides}
 use Rattle.base.specs.Equal.{same}
-use borrow.Author.Tests.{ne_eqb}
+use Rattle.base.proofs.Decided.{same_decides}
 use Rattle.said.specs.Search.{index_of}
-use Rattle.said.specs.Lines.{lines, LineEnds}
+use Rattle.said.specs.Lines.{lines, first, rest}
 use Rattle.said.specs.Said.{number_part, label_part, says, before_saying}
-use Rattle.said.proofs.Lines.{line_at, none_at}
+use Rattle.said.proofs.Lines.{lines_some, lines_empty}
 
--- By what stands before the first space, and after it.
-module _ (line said : List ℕ) (space : ℕ) (q : space ≡ 0 + index_of 32 (drop 0 line)) where
-  at_space : space ≡ index_of 32 line
-  at_space = q ∙ zero-add _
+-- As bytes are compared.
+alike : (v w : List ℕ) → pointwise eqb v w ≡ same v w
+alike v w = same_from_decides (pointwise eqb v w) (same v w) (bytes_eq-Decides v w) (same_decides v w)
 
-  both_parts : says line said ≡ (same (take space line) said || same (drop (space + 1) line) said)
+-- By its number, or else by what it is called.
+module _ (line said number label : List ℕ) (p : number ≡ take (index_of 32 line) line) (q : label ≡ drop (suc (index_of 32 line)) line) where
+  both_parts : says line said ≡ (pointwise eqb number said || pointwise eqb label said)
   unfolding says number_part label_part
-  both_parts = rw (at_space, add-one)
+  both_parts = rw (alike number said, alike label said, p, q)
 
-  module _ (r : Bool) (p : r ≡ same (take space line) said) where
-    pub says_number : r ≡ true → true ≡ says line said
-    says_number t = sym (both_parts ∙ rw (← p, t))
+  pub says_number : {r : Bool} → r ≡ pointwise eqb number said → r ≡ true → r ≡ says line said
+  says_number s t = t ∙ sym (both_parts ∙ rw (← s, t))
 
-    pub says_label : r ≡ false → {b : Bool} → b ≡ same (drop (space + 1) line) said → b ≡ says line said
-    says_label t g = g ∙ sym (both_parts ∙ rw (← p, t))
-
-    pub says_nothing : r ≡ false → length line ≤ space → eqb (length said) 0 ≡ says line said
-    says_nothing t h = let past : length line ≤ space + 1 = omega arith in no_bytes said ∙ sym (both_parts ∙ rw (← p, t, drop_of_length-le line past))
-      where
-        no_bytes : (bs : List ℕ) → eqb (length bs) 0 ≡ same [] bs
-        no_bytes [] = refl
-        no_bytes (b ∷ bs) = ne_eqb (length (b ∷ bs)) 0 (λ e. omega arith)
+  pub says_label : {r b : Bool} → r ≡ pointwise eqb number said → r ≡ false → b ≡ pointwise eqb label said → b ≡ says line said
+  says_label s t g = g ∙ sym (both_parts ∙ rw (← s, t))
 
 module _ (ls : List (List ℕ)) (l : List ℕ) (on : List (List ℕ)) (q : ls ≡ l ∷ on) where
-  pub found : (said : List ℕ) → says l said ≡ true → before_saying ls said ≡ 0
+  found : (said : List ℕ) → says l said ≡ true → before_saying ls said ≡ 0
   unfolding before_saying
   found said t = rw (q, t)
 
-  pub further : (said : List ℕ) → says l said ≡ false → before_saying ls said ≡ suc (before_saying on said)
+  further : (said : List ℕ) → says l said ≡ false → before_saying ls said ≡ suc (before_saying on said)
   unfolding before_saying
   further said t = rw (q, t)
 
-pub none_says : (ls : List (List ℕ)) (said : List ℕ) → ls ≡ [] → before_saying ls said ≡ 0
+-- Of the lines that are left, the first says it, or one after it may; and where none is left.
+module _ (left l others said : List ℕ) (h : false ≡ eqb (length left) 0) (p : l ≡ first (lines left)) (q : lines others ≡ rest (lines left)) where
+  pub seek_found : says l said ≡ true → before_saying (lines left) said ≡ 0
+  seek_found t = found (lines left) l (lines others) (lines_some left l others h p q) said t
+
+  pub seek_on : says l said ≡ false → before_saying (lines left) said ≡ suc (before_saying (lines others) said)
+  seek_on t = further (lines left) l (lines others) (lines_some left l others h p q) said t
+
+pub seek_done : (left said : List ℕ) → true ≡ eqb (length left) 0 → before_saying (lines left) said ≡ 0
 unfolding before_saying
-none_says ls said q = rw q
-
--- The lines that say it, one after the other.
-pub seek_found : (s said : List ℕ) (at end : ℕ) (r : Bool) → at < length s → LineEnds s at end
-    → r ≡ says (take (end - at) (drop at s)) said → r ≡ true → before_saying (lines (drop at s)) said ≡ 0
-seek_found s said at end r h q p t = found (lines (drop at s)) (take (end - at) (drop at s)) (lines (drop (end + 1) s)) (line_at s at end h q) said (sym p ∙ t)
-
-pub seek_on : (s said : List ℕ) (at end : ℕ) (r : Bool) → at < length s → LineEnds s at end
-    → r ≡ says (take (end - at) (drop at s)) said → r ≡ false → before_saying (lines (drop at s)) said ≡ suc (before_saying (lines (drop (end + 1) s)) said)
-seek_on s said at end r h q p t = further (lines (drop at s)) (take (end - at) (drop at s)) (lines (drop (end + 1) s)) (line_at s at end h q) said (sym p ∙ t)
-
-pub seek_done : (s said : List ℕ) (at : ℕ) → length s ≤ at → before_saying (lines (drop at s)) said ≡ 0
-seek_done s said at h = none_says (lines (drop at s)) said (none_at s at h)
+seek_done left said h = rw (lines_empty left h)

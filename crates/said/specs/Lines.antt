@@ -1,5 +1,5 @@
 -- The lines of some bytes. Document 01: "Each line ends with byte 10."
-use Rattle.std.specs.Prelude.{◌≡◌, cond, List, [], ◌∷◌, ℕ, ◌+◌, ◌-◌, ◌≤◌, eqb, length, take, drop}
+use Rattle.std.specs.Prelude.{cond, List, [], ◌∷◌, ℕ, eqb}
 
 -- A byte before the first of some lines.
 abbrev pub onto : ℕ → List (List ℕ) → List (List ℕ)
@@ -24,10 +24,3 @@ rest (l ∷ ls) = ls
 -- The lines of a listing's events: "First line: events and node copies. Then number, name, and values".
 unfoldable pub event_lines : List ℕ → List (List ℕ)
 event_lines listing = rest (lines listing)
-
--- Of the lines from a place on, the first ends here, and the others start after the byte at its end.
-pub record LineEnds (s : List ℕ) (at end : ℕ) : Type 0 where
-  pub starts : at ≤ end
-  pub within : end - at ≤ length s - at
-  pub its_bytes : take (end - at) (drop at s) ≡ first (lines (drop at s))
-  pub after_it : lines (drop (end + 1) s) ≡ rest (lines (drop at s))

@@ -1,61 +1,58 @@
 #![tactic(auto)]
 // Which event of a drawing is said, by its listing.
-ghost use Rattle.std.specs.Prelude.{◌≡◌, ◌+◌, drop};
+ghost use Rattle.std.specs.Prelude.{◌≡◌, ◌==◌, suc, ◌-◌, ◌≤◌, length, take, drop};
+ghost use Rattle.std.specs.List.{position};
 ghost use Rattle.said.specs.Search.{index_of};
-ghost use Rattle.said.specs.Lines.{LineEnds};
+ghost use Rattle.said.specs.Lines.{lines, first, rest};
 ghost use Rattle.said.specs.Said.{says as says_of, event_said};
 
-// Where the first byte b from `at` on stands; past the last byte where there is none.
-fn find(bytes: &[u8], at: usize, b: u8) -> usize
-    ensures { result ≡ at + index_of b (drop at bytes.now) }
+// Where the first byte b stands.
+fn find(bytes: &[u8], b: u8) -> Option<usize>
+    ensures { result ≡ position (λ x. x == b) bytes.now }
 {
-    let mut i = at;
-    while i < bytes.len() {
-        if bytes[i] == b {
-            return i;
-        }
-        i += 1;
-    }
-    i
+    bytes.iter().position(|x| *x == b)
 }
 
-// Where the line that starts at `at` ends: at its byte 10, or with the last byte; past that it is empty.
-pub fn line_end(listing: &[u8], at: usize) -> usize
-    ensures { LineEnds listing.now at result }
+// What stands before the first byte b, and what after it.
+fn parted(bytes: &[u8], b: u8) -> (&[u8], &[u8])
+    ensures before { result.0.now ≡ take (index_of b bytes.now) bytes.now }
+    ensures after { result.1.now ≡ drop (suc (index_of b bytes.now)) bytes.now }
 {
-    if listing.len() <= at {
-        return at;
+    match find(bytes, b) {
+        Some(i) => (&bytes[..i], &bytes[i + 1..]),
+        None => (bytes, &[]),
     }
-    find(listing, at, 10)
+}
+
+// The first of some lines, and the lines after it.
+pub fn first_line(bytes: &[u8]) -> (&[u8], &[u8])
+    ensures line { result.0.now ≡ first (lines bytes.now) }
+    ensures others { lines result.1.now ≡ rest (lines bytes.now) }
+    ensures fewer { length result.1.now ≤ length bytes.now - 1 }
+{
+    parted(bytes, b'\n')
 }
 
 // Whether the line of an event says it: its number, or all that stands after the number and a space.
 fn says(line: &[u8], said: &[u8]) -> bool
     ensures { result ≡ says_of line.now said.now }
 {
-    let space = find(line, 0, 32);
-    if base::equal(&line[..space], said) {
-        return true;
-    }
-    if space < line.len() {
-        let from = space + 1;
-        return base::equal(&line[from..], said);
-    }
-    said.len() == 0
+    let (number, label) = parted(line, b' ');
+    number == said || label == said
 }
 
 // The number of the event that is said; past the last event where there is none.
 pub fn event(listing: &[u8], said: &[u8]) -> usize
     ensures { result ≡ event_said listing.now said.now }
 {
-    let mut at = line_end(listing, 0) + 1;
+    let (_, mut left) = first_line(listing);
     let mut e = 0;
-    while at < listing.len() {
-        let end = line_end(listing, at);
-        if says(&listing[at..end], said) {
+    while !left.is_empty() {
+        let (line, others) = first_line(left);
+        if says(line, said) {
             return e;
         }
-        at = end + 1;
+        left = others;
         e += 1;
     }
     e
