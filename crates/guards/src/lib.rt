@@ -243,7 +243,7 @@ fn pop_two(parts: &mut ArrayVec<PartRows, 1024>) -> (PartRows, PartRows)
 
 // What the part of a code adds, event e if it is one; its own parts are taken from the stack.
 #[tactic(auto, unfolding(crate::specs::code::Passes::piece_of))]
-fn add(op: Code, e: u16, parts: &mut ArrayVec<PartRows, 1024>, table: &mut Table) -> Added
+fn add_part(op: Code, e: u16, parts: &mut ArrayVec<PartRows, 1024>, table: &mut Table) -> Added
     requires { table.old.next < 12000 }
     ensures made { Makes (latest_piece op table.old.next e (stacked parts.old.items)) table.old table.new result }
     ensures parts_after { stacked parts.new.items ≡ others op (stacked parts.old.items) }
@@ -289,7 +289,7 @@ fn first_pass(ops: &[Code], table: &mut Table, needs: &mut ArrayVec<Needs, 1024>
     let mut parts = ArrayVec::new();
     let mut e = 0;
     for op in ops {
-        let added = add(*op, e, &mut parts, table);
+        let added = add_part(*op, e, &mut parts, table);
         parts.push(added.part);
         needs.push(added.needs);
         e += event_count(*op);
@@ -373,6 +373,7 @@ fn both_passes(ops: &[Code], events: u16, out: &mut [u8]) -> usize
 
 // The table of a process in postfix order that has so many events, over the front of `out`; answers how many bytes it has. Where there is no room nothing is
 // written, and the answer is 0.
+#[tactic(auto, using(crate::proofs::RoomTested::plan_left))]
 pub fn write_table(ops: &[Code], events: usize, out: &mut [u8]) -> usize
     ensures { TableWritten ops.now events out.old result out.new }
 {

@@ -4,7 +4,7 @@ ghost use Rattle.std.specs.Prelude.{◌≡◌};
 ghost use Rattle.layout.specs.Fields.{event_record};
 ghost use Rattle.rows.specs.code.Words.{word as word_of};
 
-// A row: "whether control bit `left` is set", that a row says no, that two rows both say yes, that one of them does.
+// "A row: kind (2 bits), left (15), right (15)", by its kind, from 0 to 3.
 #[derive(Clone, Copy, Debug, PartialEq, Eq)]
 pub enum Row {
     Bit(u16),
@@ -29,7 +29,7 @@ impl Row {
     }
 }
 
-// An event record: the row that guards the event, and the run of control bits that it clears.
+// "An event record: guard row (14 bits), first cleared bit (9), cleared count (9)", packed like a row.
 pub fn record(guard: u16, first: u16, count: u16) -> usize
     ensures { result ≡ event_record guard first count }
 {

@@ -1,4 +1,4 @@
--- A row as a word: for the contracts of the code.
+-- A row as a word of 32 bits, as `layout` reads it: for the contracts of the code.
 use Rattle.std.specs.Prelude.{ℕ}
 use Rattle.layout.specs.Fields.{bit_row, not_row, both_row, either_row}
 use Rattle.rows.specs.declared.Row.{Row}
