@@ -1,266 +1,164 @@
-#![tactic(auto)]
+#![tactic(auto, using(output::proofs::Buffers::put_all_append), unfolding(output::specs::Buffer::put_all))]
 
-ghost use Rattle.std.specs.Prelude.{◌≡◌, ◌+◌, ◌<◌, length};
-ghost use Rattle.output.specs.Buffer.{buffer, put_all};
+ghost use Rattle.std.specs.Prelude.{◌≡◌};
+ghost use Rattle.output.specs.Writes.{Writes, written};
 ghost use Rattle.lines.specs.code.Written.{line_head, spaced_value, spaced_values, line_at};
-ghost use Rattle.lines.specs.code.Walks.{columns, stands, walk_stands, parts as parts_of, copies as copies_of, resets as resets_of, part as part_of, walked_listing};
+ghost use Rattle.lines.specs.code.Walks.{Walks, place, tell as told_so, flow_name as flow_name_of, parts as parts_of, copies as copies_of, part as part_of, walked_listing};
 
-use diagram::Diagram;
+use diagram::{Diagram, Kind, Node};
 use labels::Values;
+use nodes::Form;
+use output::Writer;
 
-// Where the walk over the nodes stands: the number of the next event, the next node, and how many bytes are written. In this order each is read by itself where
-// it is handed on; two that stand side by side are read as one, which has to wait until both are written.
+// Where the walk over the nodes stands: the number of the next event, and the next node.
 #[derive(Clone, Copy)]
 struct Walk {
     event: usize,
     node: usize,
-    at: usize,
 }
 
 // The number of an event, and `reset` for a reset, a space after each.
-fn head(out: &mut [u8], at: usize, e: usize, reset: bool) -> usize
-    ensures { buffer result out.new ≡ put_all (line_head e reset) (buffer at out.old) }
+#[tactic(auto, using(output::proofs::Buffers::put_all_append), unfolding(crate::specs::code::Written::line_head))]
+fn head(e: usize, reset: bool, w: &mut Writer)
+    ensures { Writes w.old w.new (line_head e reset) }
 {
-    let a = output::number(out, at, e);
+    w.number(e);
     if reset {
-        return output::bytes(out, a, b" reset ");
+        return w.bytes(b" reset ");
     }
-    output::bytes(out, a, b" ")
+    w.bytes(b" ")
 }
 
 // A value after a space, if it is there.
-fn value(out: &mut [u8], at: usize, there: bool, v: usize) -> usize
-    ensures { buffer result out.new ≡ put_all (spaced_value there v) (buffer at out.old) }
+fn value(there: bool, v: usize, w: &mut Writer)
+    ensures { Writes w.old w.new (spaced_value there v) }
 {
     if there {
-        let a = output::bytes(out, at, b" ");
-        return output::number(out, a, v);
+        w.bytes(b" ");
+        w.number(v);
     }
-    at
 }
 
-fn spaced(out: &mut [u8], at: usize, v: Values) -> usize
-    ensures { buffer result out.new ≡ put_all (spaced_values v) (buffer at out.old) }
+#[tactic(auto, using(output::proofs::Buffers::put_all_append), unfolding(crate::specs::code::Written::spaced_values))]
+fn spaced(v: Values, w: &mut Writer)
+    ensures { Writes w.old w.new (spaced_values v) }
 {
-    let a = value(out, at, 0 < v.count, v.first);
-    let b = value(out, a, 1 < v.count, v.second);
-    value(out, b, 2 < v.count, v.third)
+    value(0 < v.count, v.first, w);
+    value(1 < v.count, v.second, w);
+    value(2 < v.count, v.third, w);
 }
 
-// The line of event e.
-fn line(
-    text: &[u8],
-    out: &mut [u8; 32768],
-    at: usize,
-    e: usize,
-    reset: bool,
-    name: usize,
-    values: Values,
-) -> usize
-    ensures { buffer result out.new ≡ put_all (line_at text.now e reset name values) (buffer at out.old) }
+// The line of event e, whose name stands at a place of the text.
+fn line(text: &[u8], e: usize, reset: bool, name: usize, values: Values, w: &mut Writer)
+    ensures { Writes w.old w.new (line_at text.now e reset name values) }
 {
-    let a = head(out, at, e, reset);
-    let b = output::bytes(out, a, lexer::word(text, name));
-    let c = spaced(out, b, values);
-    output::bytes(out, c, b"\n")
+    head(e, reset, w);
+    w.bytes(lexer::word(text, name));
+    spaced(values, w);
+    w.bytes(b"\n");
 }
 
-// Is a node of this kind, over a member of that, a loop over a flow?
-fn resets(kind: u8, member: u8) -> bool
-    ensures { result ≡ resets_of kind member }
+// One line more, for the event with the next number.
+fn tell(text: &[u8], reset: bool, name: u16, values: Values, s: Walk, w: &mut Writer) -> Walk
+    ensures { Walks w.old w.new s result (λ p. place p.node (told_so text.now reset name values p.so_far)) }
 {
-    if kind == columns::LOOP {
-        return member != postfix::LEAF;
+    line(text, s.event, reset, usize::from(name), values, w);
+    Walk {
+        event: s.event % 1024 + 1,
+        node: s.node,
     }
-    false
+}
+
+// The place of the name of node i, a loop's member, if it is a flow.
+fn flow_name(nodes: &[Node], i: usize) -> Option<u16>
+    ensures { result ≡ flow_name_of nodes.now i }
+{
+    match nodes.get(i) {
+        Some(member) if !matches!(member.kind, Kind::Leaf) => Some(member.name),
+        _ => None,
+    }
 }
 
 // The node that the walk stands at, with those below it.
-#[cycle(copies_part_parts)]
-fn part<'a>(
-    text: &[u8],
-    kinds: &'a [u8; 256],
-    sizes: &'a [u8; 256],
-    depths: &'a [u16; 256],
-    names: &'a [u16; 256],
-    left: usize,
-    values: Values,
-    i: usize,
-    event: usize,
-    at: usize,
-    out: &mut [u8; 32768],
-) -> Walk
-    ensures { walk_stands result out.new ≡ part_of text.now left (columns kinds.now sizes.now depths.now names.now) values (stands i event at out.old) }
+#[cycle(walk)]
+fn part(text: &[u8], nodes: &[Node], left: usize, values: Values, s: Walk, w: &mut Writer) -> Walk
+    ensures { Walks w.old w.new s result (part_of text.now left nodes.now values) }
 {
-    let stays = Walk { node: i, event, at };
-    if left == 0 {
-        return stays;
+    if left == 0 || nodes.len() <= s.node {
+        return s;
     }
-    if 256 <= i {
-        return stays;
+    let node = nodes[s.node];
+    let inside = Walk {
+        event: s.event,
+        node: s.node + 1,
+    };
+    match Form::from(node.kind) {
+        Form::Leaf => tell(text, false, node.name, values, inside, w),
+        Form::Loop => {
+            let after = parts(text, nodes, left - 1, s.node, values, inside, w);
+            match flow_name(nodes, inside.node) {
+                Some(name) => tell(text, true, name, values, after, w),
+                None => after,
+            }
+        }
+        Form::Joined(_, None) => parts(text, nodes, left - 1, s.node, values, inside, w),
+        Form::Joined(_, Some(size)) => copies(text, nodes, left - 1, values, size, inside, w),
     }
-    let kind = base::byte(kinds, i);
-    if kind == postfix::LEAF {
-        let end = line(
-            text,
-            out,
-            at,
-            event,
-            false,
-            columns::number(names, i),
-            values,
-        );
-        return Walk {
-            node: i + 1,
-            event: event % 1024 + 1,
-            at: end,
-        };
-    }
-    let size = base::byte(sizes, i);
-    if size != 0 {
-        return copies(
-            text,
-            kinds,
-            sizes,
-            depths,
-            names,
-            left - 1,
-            i,
-            values,
-            base::wide(size),
-            event,
-            at,
-            out,
-        );
-    }
-    let t = parts(
-        text,
-        kinds,
-        sizes,
-        depths,
-        names,
-        left - 1,
-        i,
-        values,
-        event,
-        at,
-        out,
-    );
-    if resets(kind, base::byte(kinds, i + 1)) {
-        let end = line(
-            text,
-            out,
-            t.at,
-            t.event,
-            true,
-            columns::number(names, i + 1),
-            values,
-        );
-        return Walk {
-            node: t.node,
-            event: t.event % 1024 + 1,
-            at: end,
-        };
-    }
-    t
 }
 
 // The parts of node i, one after the other.
-#[cycle(copies_part_parts)]
-fn parts<'a>(
+#[cycle(walk)]
+fn parts(
     text: &[u8],
-    kinds: &'a [u8; 256],
-    sizes: &'a [u8; 256],
-    depths: &'a [u16; 256],
-    names: &'a [u16; 256],
+    nodes: &[Node],
     left: usize,
     i: usize,
     values: Values,
-    event: usize,
-    at: usize,
-    out: &mut [u8; 32768],
+    s: Walk,
+    w: &mut Writer,
 ) -> Walk
-    requires { i < 256 }
-    ensures { walk_stands result out.new ≡ parts_of (part_of text.now left (columns kinds.now sizes.now depths.now names.now) values) (columns kinds.now sizes.now depths.now names.now) i 255 (stands (i + 1) event at out.old) }
+    ensures { Walks w.old w.new s result (parts_of (part_of text.now left nodes.now values) nodes.now i 255) }
 {
-    let mut t = Walk {
-        node: i + 1,
-        event,
-        at,
-    };
-    let mut turn: usize = 0;
-    while turn < 255 {
-        if columns::number(depths, t.node) <= columns::number(depths, i) {
+    let mut t = s;
+    for _turn in 0..255u8 {
+        if nodes::depth(nodes, t.node) <= nodes::depth(nodes, i) {
             return t;
         }
-        t = part(
-            text, kinds, sizes, depths, names, left, values, t.node, t.event, t.at, out,
-        );
-        turn += 1;
+        t = part(text, nodes, left, values, t, w);
     }
     t
 }
 
-// The copies of what a replicator, node i, is over: one for each value.
-#[cycle(copies_part_parts)]
-fn copies<'a>(
+// The copies of what a replicator is over, the node that the walk stands at: one for each value.
+#[cycle(walk)]
+fn copies(
     text: &[u8],
-    kinds: &'a [u8; 256],
-    sizes: &'a [u8; 256],
-    depths: &'a [u16; 256],
-    names: &'a [u16; 256],
+    nodes: &[Node],
     left: usize,
-    i: usize,
     values: Values,
-    size: usize,
-    event: usize,
-    at: usize,
-    out: &mut [u8; 32768],
+    size: u8,
+    s: Walk,
+    w: &mut Writer,
 ) -> Walk
-    requires { i < 256 }
-    ensures { walk_stands result out.new ≡ copies_of (part_of text.now left (columns kinds.now sizes.now depths.now names.now)) i values 0 size (stands (i + 1) event at out.old) }
+    ensures { Walks w.old w.new s result (copies_of (part_of text.now left nodes.now) s.node values 0 size) }
 {
-    let mut t = Walk {
-        node: i + 1,
-        event,
-        at,
-    };
-    let mut value = 0;
-    while value < size {
-        let v = search::push(values, value);
-        t = part(
-            text,
-            kinds,
-            sizes,
-            depths,
-            names,
-            left,
-            v,
-            i + 1,
-            t.event,
-            t.at,
-            out,
-        );
-        value += 1;
+    let mut t = s;
+    for value in 0..size {
+        let again = Walk {
+            event: t.event,
+            node: s.node,
+        };
+        t = part(text, nodes, left, values.push(usize::from(value)), again, w);
     }
     t
 }
 
-// The listing of a drawing that is read, at the front of `out`; answers how many bytes there are.
-pub fn write(text: &[u8], d: Diagram, out: &mut [u8; 32768]) -> usize
-    ensures out_after { buffer result out.new ≡ walked_listing text.now d (buffer 0 out.old) }
-    ensures out_len { length out.old ≡ 32768 }
+// The listing of a drawing that is read.
+pub fn write(text: &[u8], d: &Diagram, w: &mut Writer)
+    ensures same { w.new.out.ghost_name ≡ w.old.out.ghost_name }
+    ensures listing { written w.new ≡ walked_listing text.now d.now (written w.old) }
 {
-    let at = output::numbers(out, 0, b"events ", d.events, b" copies ", d.copies);
-    let c = columns::columns(d);
-    let none = Values {
-        count: 0,
-        first: 0,
-        second: 0,
-        third: 0,
-    };
-    let w = part(
-        text, &c.kinds, &c.sizes, &c.depths, &c.names, 12, none, 0, 0, at, out,
-    );
-    w.at
+    w.numbers(b"events ", d.events, b" copies ", d.copies);
+    let start = Walk { event: 0, node: 0 };
+    part(text, nodes::counted(d), 12, Values::none(), start, w);
 }

@@ -42,7 +42,7 @@ leaf_form LeafForm = true
 leaf_form LoopForm = false
 leaf_form (Joined code copies) = false
 
--- Node i: its kind, its form and its depth; past the last there is a leaf of depth 0.
+-- Node i: its kind, its form, its depth and the place of its name; past the last there is a leaf of depth 0.
 abbrev pub kind_at : List Node → ℕ → Kind
 kind_at ns i = (get_or ns i blank_node).kind
 
@@ -51,3 +51,6 @@ form_at ns i = form_of (kind_at ns i)
 
 abbrev pub depth_at : List Node → ℕ → ℕ
 depth_at ns i = (get_or ns i blank_node).depth
+
+abbrev pub name_at : List Node → ℕ → ℕ
+name_at ns i = (get_or ns i blank_node).name

@@ -1,11 +1,13 @@
 -- `lines::line` meets its contract: its parts stand one after the other. Assumes nothing.
 use Rattle.lines.specs.code.Written.{line_at}
-use Rattle.output.proofs.Buffers.{before, same_put}
+use Rattle.output.proofs.Writes.{both}
 use Rattle.lines.proofs.line.Goals as goal
 
 pub returns : goal.returns
 unfolding line_at
 returns c =
-    before _ _ _ c.head-a.ensures
-    (before _ _ _ (same_put _ _ _ c.bytes-b.ensures c.word.ensures.its_word)
-    (before _ _ _ c.spaced-c.ensures c.bytes.ensures))
+    let a = c.args.w.now in
+    let whole = c.bytes-2.new.self in
+    both a c.head.new.w whole _ _ c.head.ensures
+    (both c.head.new.w c.bytes.new.self whole _ _ (rw c.word.ensures.its_word at c.bytes.ensures)
+    (both c.bytes.new.self c.spaced.new.w whole _ _ c.spaced.ensures c.bytes-2.ensures))
