@@ -1,6 +1,6 @@
 -- The event records of a table: what a sound one says.
-use mathlib.Core.Path.{◌≡◌, refl, ◌∙◌}
-use mathlib.Core.Bool.{Bool, true, ◌&&◌}
+use mathlib.Core.Path.{◌≡◌, refl, sym, ◌∙◌}
+use mathlib.Core.Bool.{true, false, ◌&&◌}
 use mathlib.Core.List.{List}
 use mathlib.Core.Logic.{inl, inr, ⊎_elim}
 use Prim.Native.Nat.{ℕ, ◌+◌, ◌<◌, ◌≤◌}
@@ -8,7 +8,7 @@ use native.Mathlib.Numerals.{add-one}
 use native.Mathlib.Omega.{arith}
 use lib.Dec.{ltb, eqb}
 use borrow.Author.Tests.{ltb-true, eq-eqb, ne_eqb, eqb-true, eqb-false}
-use Rattle.base.proofs.Truth.{cases, and_l, and_r}
+use Rattle.base.proofs.Truth.{cases, is_false, clash, and_l, and_r, and_i}
 use Rattle.layout.specs.Fields.{events, rows, event_word, guard_of, first_of, count_of}
 use Rattle.layout.specs.Sound.{event_sound, events_sound, sound, Run}
 use Rattle.base.proofs.Each.{each_below}
@@ -42,16 +42,19 @@ module _ (w m e : ℕ) (ok : event_sound w m e ≡ true) where
   pub run_below : first_of w + count_of w ≤ e
   run_below = ⊎_elim (λ q. omega arith) (λ q. omega arith) run_ends
 
--- One more record judged.
-pub events_more : (t : List ℕ) (m e w : ℕ) (ok this : Bool) → m ≡ rows t → w ≡ event_word t e → this ≡ event_sound w m e → ok ≡ events_sound t e
-    → (ok && this) ≡ events_sound t (e + 1)
-unfolding events_sound
-events_more t m e w ok this M W S O = rw (add-one e, O, S, W, M)
-
 -- Of the first n records, each is sound if all are; and so each of a sound table.
 events_each : (t : List ℕ) (n e : ℕ) → events_sound t n ≡ true → e < n → event_sound (event_word t e) (rows t) e ≡ true
 unfolding events_sound
 events_each t = each_below (events_sound t) (λ e. event_sound (event_word t e) (rows t) e) (λ k. refl)
+
+-- One more record judged: it is sound, or not all are.
+module _ (t : List ℕ) (m e w : ℕ) (M : m ≡ rows t) (W : w ≡ event_word t e) where
+  pub events_more : event_sound w m e ≡ true → events_sound t e ≡ true → events_sound t (e + 1) ≡ true
+  unfolding events_sound
+  events_more s a = rw add-one (and_i a (rw (W, M) at s))
+
+  pub events_stop : (n : ℕ) → e < n → event_sound w m e ≡ false → false ≡ events_sound t n
+  events_stop n h f = sym (is_false (events_sound t n) (λ a. clash (events_each t n e a h) (rw (W, M) at f)))
 
 module _ (t : List ℕ) (e : ℕ) (ok : sound t ≡ true) (h : e < events t) where
   pub sound_event : event_sound (event_word t e) (rows t) e ≡ true

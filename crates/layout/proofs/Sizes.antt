@@ -1,6 +1,6 @@
 -- What is known of a table once its size is looked at, and once it is sound.
 use mathlib.Core.Path.{◌≡◌}
-use mathlib.Core.Bool.{Bool, true, false, ◌&&◌}
+use mathlib.Core.Bool.{true}
 use mathlib.Core.List.{List}
 use Prim.Native.Nat.{ℕ, ◌+◌, ◌*◌, ◌≤◌}
 use lib.Dec.{leb}
@@ -36,15 +36,6 @@ module _ (t : List ℕ) where
   pub sized_holds : 1 ≤ events t → events t ≤ 512 → 1 ≤ rows t → rows t ≤ 12288 → length t ≡ 4 + 4 * events t + 4 * rows t → sized t ≡ true
   unfolding sized
   sized_holds a b c d e = and_i (le-leb _ _ a) (and_i (le-leb _ _ b) (and_i (le-leb _ _ c) (and_i (le-leb _ _ d) (eq-eqb _ _ e))))
-
-  -- Whether a table is sound, from what the functions answer.
-  pub unsized : sized t ≡ false → false ≡ sound t
-  unfolding sound
-  unsized s = rw s
-
-  pub judged : (a b : Bool) → sized t ≡ true → a ≡ events_sound t (events t) → b ≡ rows_sound t (rows t) → (a && b) ≡ sound t
-  unfolding sound
-  judged a b s p q = rw (s, p, q)
 
   module _ (ok : sound t ≡ true) where
     pub sound_shaped : Shaped t

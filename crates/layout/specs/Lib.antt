@@ -2,3 +2,4 @@ pub mod Fields
 pub mod Sound
 pub mod Values
 pub mod Worked
+pub mod code

@@ -1,10 +1,11 @@
 #![tactic(auto)]
 
-ghost use Rattle.std.specs.Prelude.{◌≡◌, true, ◌+◌, ◌*◌, ◌<◌, ◌≤◌, length, take};
+ghost use Rattle.std.specs.Prelude.{◌≡◌, ◌≢◌, true, false, ◌+◌, ◌*◌, ◌<◌, ◌≤◌, length, take, IfSome, IfNone};
 ghost use Rattle.base.specs.Packed.{field};
-ghost use Rattle.layout.specs.Fields.{events, rows};
+ghost use Rattle.layout.specs.Fields.{events as events_of, rows as rows_of, kind_of};
 ghost use Rattle.layout.specs.Sound.{sized, event_sound, row_sound, events_sound, rows_sound, sound};
 ghost use Rattle.layout.specs.Values.{row_value, values_of};
+ghost use Rattle.layout.specs.code.Kinds.{Numbered};
 
 // Where the fields stand in the 32 bits of an event record and of a row: dividing takes what stands below a field away, the remainder what
 // stands above it.
@@ -16,23 +17,32 @@ pub const KIND: usize = 1073741824;
 
 pub const SIDE: usize = 32768;
 
-// Whether the length fits the numbers of events and of rows, and these the limits.
-fn sized(t: &[u8]) -> bool
-    ensures { result ≡ sized t.now }
-{
-    let n = base::number::<2>(t, 0);
-    let m = base::number::<2>(t, 2);
-    (1 <= n) & ((n <= 512) & ((1 <= m) & ((m <= 12288) & (t.len() == 4 + 4 * n + 4 * m))))
+// The limits: of events and of rows.
+const EVENTS: usize = 512;
+
+pub const ROWS: usize = 12288;
+
+// What a row says: whether its control bit is set, that a row says no, that two rows both say yes, or that one of them does.
+#[derive(Clone, Copy, Debug, PartialEq, Eq)]
+enum Kind {
+    Bit,
+    Not,
+    Both,
+    Either,
 }
 
-// Word k of those that stand after E and R: event records, then rows. Read from a part of four bytes, so that the compiled code looks for no end.
-fn word(t: &[u8], k: usize) -> usize
-    requires { 8 + 4 * k ≤ length t.now }
-    ensures { result ≡ field 4 t.now (4 + 4 * k) }
-{
-    let at = 4 + 4 * k;
-    let end = at + 4;
-    base::number::<4>(&t[at..end], 0)
+impl Kind {
+    // Of a row, packed in a word.
+    fn of(w: usize) -> Self
+        ensures { Numbered result (kind_of w) }
+    {
+        match w / KIND {
+            0 => Kind::Bit,
+            1 => Kind::Not,
+            2 => Kind::Both,
+            _ => Kind::Either,
+        }
+    }
 }
 
 // Of event e's record, where there are m rows.
@@ -47,118 +57,136 @@ fn event_sound(w: usize, m: usize, e: usize) -> bool
 }
 
 // Of row i, where there are n events: left is below the one number, right below the other.
+#[tactic(auto, unfolding(crate::specs::Sound::row_sound))]
 fn row_sound(w: usize, n: usize, i: usize) -> bool
     ensures { result ≡ row_sound w n i }
 {
-    let kind = w / KIND;
     let left = w / SIDE % SIDE;
     let right = w % SIDE;
-    let a = if kind == 0 { n } else { i };
-    let b = if kind < 2 { 1 } else { i };
+    let kind = Kind::of(w);
+    let a = if kind == Kind::Bit { n } else { i };
+    let b = if kind == Kind::Bit || kind == Kind::Not {
+        1
+    } else {
+        i
+    };
     (left < a) & (right < b)
 }
 
-fn events_sound(t: &[u8]) -> bool
-    requires { sized t.now ≡ true }
-    ensures { result ≡ events_sound t.now (events t.now) }
-{
-    let n = base::number::<2>(t, 0);
-    let m = base::number::<2>(t, 2);
-    let mut ok = true;
-    let mut i = 0;
-    while i < n {
-        let w = word(t, i);
-        let this = event_sound(w, m, i);
-        ok = ok & this;
-        i += 1;
-    }
-    ok
-}
-
-fn rows_sound(t: &[u8]) -> bool
-    requires { sized t.now ≡ true }
-    ensures { result ≡ rows_sound t.now (rows t.now) }
-{
-    let n = base::number::<2>(t, 0);
-    let m = base::number::<2>(t, 2);
-    let mut ok = true;
-    let mut i = 0;
-    while i < m {
-        let w = word(t, n + i);
-        let this = row_sound(w, n, i);
-        ok = ok & this;
-        i += 1;
-    }
-    ok
-}
-
-// Whether a table is sound.
-pub fn sound(t: &[u8]) -> bool
-    ensures { result ≡ sound t.now }
-{
-    if !sized(t) {
-        return false;
-    }
-    let events = events_sound(t);
-    let rows = rows_sound(t);
-    events & rows
-}
-
 // The value of a sound row, from the control bits and the rows before it.
+#[tactic(auto, using(crate::proofs::Rows::left_below, crate::proofs::Rows::right_below), unfolding(crate::specs::Values::says))]
 fn row_value(w: usize, n: usize, i: usize, bits: &[u64; 8], values: &[bool]) -> bool
     requires { (row_sound w n i ≡ true) × (i < length values.now) }
     ensures { result ≡ row_value w bits.now values.now }
 {
-    let kind = w / KIND;
     let left = w / SIDE % SIDE;
     let right = w % SIDE;
-    if kind == 0 {
-        return record::bit(bits, left);
+    match Kind::of(w) {
+        Kind::Bit => record::bit(bits, left),
+        Kind::Not => !values[left],
+        Kind::Both => values[left] & values[right],
+        Kind::Either => values[left] | values[right],
     }
-    let x = values[left];
-    if kind == 1 {
-        return !x;
-    }
-    let y = values[right];
-    if kind == 2 {
-        return x & y;
-    }
-    x | y
 }
 
-// Whether all rows are sound; works out the rows up to the first that is not, lowest row first.
-fn rows_worked(t: &[u8], bits: &[u64; 8], values: &mut [bool]) -> bool
-    requires { (sized t.now ≡ true) × (length values.old ≡ 12288) }
-    ensures value { result ≡ rows_sound t.now (rows t.now) }
-    ensures values_after { result ≡ true → take (rows t.now) values.new ≡ values_of t.now bits.now }
-{
-    let n = base::number::<2>(t, 0);
-    let m = base::number::<2>(t, 2);
-    let mut ok = true;
-    let mut i = 0;
-    while i < m {
-        let w = word(t, n + i);
-        let this = row_sound(w, n, i);
-        ok = ok & this;
-        if ok {
-            let v = row_value(w, n, i, bits, values);
-            values[i] = v;
+// A table whose length fits its numbers of events and of rows, and these the limits.
+#[derive(Drop)]
+struct Table<'a> {
+    bytes: &'a [u8],
+    events: usize,
+    rows: usize,
+    ghost its_size: { sized bytes.now ≡ true },
+    ghost its_events: { events ≡ events_of bytes.now },
+    ghost its_rows: { rows ≡ rows_of bytes.now },
+    ghost its_length: { (length bytes.now ≡ 4 + 4 * events + 4 * rows) × (rows ≤ 12288) },
+}
+
+impl<'a> Table<'a> {
+    #[tactic(auto, unfolding(crate::specs::Sound::sized))]
+    fn of(bytes: &'a [u8]) -> Option<Self>
+        ensures some { IfSome result (λ t. t.bytes.now ≡ bytes.now) }
+        ensures none { IfNone result (sized bytes.now ≡ false) }
+    {
+        let events = base::number::<2>(bytes, 0);
+        let rows = base::number::<2>(bytes, 2);
+        let limited = (1..=EVENTS).contains(&events) && (1..=ROWS).contains(&rows);
+        if !limited || bytes.len() != 4 + 4 * events + 4 * rows {
+            return None;
         }
-        i += 1;
+        Some(Table {
+            bytes,
+            events,
+            rows,
+        })
     }
-    ok
+
+    // Word k of those that stand after E and R: event records, then rows. Read from a part of four bytes, so that the compiled code looks for no end.
+    fn word(&self, k: usize) -> usize
+        requires { k < self.now.events + self.now.rows }
+        ensures { result ≡ field 4 self.now.bytes.now (4 + 4 * k) }
+    {
+        let at = 4 + 4 * k;
+        base::number::<4>(&self.bytes[at..at + 4], 0)
+    }
+
+    fn events_sound(&self) -> bool
+        ensures { result ≡ events_sound self.now.bytes.now (events_of self.now.bytes.now) }
+    {
+        for e in 0..self.events {
+            if !event_sound(self.word(e), self.rows, e) {
+                return false;
+            }
+        }
+        true
+    }
+
+    fn rows_sound(&self) -> bool
+        ensures { result ≡ rows_sound self.now.bytes.now (rows_of self.now.bytes.now) }
+    {
+        for i in 0..self.rows {
+            if !row_sound(self.word(self.events + i), self.events, i) {
+                return false;
+            }
+        }
+        true
+    }
+
+    // Whether all rows are sound; works out the rows up to the first that is not, lowest row first.
+    fn rows_worked(&self, bits: &[u64; 8], values: &mut [bool; ROWS]) -> bool
+        ensures value { result ≡ rows_sound self.now.bytes.now (rows_of self.now.bytes.now) }
+        ensures values_after { result ≡ true → take (rows_of self.now.bytes.now) values.new ≡ values_of self.now.bytes.now bits.now }
+    {
+        for i in 0..self.rows {
+            let w = self.word(self.events + i);
+            if !row_sound(w, self.events, i) {
+                return false;
+            }
+            let value = row_value(w, self.events, i, bits, values);
+            values[i] = value;
+        }
+        true
+    }
+}
+
+// Whether a table is sound.
+#[tactic(auto, unfolding(crate::specs::Sound::sound))]
+pub fn sound(t: &[u8]) -> bool
+    ensures { result ≡ sound t.now }
+{
+    let Some(table) = Table::of(t) else {
+        return false;
+    };
+    table.events_sound() && table.rows_sound()
 }
 
 // Whether a table is sound; where it is, `values` has what every row says.
-pub fn work_out(t: &[u8], bits: &[u64; 8], values: &mut [bool; 12288]) -> bool
+#[tactic(auto, unfolding(crate::specs::Sound::sound))]
+pub fn work_out(t: &[u8], bits: &[u64; 8], values: &mut [bool; ROWS]) -> bool
     ensures value { result ≡ sound t.now }
-    ensures values_after { result ≡ true → take (rows t.now) values.new ≡ values_of t.now bits.now }
+    ensures values_after { result ≡ true → take (rows_of t.now) values.new ≡ values_of t.now bits.now }
 {
-    if !sized(t) {
+    let Some(table) = Table::of(t) else {
         return false;
-    }
-    if !events_sound(t) {
-        return false;
-    }
-    rows_worked(t, bits, values)
+    };
+    table.events_sound() && table.rows_worked(bits, values)
 }

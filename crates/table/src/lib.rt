@@ -29,7 +29,7 @@ pub fn check(table: &[u8]) -> Result<(), Refusal>
 
 // What every call but `check` looks at first, numbers 12 and 13; where there is neither, `values` has what every row says.
 #[tactic(auto, unfolding(crate::specs::Steps::admit_of))]
-fn admit(t: &[u8], bits: [u64; 8], values: &mut [bool; 12288]) -> Result<(), Refusal>
+fn admit(t: &[u8], bits: [u64; 8], values: &mut [bool; layout::ROWS]) -> Result<(), Refusal>
     ensures value { result ≡ admit_of t.now bits }
     ensures values_after { OnOk result (take (rows t.now) values.new ≡ values_of t.now bits) }
 {
@@ -46,7 +46,7 @@ fn admit(t: &[u8], bits: [u64; 8], values: &mut [bool; 12288]) -> Result<(), Ref
 fn allowed(table: &[u8], bits: [u64; 8], event: u64) -> Result<usize, Refusal>
     ensures { result ≡ allowed_of table.now bits event }
 {
-    let mut values = [false; 12288];
+    let mut values = [false; layout::ROWS];
     admit(table, bits, &mut values)?;
     let e = event as usize;
     if base::number::<2>(table, 0) <= e {
@@ -85,14 +85,14 @@ pub fn step(table: &[u8], before: Record, event: u64) -> Stepped
 pub fn finished(table: &[u8], before: Record) -> Result<bool, Refusal>
     ensures { result ≡ finished_of table.now before }
 {
-    let mut values = [false; 12288];
+    let mut values = [false; layout::ROWS];
     admit(table, before.bits, &mut values)?;
     let last = base::number::<2>(table, 2) - 1;
     Ok(values[last])
 }
 
 // The bits of the events that a step would take, from a sound table and its rows' values.
-fn gather(t: &[u8], values: &[bool; 12288]) -> [u64; 8]
+fn gather(t: &[u8], values: &[bool; layout::ROWS]) -> [u64; 8]
     requires { sound t.now ≡ true }
     ensures { result ≡ offered t.now (take (rows t.now) values.now) (events t.now) }
 {
@@ -117,7 +117,7 @@ pub fn offer(table: &[u8], before: Record, out: &mut [u8]) -> Result<(), Refusal
     if out.len() < 64 {
         return Err(Reason::Buffer.at(0));
     }
-    let mut values = [false; 12288];
+    let mut values = [false; layout::ROWS];
     admit(table, before.bits, &mut values)?;
     record::store(out, gather(table, &values));
     Ok(())
