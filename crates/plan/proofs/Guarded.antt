@@ -1,10 +1,11 @@
 -- The table that the plan of a process makes says what the process says.
-use mathlib.Core.Path.{◌≡◌, refl, sym, ap, subst, ◌∙◌}
-use mathlib.Core.Bool.{Bool, true, false, ◌&&◌, ◌||◌, or-not_self}
+use mathlib.Core.Path.{◌≡◌, sym, ap, subst, ◌∙◌}
+use mathlib.Core.Bool.{Bool, true, ◌&&◌, ◌||◌, or-not_self}
 use mathlib.Core.List.{[], ◌∷◌, ◌++◌}
 use Prim.Native.Nat.{ℕ, ◌+◌, ◌-◌, ◌*◌, ◌≤◌, ◌<◌}
 use native.Mathlib.Nat.{zero-add}
 use native.Mathlib.Omega.{arith}
+use Rattle.std.proofs.Math.Bool.{and_self}
 use lib.ListN.{length, get_or, length-append}
 use Rattle.process.specs.Process.{Process}
 use Rattle.process.specs.Bits.{Bits, clears}
@@ -25,10 +26,6 @@ use Rattle.plan.proofs.RecordsKept.{Kept as KeptRecord, records_kept}
 use Rattle.plan.proofs.PlanTrue.{plan_true}
 use Rattle.plan.proofs.GuardsTrue.{guards_true}
 use Rattle.plan.proofs.Tabled.{Kept, agrees, head}
-
-and_same : (b : Bool) → (b && b) ≡ b
-and_same true = refl
-and_same false = refl
 
 module _ (p : Process) (n : ℕ) (numbered : Numbered p 0) (its_size : size p ≡ n) (few : n ≤ 512) (rows_few : length (rows_of p) ≤ 12288) where
   -- The four parts of the rows.
@@ -111,7 +108,7 @@ module _ (p : Process) (n : ℕ) (numbered : Numbered p 0) (its_size : size p �
         let b = (plan_below p 3 0 numbered (omega arith)).its_done in
         let r = (obeys_split s v (middle p) (guards_of p 3 (middle p) 2).words _ after_ups).1.0 in
         let z : length (rows_of p) - 1 ≡ middle p + length (guards_of p 3 (middle p) 2).words = omega (arith, total) in
-        ap v z ∙ (r ∙ (both_says s v (plan_of p 3).part.done (plan_of p 3).part.done (omega (arith, b, plan_few)) (omega (arith, b, plan_few)) ∙ (rw m.its_done (and_same (complete p s)))))
+        ap v z ∙ (r ∙ (both_says s v (plan_of p 3).part.done (plan_of p 3).part.done (omega (arith, b, plan_few)) (omega (arith, b, plan_few)) ∙ (rw m.its_done (and_self (complete p s)))))
 
   -- So the plan's bytes are a table that says what the process says, with so many rows.
   same : packed ((n * 65536 + length (rows_of p)) ∷ (records_of p ++ rows_of p)) ≡ planned p
