@@ -38,12 +38,12 @@ use Rattle.expansion.proofs.Joins.{Here, here, Walked, Joined, walked_to, joined
 use Rattle.expansion.proofs.Trees.{drop_both, child_past, member_past, member_first, child_first, children_first, members_first, member_some, child_some}
 
 -- A constructor of members, and a replicator: how their parts are joined.
-group_form : (y : Way) → form_of (group_kind y) ≡ JoinedForm (joint_code (joint y)) None
+pub group_form : (y : Way) → form_of (group_kind y) ≡ JoinedForm (joint_code (joint y)) None
 group_form all = refl
 group_form some = refl
 group_form one = refl
 
-replicator_form : (y : Way) (size : ℕ) → 1 ≤ size → form_of (replicator_kind y size) ≡ JoinedForm (joint_code (joint y)) (Some size)
+pub replicator_form : (y : Way) (size : ℕ) → 1 ≤ size → form_of (replicator_kind y size) ≡ JoinedForm (joint_code (joint y)) (Some size)
 replicator_form y zero h = let z : ⊥ = omega arith in absurd z
 replicator_form all (suc n) h = refl
 replicator_form some (suc n) h = refl
