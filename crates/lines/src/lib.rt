@@ -79,78 +79,73 @@ fn flow_name(nodes: &[Node], i: usize) -> Option<u16>
     }
 }
 
-// The node that the walk stands at, with those below it.
-#[cycle(walk)]
-fn part(text: &[u8], nodes: &[Node], left: usize, values: Values, s: Walk, w: &mut Writer) -> Walk
-    ensures { Walks w.old w.new s result (part_of text.now left nodes.now values) }
-{
-    if left == 0 || nodes.len() <= s.node {
-        return s;
-    }
-    let node = nodes[s.node];
-    let inside = Walk {
-        event: s.event,
-        node: s.node + 1,
-    };
-    match Form::from(node.kind) {
-        Form::Leaf => tell(text, false, node.name, values, inside, w),
-        Form::Loop => {
-            let after = parts(text, nodes, left - 1, s.node, values, inside, w);
-            match flow_name(nodes, inside.node) {
-                Some(name) => tell(text, true, name, values, after, w),
-                None => after,
-            }
-        }
-        Form::Joined(_, None) => parts(text, nodes, left - 1, s.node, values, inside, w),
-        Form::Joined(_, Some(size)) => copies(text, nodes, left - 1, values, size, inside, w),
-    }
+// A drawing that is read: its text and its nodes.
+#[derive(Clone, Copy)]
+struct Drawing<'a> {
+    text: &'a [u8],
+    nodes: &'a [Node],
 }
 
-// The parts of node i, one after the other.
-#[cycle(walk)]
-fn parts(
-    text: &[u8],
-    nodes: &[Node],
-    left: usize,
-    i: usize,
-    values: Values,
-    s: Walk,
-    w: &mut Writer,
-) -> Walk
-    ensures { Walks w.old w.new s result (parts_of (part_of text.now left nodes.now values) nodes.now i 255) }
-{
-    let mut t = s;
-    for _turn in 0..255u8 {
-        if nodes::depth(nodes, t.node) <= nodes::depth(nodes, i) {
-            return t;
+impl<'a> Drawing<'a> {
+    // The node that the walk stands at, with those below it.
+    #[cycle(walk)]
+    fn part(&self, left: usize, values: Values, s: Walk, w: &mut Writer) -> Walk
+        ensures { Walks w.old w.new s result (part_of self.now.text.now left self.now.nodes.now values) }
+    {
+        let nodes = self.nodes;
+        if left == 0 || nodes.len() <= s.node {
+            return s;
         }
-        t = part(text, nodes, left, values, t, w);
-    }
-    t
-}
-
-// The copies of what a replicator is over, the node that the walk stands at: one for each value.
-#[cycle(walk)]
-fn copies(
-    text: &[u8],
-    nodes: &[Node],
-    left: usize,
-    values: Values,
-    size: u8,
-    s: Walk,
-    w: &mut Writer,
-) -> Walk
-    ensures { Walks w.old w.new s result (copies_of (part_of text.now left nodes.now) s.node values 0 size) }
-{
-    let mut t = s;
-    for value in 0..size {
-        let again = Walk {
-            event: t.event,
-            node: s.node,
+        let node = nodes[s.node];
+        let inside = Walk {
+            event: s.event,
+            node: s.node + 1,
         };
-        t = part(text, nodes, left, values.push(usize::from(value)), again, w);
+        match Form::from(node.kind) {
+            Form::Leaf => tell(self.text, false, node.name, values, inside, w),
+            Form::Loop => {
+                let after = self.parts(left - 1, s.node, values, inside, w);
+                match flow_name(nodes, inside.node) {
+                    Some(name) => tell(self.text, true, name, values, after, w),
+                    None => after,
+                }
+            }
+            Form::Joined(_, None) => self.parts(left - 1, s.node, values, inside, w),
+            Form::Joined(_, Some(size)) => self.copies(left - 1, values, size, inside, w),
+        }
     }
-    t
+
+    // The parts of node i, one after the other.
+    #[cycle(walk)]
+    fn parts(&self, left: usize, i: usize, values: Values, s: Walk, w: &mut Writer) -> Walk
+        ensures { Walks w.old w.new s result (parts_of (part_of self.now.text.now left self.now.nodes.now values) self.now.nodes.now i 255) }
+    {
+        let nodes = self.nodes;
+        let mut t = s;
+        for _turn in 0..255u8 {
+            if nodes::depth(nodes, t.node) <= nodes::depth(nodes, i) {
+                return t;
+            }
+            t = self.part(left, values, t, w);
+        }
+        t
+    }
+
+    // The copies of what a replicator is over, the node that the walk stands at: one for each value.
+    #[cycle(walk)]
+    fn copies(&self, left: usize, values: Values, size: u8, s: Walk, w: &mut Writer) -> Walk
+        ensures { Walks w.old w.new s result (copies_of (part_of self.now.text.now left self.now.nodes.now) s.node values 0 size) }
+    {
+        let mut t = s;
+        for value in 0..size {
+            let again = Walk {
+                event: t.event,
+                node: s.node,
+            };
+            t = self.part(left, values.push(usize::from(value)), again, w);
+        }
+        t
+    }
 }
 
 // The listing of a drawing that is read.
@@ -159,6 +154,7 @@ pub fn write(text: &[u8], d: &Diagram, w: &mut Writer)
     ensures listing { written w.new ≡ walked_listing text.now d.now (written w.old) }
 {
     w.numbers(b"events ", d.events, b" copies ", d.copies);
+    let nodes = nodes::counted(d);
     let start = Walk { event: 0, node: 0 };
-    part(text, nodes::counted(d), 12, Values::none(), start, w);
+    Drawing { text, nodes }.part(12, Values::none(), start, w);
 }

@@ -6,4 +6,4 @@ use Rattle.lines.proofs.write.Goals as goal
 pub returns-clause-listing : goal.returns-clause-listing
 unfolding first_line
 returns-clause-listing c =
-    listing_written c.args.text.now c.args.d.now _ c.numbers.ensures.bytes c.counted.ensures.value (rw c.none.ensures at c.part.ensures.places)
+    listing_written c.args.text.now c.args.d.now _ c.numbers.ensures.bytes c.counted-nodes.ensures.value (rw c.none.ensures at c.part.ensures.places)

@@ -3,7 +3,7 @@
 use Rattle.std.proofs.Common.{◌≡◌, ◌+◌}
 use Rattle.lines.specs.code.Walks.{stands, part as part_of}
 use Rattle.lines.proofs.Steps.{PartsLeft, CopiesLeft}
-use Rattle.lines.proofs.+walk.Given as goal
+use Rattle.lines.proofs.Drawing.+walk.Given as goal
 
 abbrev pub decreases-copies : goal.decreases-copies
 decreases-copies l = l.left + l.left + 1
@@ -17,9 +17,9 @@ decreases-parts l = l.left + l.left + 1
 abbrev pub invariant-copies-loop-value : goal.invariant-copies-loop-value
 invariant-copies-loop-value l =
     (l.w.out.ghost_name ≡ l.initial.w.out.ghost_name)
-    × CopiesLeft (part_of l.text l.left l.nodes) l.s.node l.values l.size (stands l.s l.initial.w) l.value (stands l.t l.w)
+    × CopiesLeft (part_of l.self.text.now l.left l.self.nodes.now) l.s.node l.values l.size (stands l.s l.initial.w) l.value (stands l.t l.w)
 
 abbrev pub invariant-parts-loop-turn : goal.invariant-parts-loop-turn
 invariant-parts-loop-turn l =
     (l.w.out.ghost_name ≡ l.initial.w.out.ghost_name)
-    × PartsLeft (part_of l.text l.left l.nodes l.values) l.nodes l.i (stands l.initial.t l.initial.w) l._turn (stands l.t l.w)
+    × PartsLeft (part_of l.self.text.now l.left l.self.nodes.now l.values) l.self.nodes.now l.i (stands l.initial.t l.initial.w) l._turn (stands l.t l.w)

@@ -1,8 +1,8 @@
 -- The walks that call each other meet their contracts, by what a node is, and by whether there is one part or one value more. Assumes nothing.
 use Rattle.std.proofs.Common.{refl, sym, ◌∙◌}
 use Rattle.lines.proofs.Steps.{parts_left_begin, parts_left_none, parts_left_shallow, parts_left_next, copies_left_begin, copies_left_none, copies_left_next, part_none, part_past, part_leaf, part_copies, part_parts, part_reset, part_ends}
-use Rattle.lines.proofs.+walk.Goals as goal
-use Rattle.lines.proofs.+walk.Goals.{part-then-left-eq0-via-then-left-eq0, part-then-left-eq0-via-else-left-eq0+then-nodes-s}
+use Rattle.lines.proofs.Drawing.+walk.Goals as goal
+use Rattle.lines.proofs.Drawing.+walk.Goals.{part-then-left-eq0-via-then-left-eq0, part-then-left-eq0-via-else-left-eq0+then-nodes-s}
 
 pub copies-loop-value-init : goal.copies-loop-value-init
 copies-loop-value-init t c = (refl, copies_left_begin)
