@@ -15,7 +15,8 @@ use Rattle.diagram.specs.TreeNodes.{titled, has_name}
 use Rattle.tokens.specs.Words.{word_at}
 use Rattle.rules.specs.Kept.{unused, names_kept, fault}
 use Rattle.walked.specs.Rows.{past_word}
-use Rattle.names.specs.code.Told.{node, earlier, Told, found}
+use Rattle.std.specs.Prelude.{Some}
+use Rattle.names.specs.code.Told.{node, earlier, Told}
 use Rattle.names.specs.code.Marks.{mark_of, titled_at, title_at, unused_at, latest, Linked, Falling}
 use Rattle.names.proofs.Coded.{titled_coded, titled_named}
 use Rattle.names.proofs.Tables.{zeros}
@@ -149,8 +150,8 @@ module _ {text rows : List ℕ} {count i : ℕ} (t : Told text rows count) (h : 
   kept : names_kept (earlier t.hs i) (node t.hs i) (drop (i + 1) t.hs) ≡ unused_at text rows (title_at text rows i) i
   kept = rw (its_title t i h, e, its_name t i h e) (unused_told t (title_at text rows i) i (omega arith))
 
-  pub name_twice : b ≡ true → fault names_kept [] t.hs ≡ found t.hs (i + 1)
-  name_twice q = search_here r (omega (arith, t.many)) (kept ∙ not-true (unused_at text rows (title_at text rows i) i) (sym p ∙ q))
+  pub name_twice : b ≡ true → fault names_kept [] t.hs ≡ Some i
+  name_twice q = search_here r (omega (arith, t.many)) (t.row i h).number (kept ∙ not-true (unused_at text rows (title_at text rows i) i) (sym p ∙ q))
 
   pub name_next : b ≡ false → Searched names_kept t.hs (i + 1)
   name_next q = search_next r (omega (arith, t.many)) (kept ∙ not-false (unused_at text rows (title_at text rows i) i) (sym p ∙ q))

@@ -7,7 +7,7 @@ use native.Mathlib.Nat.{add-zero, zero-add}
 use native.Mathlib.Omega.{arith}
 use lib.Dec.{eqb}
 use lib.ListN.{length, get_or, drop}
-use borrow.Author.Tests.{eq-eqb, ne_eqb, eqb-true}
+use borrow.Author.Tests.{eq-eqb, ne_eqb, eqb-true, not-true, not-false}
 use Rattle.base.proofs.Decided.{all_same_decides}
 use Rattle.base.proofs.Truth.{and_l, and_r, agree}
 use Rattle.diagram.specs.Tree.{Name}
@@ -19,7 +19,9 @@ use Rattle.tokens.specs.Token.{closing, comma, Token, sign, name, named}
 use Rattle.grammar.specs.Tokens.{pars_tokens, bit}
 use Rattle.grammar.specs.Named.{all_named}
 use Rattle.walked.specs.Rows.{tokens_from, past_word, Listed}
-use Rattle.names.specs.code.Pars.{par_start, par_end, pars_at, Around}
+use Rattle.std.proofs.Common.{not, Option, Some, None}
+use Rattle.std.specs.Option.{is_some}
+use Rattle.names.specs.code.Pars.{par_start, pars_at, Around, ParNext}
 use Rattle.names.proofs.Fronts.{Front, inside, past_comma, name_word, name_letter, past_name, bit_digit}
 
 -- m pars around from the k-th on, outermost first.
@@ -48,12 +50,6 @@ equal_turned l m =
     agree (equal same (reverse l) (reverse m)) (equal same l m) (λ e.
     (all_same_decides l m).1 (sym (reverse-reverse l) ∙ ap reverse ((all_same_decides (reverse l) (reverse m)).0 e) ∙ reverse-reverse m)) (λ e.
     (all_same_decides (reverse l) (reverse m)).1 (ap reverse ((all_same_decides l m).0 e)))
-
--- The place past a par around, by the two numbers of its row.
-pub par_ended : {text rows pars : List ℕ} {n k : ℕ} {ns : List Name} → Around text rows pars n ns → k < n → {x y : ℕ} → x ≡ par_start rows pars k
-    → y ≡ par_end rows pars k
-    → (y ≡ past_word text x) × (y ≤ length text)
-par_ended {text} {rows} {pars} {n} {k} a l p q = let e = a.ended k l in (q ∙ e.0 ∙ rw p, rw q e.1)
 
 -- k pars are read and are the first k around; more are listed from p on.
 pub record Reading (text rows pars : List ℕ) (n : ℕ) (ps ns : List Name) (p k : ℕ) : Type 0 where
@@ -128,30 +124,31 @@ module _ {text rows pars : List ℕ} {n : ℕ} {ps ns : List Name} {p k : ℕ} (
       pub read_over : n ≤ k → false ≡ equal same (reverse ps) ns
       read_over l = let e : n - k ≡ 0 = omega arith in sym (s.is ∙ rw (more.1, e))
 
-      -- Its end is e if it is the one around.
-      module _ (l : k < n) {e x : ℕ} (X : x ≡ par_start rows pars k) (q : e ≡ cond (same (word_at text j) (word_at text x)) (past_word text j) 0) where
+      -- Whether it is the one around.
+      module _ (l : k < n) {x : ℕ} {b : Bool} (X : x ≡ par_start rows pars k) (q : b ≡ same (word_at text j) (word_at text x)) where
         one : n - k ≡ suc (n - (k + 1))
         one = omega arith
 
-        is_same : (b : Bool) → e ≡ cond b (past_word text j) 0 → (e ≡ 0 → ⊥) → (b ≡ true) × (e ≡ past_word text j)
-        is_same true w z = (refl, w)
-        is_same false w z = absurd (z w)
+        pub read_other : b ≡ false → false ≡ equal same (reverse ps) ns
+        read_other z = sym (s.is ∙ rw (more.1, one, ← X, ← q, z))
 
-        is_other : (b : Bool) → e ≡ cond b (past_word text j) 0 → e ≡ 0 → b ≡ false
-        is_other true w z = absurd (omega arith)
-        is_other false w z = refl
-
-        pub read_other : e ≡ 0 → false ≡ equal same (reverse ps) ns
-        read_other z = sym (s.is ∙ rw (more.1, one, ← X, is_other (same (word_at text j) (word_at text x)) q z))
-
-        pub read_next : (e ≡ 0 → ⊥) → Reading text rows pars n ps ns e (k + 1)
-        read_next z =
-            let y = is_same (same (word_at text j) (word_at text x)) q z in
+        pub read_next : {e : ℕ} → b ≡ true → e ≡ past_word text j → Reading text rows pars n ps ns e (k + 1)
+        read_next {e} z w =
             record {
               left = more.0;
               sw = s.sw;
               others = s.others;
               names = more.2;
-              tokens = rw y.1 more.3;
-              is = s.is ∙ ap (λ (ns : List Name). equal same ns (pars_on text rows pars k (n - k))) more.1 ∙ rw (one, ← X, y.0);
+              tokens = rw w more.3;
+              is = s.is ∙ ap (λ (ns : List Name). equal same ns (pars_on text rows pars k (n - k))) more.1 ∙ rw (one, ← X, ← q, z);
             }
+
+-- All are read: no more may come.
+pub ends_here : {text rows pars : List ℕ} {n : ℕ} {ps ns : List Name} {p k : ℕ} → Reading text rows pars n ps ns p k → k ≡ n → (r : Option ℕ) → ParNext text p r
+    → {b : Bool} → is_some r ≡ not b → b ≡ equal same (reverse ps) ns
+ends_here {text} {rows} {pars} {n} {ps} {ns} {p} {k} s e None q {b} z =
+    let t : b ≡ true = not-false b (sym z) in
+    t ∙ sym (eq-eqb k n e) ∙ read_end s refl refl refl (q (read_inside s refl)) (omega arith)
+ends_here {text} {rows} {pars} {n} {ps} {ns} {p} {k} s e (Some j) q {b} z =
+    let f : b ≡ false = not-true b (sym z) in
+    f ∙ read_over s refl q.1 refl q.2 (omega arith)

@@ -15,7 +15,7 @@ use Rattle.diagram.specs.TreeNodes.{TextNode, copying}
 use Rattle.rules.specs.Kept.{around}
 use Rattle.names.specs.code.Kinds.{copying_code}
 use Rattle.names.specs.code.Told.{node, earlier, last_depth, Told}
-use Rattle.names.specs.code.Pars.{Numbers, Around}
+use Rattle.names.specs.code.Pars.{Around}
 use Rattle.names.proofs.Coded.{copying_coded, copying_named}
 use Rattle.names.proofs.Tables.{zeros}
 use Rattle.names.proofs.Numbered.{last_more}
@@ -28,7 +28,6 @@ pub record Roomy (pars many : List ℕ) : Type 0 where
   pub places : length pars ≡ 4
   pub depths : length many ≡ 14
   pub each : (k : ℕ) → get_or many k 0 ≤ 4
-  pub numbers : Numbers pars
 
 pub roomy_start : Roomy (replicate 4 0) (replicate 14 0)
 roomy_start =
@@ -36,22 +35,16 @@ roomy_start =
       places = refl;
       depths = refl;
       each = λ k. let e = zeros 14 k in omega arith;
-      numbers = record { each = λ k. let e = zeros 4 k in omega arith };
     }
 
-pub roomy_next : {pars many : List ℕ} → Roomy pars many → (n x k v : ℕ) → n < 4 → x < 256 → k < 14 → v ≤ 4 → Roomy (set pars n x) (set many k v)
-roomy_next {pars} {many} s n x k v p q h l =
+pub roomy_next : {pars many : List ℕ} → Roomy pars many → (n x k v : ℕ) → k < 14 → v ≤ 4 → Roomy (set pars n x) (set many k v)
+roomy_next {pars} {many} s n x k v h l =
     record {
       places = simp length-set s.places;
       depths = simp length-set s.depths;
       each = λ j.
           by_cases (eqb j k) (λ e. rw (eqb-true j k e, get_or-set_same many k v 0 (rw s.depths h)) l) (λ e.
           rw (get_or-set_other many k j v 0 (eqb-false j k e)) (s.each j));
-      numbers = record {
-        each = λ j.
-            by_cases (eqb j n) (λ e. rw (eqb-true j n e, get_or-set_same pars n x 0 (rw s.places p)) q) (λ e.
-            rw (get_or-set_other pars n j x 0 (eqb-false j n e)) (s.numbers.each j));
-      };
     }
 
 -- A deeper node has those around it too.

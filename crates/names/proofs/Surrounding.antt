@@ -6,8 +6,8 @@ use Prim.Native.Nat.{ℕ, zero, suc, ◌+◌, ◌-◌, ◌*◌, ◌≤◌, ◌<�
 use native.Mathlib.Numerals.{add-one}
 use native.Mathlib.Omega.{arith}
 use lib.Dec.{ltb}
-use lib.ListN.{length, get_or, set}
-use lib.Seq.{get_or-set_same, get_or-set_other}
+use lib.ListN.{length, get_or, set, take}
+use lib.Seq.{get_or-take, length-take-le, get_or-set_same, get_or-set_other}
 use borrow.Author.Tests.{ltb-true, ltb-false}
 use Rattle.base.proofs.Truth.{by_cases}
 use Rattle.diagram.specs.Tree.{Name}
@@ -31,6 +31,12 @@ module _ (text rows pars : List ℕ) where
   pars_count zero = refl
   pars_count (suc n) = ap suc (pars_count n)
 
+  -- The first ones alone.
+  pub pars_take : (n m : ℕ) → m ≤ n → pars_at text rows (take n pars) m ≡ pars_at text rows pars m
+  unfolding pars_at
+  pars_take n zero h = refl
+  pars_take n (suc m) h = rw (get_or-take n pars m 0 (omega arith), pars_take n m (omega arith))
+
   -- Another one after them.
   pub pars_set : (k v n : ℕ) → n ≤ k → pars_at text rows (set pars k v) n ≡ pars_at text rows pars n
   unfolding pars_at
@@ -38,6 +44,11 @@ module _ (text rows pars : List ℕ) where
   pars_set k v (suc n) h = rw (get_or-set_other pars k n v 0 (λ e. omega arith), pars_set k v n (omega arith))
 
 module _ {text rows pars : List ℕ} {n : ℕ} {names : List Name} (s : Around text rows pars n names) where
+  pub around_take : n ≤ length pars → Around text rows (take n pars) (length (take n pars)) names
+  around_take h =
+      rw (length-take-le n pars h)
+      (record { is = s.is ∙ sym (pars_take text rows pars n n (omega arith)); ended = λ k l. rw (get_or-take n pars k 0 l) (s.ended k l) })
+
   pub around_set : (k x : ℕ) → n ≤ k → Around text rows (set pars k x) n names
   around_set k x h =
       record {

@@ -1,36 +1,264 @@
 #![tactic(auto)]
 
-ghost use Rattle.std.specs.Prelude.{◌≡◌, true, not, cond, List, [], reverse, ℕ, ◌+◌, ◌-◌, ◌*◌, ◌%◌, ◌≤◌, ◌<◌, length, get_or, drop};
+ghost use Rattle.std.specs.Prelude.{◌≡◌, true, not, List, [], ℕ, ◌+◌, ◌-◌, ◌*◌, ◌/◌, ◌%◌, ◌≤◌, ◌<◌, min, length, get_or, drop, reverse, IfSome};
+
 ghost use Rattle.diagram.specs.Tree.{Name};
 ghost use Rattle.diagram.specs.Names.{equal, same, new};
 ghost use Rattle.tokens.specs.Words.{word_at};
-ghost use Rattle.lexer.specs.Lexicon.{Lexicon};
-ghost use Rattle.rules.specs.Kept.{fault, names_kept, around, parameters_kept};
+ghost use Rattle.rules.specs.Kept.{fault, names_kept, around as around_node, parameters_kept};
 ghost use Rattle.walked.specs.Rows.{past_word, Listed};
-ghost use Rattle.names.specs.code.Kinds.{titled_code, copying_code};
-ghost use Rattle.names.specs.code.Told.{node, earlier, Told, found};
+ghost use Rattle.names.specs.code.Kinds.{flow_code, leaf_code, loop_code, titled_code, copying_code, solid_code};
+ghost use Rattle.names.specs.code.Told.{node, earlier, Told};
 ghost use Rattle.names.specs.code.Marks.{mark_of, titled_at, unused_at, latest, Linked, Falling};
-ghost use Rattle.names.specs.code.Pars.{pars_at, Numbers, Around};
+ghost use Rattle.names.specs.code.Pars.{pars_at, Around, ParNext};
 
-// A number of the row of the node i: 8 the place of its keyword, 9 its solid mark, 10 the place of its name or par, 11 its keyword, 12 its size,
-// 13 its depth, 14 its sw, 15 the place past its name or par.
-pub fn told(rows: &[u16; 2056], i: usize, k: usize) -> usize
-    requires { (i < 256) × (k < 16) }
-    ensures { (result ≡ get_or rows.now (i * 8 + k) 0) × (result < 65536) }
-{
-    base::wide_short(rows[i * 8 + k])
+use lexer::Lexer;
+
+// What the row of a node tells: the place of its keyword, its solid mark, the place of its name or par, its keyword, its size, its depth, its sw, the
+// place past its name or par.
+#[derive(Clone, Copy)]
+pub struct Row {
+    pub place: usize,
+    pub solid: usize,
+    pub name: usize,
+    pub keyword: usize,
+    pub size: usize,
+    pub depth: usize,
+    pub switch: usize,
+    pub past: usize,
 }
 
-// The depth of the node i, which is at most 12.
-pub fn depth(rows: &[u16; 2056], i: usize) -> usize
-    requires { i < 256 }
-    ensures { (result ≤ 12) × (get_or rows.now (i * 8 + 13) 0 ≤ 12 → result ≡ get_or rows.now (i * 8 + 13) 0) }
-{
-    let d = told(rows, i, 13);
-    if 12 < d {
-        return 12;
+impl Row {
+    pub fn is_flow(&self) -> bool
+        ensures { result ≡ flow_code self.now.keyword }
+    {
+        self.keyword == usize::from(lexer::FLOW)
     }
-    d
+
+    pub fn is_leaf(&self) -> bool
+        ensures { result ≡ leaf_code self.now.keyword }
+    {
+        self.keyword == usize::from(lexer::LEAF)
+    }
+
+    pub fn is_loop(&self) -> bool
+        ensures { result ≡ loop_code self.now.keyword }
+    {
+        self.keyword == usize::from(lexer::LOOP)
+    }
+
+    // A leaf or a flow, which have names that differ.
+    pub fn is_titled(&self) -> bool
+        ensures { result ≡ titled_code self.now.keyword }
+    {
+        self.is_flow() || self.is_leaf()
+    }
+
+    // A replicator: all, some or one.
+    pub fn is_replicator(&self) -> bool
+        ensures { result ≡ copying_code self.now.keyword }
+    {
+        (usize::from(lexer::ALL)..=usize::from(lexer::ONE)).contains(&self.keyword)
+    }
+
+    // "A leaf, flow, xor or one".
+    pub fn may_be_solid(&self) -> bool
+        ensures { result ≡ solid_code self.now.keyword }
+    {
+        self.is_titled()
+            || self.keyword == usize::from(lexer::XOR)
+            || self.keyword == usize::from(lexer::ONE)
+    }
+
+    // The depth, which is at most 12.
+    pub fn level(&self) -> usize
+        ensures { result ≡ min self.now.depth 12 }
+    {
+        self.depth.min(12)
+    }
+}
+
+// The nodes of a text, by the rows that the walk left.
+pub struct Nodes<'a> {
+    pub lexer: &'a Lexer<'a>,
+    pub rows: &'a [u16; 2056],
+    pub count: usize,
+    ghost few: { count ≤ 256 },
+    ghost whole: { length rows.now ≡ 2056 },
+}
+
+impl<'a> Nodes<'a> {
+    pub fn new(lexer: &'a Lexer<'a>, rows: &'a [u16; 2056], count: usize) -> Self
+        ensures text { result.lexer.now.text.now ≡ lexer.now.text.now }
+        ensures rows { result.rows.now ≡ rows.now }
+        ensures count { result.count ≡ min count 256 }
+    {
+        Nodes {
+            lexer,
+            rows,
+            count: count.min(256),
+        }
+    }
+
+    // A number of the row of the node i; 0 past the last row.
+    fn cell(&self, i: usize, column: usize) -> usize
+        requires { column < 8 }
+        ensures value { result ≡ get_or self.now.rows.now (i * 8 + (8 + column)) 0 }
+        ensures fits { result < 65536 }
+    {
+        if i < 256 {
+            usize::from(self.rows[i * 8 + (8 + column)])
+        } else {
+            0
+        }
+    }
+
+    // The row of the node i, all of 0 past the last one.
+    pub fn row(&self, i: usize) -> Row
+        ensures place { result.place ≡ get_or self.now.rows.now (i * 8 + 8) 0 }
+        ensures solid { result.solid ≡ get_or self.now.rows.now (i * 8 + 9) 0 }
+        ensures name { result.name ≡ get_or self.now.rows.now (i * 8 + 10) 0 }
+        ensures keyword { result.keyword ≡ get_or self.now.rows.now (i * 8 + 11) 0 }
+        ensures size { result.size ≡ get_or self.now.rows.now (i * 8 + 12) 0 }
+        ensures depth { result.depth ≡ get_or self.now.rows.now (i * 8 + 13) 0 }
+        ensures switch { result.switch ≡ get_or self.now.rows.now (i * 8 + 14) 0 }
+        ensures past { result.past ≡ get_or self.now.rows.now (i * 8 + 15) 0 }
+        ensures fits { (result.place < 65536) × (result.name < 65536) × (result.size < 65536) × (result.depth < 65536) × (result.past < 65536) }
+    {
+        Row {
+            place: self.cell(i, heads::PLACE),
+            solid: self.cell(i, heads::SOLID),
+            name: self.cell(i, heads::NAME),
+            keyword: self.cell(i, heads::KEYWORD),
+            size: self.cell(i, heads::SIZE),
+            depth: self.cell(i, heads::DEPTH),
+            switch: self.cell(i, heads::SWITCH),
+            past: self.cell(i, heads::PAST),
+        }
+    }
+
+    // Whether one of the nodes linked from a number on has the name that starts at `at`.
+    fn is_taken(&self, links: &[u16; 256], from: usize, at: usize) -> bool
+        requires { (from ≤ 256) × Falling links.now }
+        ensures { (i : ℕ) → Linked self.now.lexer.now.text.now self.now.rows.now links.now i → from ≡ latest self.now.lexer.now.text.now self.now.rows.now (mark_of (word_at self.now.lexer.now.text.now at)) i → result ≡ not (unused_at self.now.lexer.now.text.now self.now.rows.now (word_at self.now.lexer.now.text.now at) i) }
+    {
+        let mut j = from;
+        while 0 < j {
+            let k = j - 1;
+            if lexer::same(self.lexer.text, at, self.row(k).name) {
+                return true;
+            }
+            j = usize::from(links[k]);
+        }
+        false
+    }
+
+    // Number 7: the first leaf or flow that has the name of an earlier one. Nodes whose names have the same mark are linked.
+    pub fn twice(&self) -> Option<usize>
+        ensures within { IfSome result (λ i. (i < self.now.count) × (titled_at self.now.rows.now i ≡ true)) }
+        ensures value { (t : Told self.now.lexer.now.text.now self.now.rows.now self.now.count) → fault names_kept [] t.hs ≡ result }
+    {
+        let mut heads = [0u16; 512];
+        let mut links = [0u16; 256];
+        for i in 0..self.count {
+            let row = self.row(i);
+            if row.is_titled() {
+                let s = mark(self.lexer.text, row.name, row.past);
+                let last = heads[s];
+                if self.is_taken(&links, usize::from(last), row.name) {
+                    return Some(i);
+                }
+                links[i] = last;
+                heads[s] = (i + 1) as u16;
+            }
+        }
+        None
+    }
+
+    // Whether the par that starts at `at` is none of those around.
+    fn is_fresh(&self, around: &[usize], at: usize) -> bool
+        ensures { result ≡ new (word_at self.now.lexer.now.text.now at) (pars_at self.now.lexer.now.text.now self.now.rows.now around.now (length around.now)) }
+    {
+        for k in (0..around.len()).rev() {
+            if lexer::same(self.lexer.text, at, self.row(around[k]).name) {
+                return false;
+            }
+        }
+        true
+    }
+
+    // The place of the par that comes next in a list, after a comma; where there is none the sw comes next.
+    fn next_par(&self, at: usize) -> Option<usize>
+        ensures { ParNext self.now.lexer.now.text.now at result }
+    {
+        let comma = self.lexer.gap(at);
+        if self.lexer.text.len() <= comma {
+            return None;
+        }
+        let par = self.lexer.gap(comma + 1);
+        if self.lexer.class(base::at(self.lexer.text, par, 0)) == lexer::LETTER {
+            Some(par)
+        } else {
+            None
+        }
+    }
+
+    // Whether the flow whose name ends at `past` lists the pars around, outermost first.
+    fn is_listed(&self, around: &[usize], past: usize) -> bool
+        ensures { (at : ℕ) (ps ns : List Name) → past ≡ past_word self.now.lexer.now.text.now at → Listed self.now.lexer.now.text.now at ps → Around self.now.lexer.now.text.now self.now.rows.now around.now (length around.now) ns → result ≡ equal same (reverse ps) ns }
+    {
+        let text = self.lexer.text;
+        let mut at = past;
+        for k in around {
+            let Some(par) = self.next_par(at) else {
+                return false;
+            };
+            let word = lexer::word(text, par);
+            if word != lexer::word(text, self.row(*k).name) {
+                return false;
+            }
+            at = par + word.len();
+        }
+        self.next_par(at).is_none()
+    }
+
+    // Rule 8 of the node i, by the replicators around it.
+    fn keeps_parameters(&self, i: usize, around: &[usize]) -> bool
+        ensures few { result ≡ true → length around.now ≤ 3 }
+        ensures value { (t : Told self.now.lexer.now.text.now self.now.rows.now self.now.count) → i < self.now.count → Around self.now.lexer.now.text.now self.now.rows.now around.now (length around.now) (around_node (node t.hs i).depth (earlier t.hs i)) → result ≡ parameters_kept (earlier t.hs i) (node t.hs i) (drop (i + 1) t.hs) }
+    {
+        if 3 < around.len() {
+            return false;
+        }
+        let row = self.row(i);
+        if row.is_flow() {
+            return self.is_listed(around, row.past);
+        }
+        if row.is_replicator() {
+            return self.is_fresh(around, row.name);
+        }
+        true
+    }
+
+    // Number 8: the first node that breaks the rule. The replicators around are kept by their numbers, outermost first, and how many there are by depth.
+    pub fn unlisted(&self) -> Option<usize>
+        ensures within { IfSome result (λ i. i < self.now.count) }
+        ensures value { (t : Told self.now.lexer.now.text.now self.now.rows.now self.now.count) → fault parameters_kept [] t.hs ≡ result }
+    {
+        let mut pars = [0usize; 4];
+        let mut many = [0usize; 14];
+        for i in 0..self.count {
+            let row = self.row(i);
+            let depth = row.level();
+            let n = many[depth];
+            if !self.keeps_parameters(i, &pars[..n]) {
+                return Some(i);
+            }
+            pars[n] = i;
+            many[depth + 1] = n + usize::from(row.is_replicator());
+        }
+        None
+    }
 }
 
 // Of the n bytes from `at` on the one that stands k before their end, or the first.
@@ -38,248 +266,23 @@ fn from_end(text: &[u8], at: usize, n: usize, k: usize) -> usize
     requires { (at + n ≤ length text.now) × (0 < n) × (0 < k) }
     ensures { (result ≡ get_or text.now (at + (n - k)) 0) × (result < 256) }
 {
-    if n < k {
-        return base::wide(text[at]);
-    }
-    base::wide(text[at + (n - k)])
+    usize::from(text[at + n.saturating_sub(k)])
 }
 
-// A mark of five bytes and a length, below 512.
-fn mixed(first: usize, middle: usize, a: usize, b: usize, c: usize, n: usize) -> usize
-    requires { (first < 256) × (middle < 256) × (a < 256) × (b < 256) × (c < 256) × (n < 65536) }
-    ensures { (result ≡ (first * 101 + middle * 3 + (a + b * 11 + c * 121) + n) % 512) × (result < 512) }
-{
-    (first * 101 + middle * 3 + (a + b * 11 + c * 121) + n) % 512
-}
-
-// The mark of the name that starts at a place, by the place past it.
+// The mark of the name that starts at a place, by the place past it: a few of its bytes and its length, below 512.
 fn mark(text: &[u8], at: usize, end: usize) -> usize
     requires { end < 65536 }
     ensures upper_bound { result < 512 }
     ensures value { end ≡ past_word text.now at → result ≡ mark_of (word_at text.now at) }
 {
-    if end <= at {
-        return 0;
-    }
-    if text.len() < end {
+    if end <= at || text.len() < end {
         return 0;
     }
     let n = end - at;
-    let a = from_end(text, at, n, 1);
-    let b = from_end(text, at, n, 2);
-    let c = from_end(text, at, n, 3);
-    mixed(
-        base::wide(text[at]),
-        base::wide(text[at + n / 2]),
-        a,
-        b,
-        c,
-        n,
-    )
-}
-
-// Whether one of the nodes linked from a number on has the name that starts at `at`.
-fn taken(text: &[u8], rows: &[u16; 2056], links: &[u16; 256], from: usize, at: usize) -> bool
-    requires { (from ≤ 256) × Falling links.now }
-    ensures { (i : ℕ) → Linked text.now rows.now links.now i → from ≡ latest text.now rows.now (mark_of (word_at text.now at)) i → result ≡ not (unused_at text.now rows.now (word_at text.now at) i) }
-{
-    let mut j = from;
-    while 0 < j {
-        let k = j - 1;
-        if lexer::same(text, at, told(rows, k, 10)) {
-            return true;
-        }
-        j = base::wide_short(links[k]);
-    }
-    false
-}
-
-// Whether this is the keyword of a leaf or a flow.
-fn titled(c: usize) -> bool
-    ensures { result ≡ titled_code c }
-{
-    if c == 7 {
-        return true;
-    }
-    c == 8
-}
-
-// Number 7: one more than the number of the first leaf or flow that has the name of an earlier one, and 0 where there is none. Nodes whose names have
-// the same mark are linked.
-pub fn names(text: &[u8], rows: &[u16; 2056], count: usize) -> usize
-    requires { count ≤ 256 }
-    ensures upper_bound { result ≤ count }
-    ensures result_value { 0 < result → titled_at rows.now (result - 1) ≡ true }
-    ensures hs_value { (t : Told text.now rows.now count) → fault names_kept [] t.hs ≡ found t.hs result }
-{
-    let mut heads = [0u16; 512];
-    let mut links = [0u16; 256];
-    let mut i = 0;
-    while i < count {
-        let k = i;
-        i += 1;
-        if titled(told(rows, k, 11)) {
-            let at = told(rows, k, 10);
-            let s = mark(text, at, told(rows, k, 15));
-            let last = heads[s];
-            if taken(text, rows, &links, base::wide_short(last), at) {
-                return i;
-            }
-            links[k] = last;
-            heads[s] = i as u16;
-        }
-    }
-    0
-}
-
-// Whether the par that starts at `at` is none of the first n of those around.
-fn fresh(text: &[u8], rows: &[u16; 2056], pars: &[usize; 4], n: usize, at: usize) -> bool
-    requires { (n ≤ 4) × Numbers pars.now }
-    ensures { result ≡ new (word_at text.now at) (pars_at text.now rows.now pars.now n) }
-{
-    let mut k = n;
-    while 0 < k {
-        k -= 1;
-        if lexer::same(text, at, told(rows, pars[k], 10)) {
-            return false;
-        }
-    }
-    true
-}
-
-// The end of the word that starts at `a`, if it is the one from `b` up to `end`; else 0.
-fn again(text: &[u8], a: usize, b: usize, end: usize, lexicon: &[u8; 400]) -> usize
-    requires { (a ≤ length text.now) × Lexicon lexicon.now }
-    ensures { end ≡ past_word text.now b → end ≤ length text.now → result ≡ cond (same (word_at text.now a) (word_at text.now b)) (past_word text.now a) 0 }
-{
-    if text.len() < end {
-        return 0;
-    }
-    if end < b {
-        return 0;
-    }
-    if text.len() - a < end - b {
-        return 0;
-    }
-    let mut p = a;
-    let mut q = b;
-    while q < end {
-        if text[p] != text[q] {
-            return 0;
-        }
-        p += 1;
-        q += 1;
-    }
-    let c = lexer::class(base::byte(text, p), lexicon);
-    if c < 5 {
-        return p;
-    }
-    if 7 < c {
-        return p;
-    }
-    0
-}
-
-// Whether the flow whose name ends at `past` lists the first n pars around, outermost first.
-fn listed(
-    text: &[u8],
-    rows: &[u16; 2056],
-    pars: &[usize; 4],
-    n: usize,
-    past: usize,
-    lexicon: &[u8; 400],
-) -> bool
-    requires { (n ≤ 4) × Numbers pars.now × Lexicon lexicon.now }
-    ensures { (at : ℕ) (ps ns : List Name) → past ≡ past_word text.now at → Listed text.now at ps → Around text.now rows.now pars.now n ns → result ≡ equal same (reverse ps) ns }
-{
-    let mut k = 0;
-    let mut p = past;
-    loop {
-        let comma = lexer::gap(text, p, lexicon);
-        if text.len() <= comma {
-            return false;
-        }
-        let par = lexer::gap(text, comma + 1, lexicon);
-        if lexer::class(base::byte(text, par), lexicon) != 5 {
-            return k == n;
-        }
-        if n <= k {
-            return false;
-        }
-        let i = pars[k];
-        p = again(text, par, told(rows, i, 10), told(rows, i, 15), lexicon);
-        if p == 0 {
-            return false;
-        }
-        k += 1;
-    }
-}
-
-// Rule 8 of the node i, around which are the first n pars.
-fn kept(
-    text: &[u8],
-    rows: &[u16; 2056],
-    i: usize,
-    pars: &[usize; 4],
-    n: usize,
-    lexicon: &[u8; 400],
-) -> bool
-    requires { (i < 256) × (n ≤ 4) × Numbers pars.now × Lexicon lexicon.now }
-    ensures n_bound { result ≡ true → n ≤ 3 }
-    ensures by_index { (count : ℕ) (t : Told text.now rows.now count) → i < count → Around text.now rows.now pars.now n (around (node t.hs i).depth (earlier t.hs i)) → result ≡ parameters_kept (earlier t.hs i) (node t.hs i) (drop (i + 1) t.hs) }
-{
-    if 3 < n {
-        return false;
-    }
-    let c = told(rows, i, 11);
-    if c == 7 {
-        return listed(text, rows, pars, n, told(rows, i, 15), lexicon);
-    }
-    if c < 12 {
-        return true;
-    }
-    if 14 < c {
-        return true;
-    }
-    fresh(text, rows, pars, n, told(rows, i, 10))
-}
-
-// 1 if the node i is a replicator, else 0.
-fn replicator(rows: &[u16; 2056], i: usize) -> usize
-    requires { i < 256 }
-    ensures value { result ≡ cond (copying_code (get_or rows.now (i * 8 + 11) 0)) 1 0 }
-    ensures upper_bound { result ≤ 1 }
-{
-    let c = told(rows, i, 11);
-    if c < 12 {
-        return 0;
-    }
-    if 14 < c {
-        return 0;
-    }
-    1
-}
-
-// Number 8: one more than the number of the first node that breaks the rule, and 0 where there is none. The replicators around are kept by their
-// numbers, outermost first, and how many there are by depth.
-pub fn parameters(text: &[u8], rows: &[u16; 2056], count: usize, lexicon: &[u8; 400]) -> usize
-    requires { (count ≤ 256) × Lexicon lexicon.now }
-    ensures upper_bound { result ≤ count }
-    ensures hs_value { (t : Told text.now rows.now count) → fault parameters_kept [] t.hs ≡ found t.hs result }
-{
-    let mut pars = [0usize; 4];
-    let mut many = [0usize; 14];
-    let mut i = 0;
-    while i < count {
-        let k = i;
-        i += 1;
-        let d = depth(rows, k);
-        let n = many[d];
-        if !kept(text, rows, k, &pars, n, lexicon) {
-            return i;
-        }
-        pars[n] = k;
-        many[d + 1] = n + replicator(rows, k);
-    }
-    0
+    let first = usize::from(text[at]);
+    let middle = usize::from(text[at + n / 2]);
+    let last = from_end(text, at, n, 1);
+    let before = from_end(text, at, n, 2);
+    let third = from_end(text, at, n, 3);
+    (first * 101 + middle * 3 + (last + before * 11 + third * 121) + n) % 512
 }

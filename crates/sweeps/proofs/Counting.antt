@@ -67,6 +67,11 @@ small_next {table} s k v h l =
           rw (get_or-set_other table k j v 0 (eqb-false j k q)) (s.each j));
     }
 
+-- A size and 1 fit 16 bits.
+pub factor_small : (b : Bool) {z f : ℕ} → z < 65536 → f ≡ cond b z 1 → f < 65536
+factor_small true h e = omega (arith, e)
+factor_small false h e = omega (arith, e)
+
 module _ {text rows : List ℕ} {count : ℕ} (t : Told text rows count) {table : List ℕ} {copies events i : ℕ} (s : Counting t.hs table copies events i) where
   pub copies_all : copies ≤ 769 → count ≤ i → copies ≡ capped (total any_node [] t.hs)
   copies_all l h = sum_end s.copied l (rw t.many h)

@@ -7,16 +7,18 @@ use native.Mathlib.Nat.{add-zero, zero-add}
 use native.Mathlib.Numerals.{add-one}
 use native.Mathlib.Omega.{arith}
 use lib.ListN.{length, get_or}
+use Rattle.std.specs.Prelude.{Option, Some, None, Err}
+use Rattle.base.specs.Refusals.{refusal}
+use Rattle.base.specs.declared.Reason.{Reason}
+use Rattle.base.specs.declared.Reason.TheVariants as Reason
+use Rattle.base.specs.declared.Refusal.{Refusal}
 use Rattle.diagram.specs.TreeNodes.{TextNode}
 use Rattle.grammar.specs.Keys.{keyword_at, name_at}
 use Rattle.rules.specs.Kept.{names_kept, parameters_kept, solids_kept, strongs_kept, fault}
 use Rattle.rules.specs.Counted.{any_node, eventful, total, capped}
-use Rattle.rules.specs.Judged.{refuse, counted, verdict}
-use Rattle.rules.specs.Found.{Found, At, Nothing}
-use Rattle.rules.specs.declared.Verdict.{Verdict}
-use Rattle.rules.specs.declared.Verdict.TheVariants.{Refused}
+use Rattle.rules.specs.Judged.{Verdict, refuse, counted, verdict}
 use Rattle.walked.specs.Rows.{Row, Rowed, Nested}
-use Rattle.names.specs.code.Told.{node, last_depth, Told, found}
+use Rattle.names.specs.code.Told.{node, last_depth, Told}
 use Rattle.names.specs.code.Marks.{titled_at}
 use Rattle.names.proofs.Coded.{titled_coded, titled_named}
 
@@ -64,51 +66,41 @@ pub as_told : {text rows : List ℕ} {count : ℕ} {v : Verdict} → ((t : Told 
 unfolding tell
 as_told f hs e r n = f (tell hs e r n)
 
--- A search that found nothing, or the node r - 1.
-module _ (hs : List TextNode) {f : Found} (r : ℕ) (e : f ≡ found hs r) where
-  pub none_found : r ≤ 0 → f ≡ Nothing
-  none_found h = let z : r ≡ 0 = omega arith in e ∙ rw z
-
-  pub one_found : 0 < r → f ≡ found hs (r - 1 + 1)
-  one_found h = let z : r ≡ r - 1 + 1 = omega arith in e ∙ ap (found hs) z
-
 -- The place x of a refusal is that of the keyword of the node k, or of its name.
-module _ {text rows : List ℕ} {count : ℕ} (t : Told text rows count) {f : Found} (k : ℕ) (e : f ≡ found t.hs (k + 1)) (h : k < count) (next : Verdict) where
-  at_node : f ≡ At k
-  at_node = e ∙ rw (add-one k, (t.row k h).number)
+module _ {text rows : List ℕ} {count : ℕ} (t : Told text rows count) {f : Option ℕ} {k : ℕ} (e : f ≡ Some k) (h : k < count) (next : Verdict) {r : Refusal} where
+  pub refused_key : {x : ℕ} (reason : Reason) → r ≡ refusal reason x → x ≡ get_or rows (k * 8 + 8) 0 → Err r ≡ refuse reason (keyword_at text) f next
+  refused_key reason q p = rw (q, e, p, (t.row k h).at) refl
 
-  pub refused_key : {x : ℕ} (n : ℕ) → x ≡ get_or rows (k * 8 + 8) 0 → Refused n x ≡ refuse n (keyword_at text) f next
-  refused_key n p = rw (at_node, p, (t.row k h).at)
-
-  pub refused_name : {x : ℕ} → x ≡ get_or rows (k * 8 + 10) 0 → titled_at rows k ≡ true → Refused 7 x ≡ refuse 7 (name_at text) f next
-  refused_name p q =
+  pub refused_name : {x : ℕ} → r ≡ refusal Reason.Name x → x ≡ get_or rows (k * 8 + 10) 0 → titled_at rows k ≡ true
+      → Err r ≡ refuse Reason.Name (name_at text) f next
+  refused_name q p w =
       let row = t.row k h in
       let kind = (node t.hs k).kind in
-      let named = titled_named kind (sym (titled_coded kind) ∙ (rw row.code at q)) in
-      rw (at_node, p, row.name, named)
+      let named = titled_named kind (sym (titled_coded kind) ∙ (rw row.code at w)) in
+      rw (q, e, p, row.name, named) refl
 
 -- The rules that are kept are passed.
 module _ (text : List ℕ) (hs : List TextNode) where
   abbrev from_10 : Verdict
-  from_10 = refuse 10 (keyword_at text) (fault strongs_kept [] hs) (counted (capped (total any_node [] hs)) (capped (total eventful [] hs)))
+  from_10 = refuse Reason.Weak (keyword_at text) (fault strongs_kept [] hs) (counted (capped (total any_node [] hs)) (capped (total eventful [] hs)))
 
   abbrev from_9 : Verdict
-  from_9 = refuse 9 (keyword_at text) (fault solids_kept [] hs) from_10
+  from_9 = refuse Reason.Solid (keyword_at text) (fault solids_kept [] hs) from_10
 
   abbrev from_8 : Verdict
-  from_8 = refuse 8 (keyword_at text) (fault parameters_kept [] hs) from_9
+  from_8 = refuse Reason.Parameter (keyword_at text) (fault parameters_kept [] hs) from_9
 
-  pub by_7 : {v : Verdict} → v ≡ refuse 7 (name_at text) (fault names_kept [] hs) from_8 → v ≡ verdict text hs
+  pub by_7 : {v : Verdict} → v ≡ refuse Reason.Name (name_at text) (fault names_kept [] hs) from_8 → v ≡ verdict text hs
   unfolding verdict
   by_7 e = e
 
-  module _ (kept_7 : fault names_kept [] hs ≡ Nothing) where
+  module _ (kept_7 : fault names_kept [] hs ≡ None) where
     pub by_8 : {v : Verdict} → v ≡ from_8 → v ≡ verdict text hs
     by_8 e = by_7 (e ∙ rw kept_7)
 
-    module _ (kept_8 : fault parameters_kept [] hs ≡ Nothing) where
+    module _ (kept_8 : fault parameters_kept [] hs ≡ None) where
       pub by_9 : {v : Verdict} → v ≡ from_9 → v ≡ verdict text hs
       by_9 e = by_8 (e ∙ rw kept_8)
 
-      pub by_10 : {v : Verdict} → fault solids_kept [] hs ≡ Nothing → v ≡ from_10 → v ≡ verdict text hs
+      pub by_10 : {v : Verdict} → fault solids_kept [] hs ≡ None → v ≡ from_10 → v ≡ verdict text hs
       by_10 kept_9 e = by_9 (e ∙ rw kept_9)

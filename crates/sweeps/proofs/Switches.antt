@@ -9,7 +9,8 @@ use Rattle.diagram.specs.TreeNodes.{flowing}
 use Rattle.rules.specs.Kept.{fault, strongs_kept}
 use Rattle.walked.specs.Rows.{mark}
 use Rattle.names.specs.code.Kinds.{flow_code}
-use Rattle.names.specs.code.Told.{node, earlier, Told, found}
+use Rattle.std.specs.Prelude.{Some}
+use Rattle.names.specs.code.Told.{node, earlier, Told}
 use Rattle.names.proofs.Coded.{flow_coded}
 use Rattle.names.proofs.Searched.{Searched, search_next, search_here}
 
@@ -25,8 +26,8 @@ module _ {text rows : List ℕ} {count i : ℕ} (t : Told text rows count) (s : 
       let n = node t.hs i in
       rw (p, (t.row i h).code, (t.row i h).strong, flow_coded n.kind) (weak_or_kept (flowing n.kind) n.strong)
 
-  pub strong_broken : b ≡ true → fault strongs_kept [] t.hs ≡ found t.hs (i + 1)
-  strong_broken e = search_here s (rw t.many h) (kept ∙ rw e)
+  pub strong_broken : b ≡ true → fault strongs_kept [] t.hs ≡ Some i
+  strong_broken e = search_here s (rw t.many h) (t.row i h).number (kept ∙ rw e)
 
   pub strong_next : b ≡ false → Searched strongs_kept t.hs (i + 1)
   strong_next e = search_next s (rw t.many h) (kept ∙ rw e)

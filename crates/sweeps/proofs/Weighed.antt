@@ -15,7 +15,8 @@ use Rattle.diagram.specs.declared.Kind.{Kind}
 use Rattle.rules.specs.Kept.{solids, one_of, solids_kept, fault}
 use Rattle.walked.specs.Rows.{mark, kind_code}
 use Rattle.names.specs.code.Kinds.{flow_code, solid_code}
-use Rattle.names.specs.code.Told.{node, Told, found}
+use Rattle.std.specs.Prelude.{Option, Some, None, IfSome}
+use Rattle.names.specs.code.Told.{node, Told}
 use Rattle.sweeps.specs.code.Weights.{heavier, weight}
 use Rattle.names.proofs.Coded.{flow_coded, solid_coded}
 use Rattle.names.proofs.Tables.{zeros}
@@ -59,26 +60,26 @@ weight_if false w k ks e = e
 pub record Weighed (hs : List TextNode) (table : List ℕ) (i : ℕ) : Type 0 where
   pub each : (e : ℕ) → e ≤ 12 → get_or table (e + 1) 0 ≡ weight (solids e (drop i hs))
 
--- The first of these nodes that breaks the rule is one less than f.
-pub record First (hs : List TextNode) (f i : ℕ) : Type 0 where
-  pub is : (before : List TextNode) → fault solids_kept before (drop i hs) ≡ found hs f
+-- The first of these nodes that breaks the rule is f.
+pub record First (hs : List TextNode) (f : Option ℕ) (i : ℕ) : Type 0 where
+  pub is : (before : List TextNode) → fault solids_kept before (drop i hs) ≡ f
 
 module _ {text rows : List ℕ} {count : ℕ} (t : Told text rows count) where
   pub weigh_start : Weighed t.hs (replicate 14 0) count
   unfolding weight
   weigh_start = record { each = λ e l. rw (from_past t.hs count (omega (arith, t.many))) (zeros 14 (e + 1)) }
 
-  pub first_start : First t.hs 0 count
+  pub first_start : First t.hs None count
   unfolding fault
   first_start = record { is = λ before. rw (from_past t.hs count (omega (arith, t.many))) }
 
-pub first_all : {hs : List TextNode} {f i : ℕ} → First hs f i → i ≤ 0 → fault solids_kept [] hs ≡ found hs f
+pub first_all : {hs : List TextNode} {f : Option ℕ} {i : ℕ} → First hs f i → i ≤ 0 → fault solids_kept [] hs ≡ f
 first_all {hs} {f} {i} s h = let e : i ≡ 0 = omega arith in rw e at (s.is [])
 
-pub blame_within : (n i later : ℕ) (b e : Bool) → later ≤ n → i + 1 ≤ n → cond b (cond e later (i + 1)) later ≤ n
-blame_within n i later true true p q = p
-blame_within n i later true false p q = q
-blame_within n i later false e p q = p
+pub blame_within : (P : ℕ → Type 0) (i : ℕ) (later : Option ℕ) (b e : Bool) → IfSome later P → P i → IfSome (cond b (cond e later (Some i)) later) P
+blame_within P i later true true p q = p
+blame_within P i later true false p q = q
+blame_within P i later false e p q = p
 
 -- One node more, which has the number i and the depth d.
 module _ {text rows : List ℕ} {count : ℕ} (t : Told text rows count) {table : List ℕ} {i : ℕ} (s : Weighed t.hs table (i + 1)) (h : i < count)
@@ -102,8 +103,8 @@ module _ {text rows : List ℕ} {count : ℕ} (t : Told text rows count) {table 
       let g = ltb-false (i + 1) count q in
       rw (from_past t.hs (i + 1) (omega (arith, t.many))))
 
-  pub first_next : {f g w : ℕ} → First t.hs f (i + 1) → w ≡ get_or table (d + 1) 0
-      → g ≡ cond (flow_code (get_or rows (i * 8 + 11) 0)) (cond (eqb w 1) f (i + 1)) f → First t.hs g i
+  pub first_next : {f g : Option ℕ} {w : ℕ} → First t.hs f (i + 1) → w ≡ get_or table (d + 1) 0
+      → g ≡ cond (flow_code (get_or rows (i * 8 + 11) 0)) (cond (eqb w 1) f (Some i)) f → First t.hs g i
   unfolding fault
   first_next {f} {g} {w} r p q =
       let ws : eqb w 1 ≡ one_of (solids (node t.hs i).depth (drop (i + 1) t.hs)) =
@@ -111,7 +112,7 @@ module _ {text rows : List ℕ} {count : ℕ} (t : Told text rows count) {table 
       record {
         is = λ before.
             rw (here, q, (t.row i h).code, flow_coded (node t.hs i).kind, ← ws)
-            (by_cases (flowing (node t.hs i).kind) (λ a. rw a (by_cases (eqb w 1) (λ b. rw b (r.is (node t.hs i ∷ before))) (λ b. rw (b, add-one i)))) (λ a. rw a (r.is (node t.hs i ∷ before))));
+            (by_cases (flowing (node t.hs i).kind) (λ a. rw a (by_cases (eqb w 1) (λ b. rw b (r.is (node t.hs i ∷ before))) (λ b. rw (b, (t.row i h).number)))) (λ a. rw a (r.is (node t.hs i ∷ before))));
       }
 
   -- Its children are passed, and it is one of those of its depth: v is their weight.

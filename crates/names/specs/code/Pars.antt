@@ -1,6 +1,8 @@
 -- The pars of the replicators around a node, by the numbers of these, outermost first.
-use Rattle.std.specs.Prelude.{◌≡◌, List, [], ◌∷◌, ℕ, zero, suc, ◌+◌, ◌*◌, ◌≤◌, ◌<◌, length, get_or}
+use Rattle.std.specs.Prelude.{◌≡◌, List, [], ◌∷◌, ℕ, zero, suc, ◌+◌, ◌*◌, ◌≤◌, ◌<◌, length, get_or, drop, Option, MatchOption}
 use Rattle.diagram.specs.Tree.{Name}
+use Rattle.tokens.specs.Classes.{class_of}
+use Rattle.tokens.specs.Remarks.{blanks}
 use Rattle.tokens.specs.Words.{word_at}
 use Rattle.walked.specs.Rows.{past_word}
 
@@ -16,11 +18,20 @@ unfoldable pub pars_at : List ℕ → List ℕ → List ℕ → ℕ → List Nam
 pars_at text rows pars zero = []
 pars_at text rows pars (suc n) = word_at text (par_start rows pars n) ∷ pars_at text rows pars n
 
--- These are numbers of nodes.
-pub record Numbers (pars : List ℕ) : Type 0 where
-  pub each : (k : ℕ) → get_or pars k 0 < 256
-
 -- The first n of them have these names, the nearest first, and the places past them are within the text.
 pub record Around (text rows pars : List ℕ) (n : ℕ) (names : List Name) : Type 0 where
   pub is : names ≡ pars_at text rows pars n
   pub ended : (k : ℕ) → k < n → (par_end rows pars k ≡ past_word text (par_start rows pars k)) × (par_end rows pars k ≤ length text)
+
+-- Where the comma is to stand that comes next, and what comes after it.
+abbrev pub comma_at : List ℕ → ℕ → ℕ
+comma_at text at = at + blanks (drop at text)
+
+abbrev pub after_comma : List ℕ → ℕ → ℕ
+after_comma text at = comma_at text at + 1 + blanks (drop (comma_at text at + 1) text)
+
+-- The place of a letter after the comma that comes next, or none.
+abbrev pub ParNext : List ℕ → ℕ → Option ℕ → Type 0
+ParNext text at r =
+    MatchOption r (comma_at text at < length text → class_of (get_or text (after_comma text at) 0) ≡ 5 → ⊥)
+    (λ p. (comma_at text at < length text) × (p ≡ after_comma text at) × (class_of (get_or text p 0) ≡ 5))

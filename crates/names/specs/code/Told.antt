@@ -2,7 +2,6 @@
 use Rattle.std.specs.Prelude.{◌≡◌, false, List, [], ◌∷◌, ℕ, zero, suc, ◌≤◌, ◌<◌, length, get_or}
 use Rattle.diagram.specs.TreeNodes.{TextNode, text_node}
 use Rattle.diagram.specs.declared.Kind.TheVariants.{Leaf}
-use Rattle.rules.specs.Found.{Found, At, Nothing}
 use Rattle.walked.specs.Rows.{Row}
 
 abbrev pub no_node : TextNode
@@ -26,8 +25,3 @@ pub record Told (text rows : List ℕ) (count : ℕ) : Type 0 where
   pub many : length hs ≡ count
   pub row : (i : ℕ) → i < count → Row text rows i (node hs i)
   pub deep : (i : ℕ) → i < count → (0 < (node hs i).depth) × ((node hs i).depth ≤ suc (last_depth hs i)) × ((node hs i).depth ≤ 12)
-
--- What a search answers: one more than the number of the node found, and 0 where none is.
-abbrev pub found : List TextNode → ℕ → Found
-found hs zero = Nothing
-found hs (suc i) = At (node hs i).number

@@ -1,31 +1,27 @@
-use native.Mathlib.Omega.{arith}
-use Rattle.sweeps.proofs.Events.{event_leaf, event_other, event_last, event_no_flow, event_flow}
+-- `sweeps::happening` meets its contract: a leaf, or a loop before a flow.
+use Rattle.std.proofs.Common.{sym, ◌∙◌}
+use Rattle.sweeps.proofs.Events.{event_leaf, event_other, event_last, event_next}
 use Rattle.sweeps.proofs.happening.Goals as goal
+use Rattle.sweeps.proofs.happening.Goals.{else-is_loop-via-then-is_loop+then-next-nodes+else-is_flow, else-is_loop-via-then-is_loop+else-next-nodes, else-is_loop-via-else-is_loop}
 
-pub returns-then-c-eq8 : goal.returns-then-c-eq8
-returns-then-c-eq8 c = record { upper_bound = omega arith; by_index = λ text t. event_leaf t c.requires.0 _ c.told-c.ensures.0 c.if-c-eq8.true }
+pub returns-then-is_leaf-clause-value : goal.returns-then-is_leaf-clause-value
+returns-then-is_leaf-clause-value c = λ t.
+    event_leaf t c.requires c.args.n c.row-row.ensures.keyword (sym c.is_leaf.ensures ∙ c.if-is_leaf.true)
 
-pub returns-then-c-ne15 : goal.returns-then-c-ne15
-returns-then-c-ne15 c =
-    record { upper_bound = omega arith; by_index = λ text t. event_other t c.requires.0 _ c.told-c.ensures.0 c.if-c-eq8.false c.if-c-ne15.true }
+pub returns-then-is_flow-clause-value : goal.returns-then-is_flow-clause-value
+returns-then-is_flow-clause-value c = λ t.
+    rw c.if-is_flow.true at
+    (event_next t c.requires c.args.n c.row-row.ensures.keyword (sym c.is_leaf.ensures ∙ c.if-is_leaf.false)
+    (sym c.is_loop.ensures ∙ c.if-is_loop.true) c.if-next-nodes.true c.row.ensures.keyword c.is_flow.ensures)
 
-pub returns-then-count-next : goal.returns-then-count-next
-returns-then-count-next c =
-    record { upper_bound = omega arith; by_index = λ text t. event_last t c.requires.0 _ c.told-c.ensures.0 c.if-c-eq8.false c.if-c-ne15.false c.if-count-next.true }
-
-pub returns-then-told-ne7 : goal.returns-then-told-ne7
-returns-then-told-ne7 c =
-    record {
-      upper_bound = omega arith;
-      by_index = λ text t. event_no_flow t c.requires.0 _ c.told-c.ensures.0 c.if-c-eq8.false
-          c.if-c-ne15.false
-          c.if-count-next.false c.told.ensures.0 c.if-told-ne7.true;
-    }
-
-pub returns : goal.returns
-returns c =
-    record {
-      upper_bound = omega arith;
-      by_index = λ text t. event_flow t c.requires.0 _ c.told-c.ensures.0 c.if-c-eq8.false c.if-c-ne15.false
-          c.if-count-next.false c.told.ensures.0 c.if-told-ne7.false;
-    }
+pub returns-clause-value : goal.returns-clause-value
+returns-clause-value c = λ t.
+    let its = c.row-row.ensures.keyword in
+    let no = sym c.is_leaf.ensures ∙ c.if-is_leaf.false in
+    elim c.else-is_loop.branch [
+      else-is_loop-via-then-is_loop+then-next-nodes+else-is_flow w ↦
+          rw w.if-is_flow.false at
+          (event_next t c.requires c.args.n its no (sym c.is_loop.ensures ∙ w.if-is_loop.true) w.if-next-nodes.true w.row.ensures.keyword w.is_flow.ensures)
+    | else-is_loop-via-then-is_loop+else-next-nodes w ↦ event_last t c.requires c.args.n its no (sym c.is_loop.ensures ∙ w.if-is_loop.true) w.if-next-nodes.false
+    | else-is_loop-via-else-is_loop w ↦ event_other t c.requires c.args.n its no (sym c.is_loop.ensures ∙ w.if-is_loop.false)
+    ]

@@ -1,8 +1,0 @@
-use borrow.Author.Tests.{eq-eqb, ne_eqb}
-use Rattle.sweeps.proofs.weak.Goals as goal
-
-pub returns-then-told-ne7 : goal.returns-then-told-ne7
-returns-then-told-ne7 c = rw (← c.told.ensures.0, ne_eqb _ 7 c.if-told-ne7.true)
-
-pub returns : goal.returns
-returns c = rw (← c.told.ensures.0, eq-eqb _ 7 c.if-told-ne7.false, ← c.told-2.ensures.0)
