@@ -68,6 +68,7 @@ fn value(t: Lexeme, least: u8, most: u8) -> Result<u16, Refusal>
 }
 
 // What reads a text token by token. A text has at most 16,384 bytes, so each place in it fits 16 bits.
+#[derive(Drop)]
 pub struct Parser<'a> {
     pub lexer: Lexer<'a>,
     ghost short: { length lexer.text.now ≤ 16384 },

@@ -77,6 +77,7 @@ fn past<F: Fn(u8) -> bool>(text: &[u8], at: usize, passes: F) -> usize
 }
 
 // What reads a text: the text, and the table of classes. The table is made once for a text, since a constant table is put on the stack again at every use.
+#[derive(Drop)]
 pub struct Lexer<'a> {
     pub text: &'a [u8],
     classes: [u8; 256],

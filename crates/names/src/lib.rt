@@ -79,6 +79,7 @@ impl Row {
 }
 
 // The nodes of a text, by the rows that the walk left.
+#[derive(Drop)]
 pub struct Nodes<'a> {
     pub lexer: &'a Lexer<'a>,
     pub rows: &'a [u16; 2056],

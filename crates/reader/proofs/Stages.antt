@@ -7,6 +7,10 @@ use native.Mathlib.Omega.{arith}
 use lib.Dec.{ltb}
 use lib.ListN.{length, get_or, replicate}
 use borrow.Author.Tests.{lt-ltb, le-ltb}
+use Rattle.std.specs.Prelude.{Ok, Err}
+use Rattle.base.specs.Refusals.{refusal}
+use Rattle.base.specs.declared.Reason.TheVariants.{Text, Byte, Word}
+use Rattle.base.specs.declared.Refusal.{Refusal}
 use Rattle.diagram.specs.TreeNodes.{own, nodes_by}
 use Rattle.diagram.specs.declared.Diagram.{Diagram}
 use Rattle.diagram.proofs.Mapped.{nodes_counted}
@@ -14,47 +18,42 @@ use Rattle.tokens.specs.Words.{keywords}
 use Rattle.tokens.specs.Spans.{spans_of, places}
 use Rattle.tokens.specs.Token.{text_tokens}
 use Rattle.tokens.specs.Scanned.{first_foreign, first_long, scan_of}
-use Rattle.tokens.specs.declared.Scan.TheVariants.{Tokens, Refused as Unscanned}
 use Rattle.grammar.specs.Machine as Machine
 use Rattle.grammar.specs.Machine.{Outcome, outcome}
 use Rattle.walked.specs.Walk.{State, state, whole, stop, ending, unwritten, placed_by}
 use Rattle.walked.specs.code.Readers.{told as told_as}
-use Rattle.walked.specs.declared.Walk.{Walk}
-use Rattle.walked.specs.declared.Walk.TheVariants.{Whole, Refused as Turned}
 use Rattle.walked.proofs.Located.{ends_as}
 use Rattle.walked.proofs.Told.{told}
 use Rattle.walked.proofs.Deep.{nested}
 use Rattle.walked.proofs.Sized.{sized}
-use Rattle.rules.specs.Judged.{verdict}
-use Rattle.rules.specs.declared.Verdict.{Verdict}
-use Rattle.rules.specs.declared.Verdict.TheVariants.{Kept, Refused as Unkept}
+use Rattle.rules.specs.Judged.{Verdict, verdict}
+use Rattle.rules.specs.declared.Counts.{Counts}
 use Rattle.reading.specs.Nodes.{stored}
-use Rattle.reading.specs.Answers.{no_diagram, refused, judged, parsed, scanned, read_of}
-use Rattle.reading.specs.declared.Answer.TheVariants.{Done, Refused}
+use Rattle.reading.specs.Answers.{Read, judged, parsed, scanned, read_of}
 use Rattle.reading.proofs.Verdicts.{tree_judged}
 use Rattle.reading.proofs.Derived.{whole_derived, derived_answer}
 use Rattle.reader.specs.code.Stages.{turned_away, Walked}
 
 -- A text over the limit.
-pub long_text : (text : List ℕ) → 16384 < length text → no_diagram (Refused 2 16384) ≡ read_of text
+pub long_text : (text : List ℕ) → 16384 < length text → {r : Refusal} → r ≡ refusal Text 16384 → Err r ≡ read_of text
 unfolding read_of scan_of
-long_text text h = rw (lt-ltb 16384 (length text) h)
+long_text text h e = rw (e, lt-ltb 16384 (length text) h)
 
 abbrev zeros : List ℕ
 zeros = replicate 2056 0
 
 -- Where the walk stops, numbers 3 and 4 come first.
-by_scan : (text : List ℕ) (c k : ℕ) → ending text zeros ≡ stop c k → (a b : Bool) (f l n : ℕ)
-    → no_diagram (cond a (Refused 3 f) (cond b (Refused 4 l) (Refused c k))) ≡ scanned text (cond a (Unscanned 3 f) (cond b (Unscanned 4 l) (Tokens n)))
-by_scan text c k e true b f l n = refl
-by_scan text c k e false true f l n = refl
-by_scan text c k e false false f l n = sym (ap (parsed text) e)
+by_scan : (text : List ℕ) (r : Refusal) → ending text zeros ≡ stop r.reason r.place → (a b : Bool) (f l n : ℕ)
+    → Err (cond a (refusal Byte f) (cond b (refusal Word l) r)) ≡ scanned text (cond a (Err (refusal Byte f)) (cond b (Err (refusal Word l)) (Ok n)))
+by_scan text r e true b f l n = refl
+by_scan text r e false true f l n = refl
+by_scan text r e false false f l n = sym (ap (parsed text) e)
 
-pub stopped : (text : List ℕ) (c k : ℕ) → length text ≤ 16384 → ending text zeros ≡ stop c k → no_diagram (turned_away text c k) ≡ read_of text
+stopped : (text : List ℕ) (r : Refusal) → length text ≤ 16384 → ending text zeros ≡ stop r.reason r.place → Err (turned_away text r) ≡ read_of text
 unfolding read_of scan_of turned_away
-stopped text c k h e =
+stopped text r h e =
     let l = first_long (spans_of text) (length text) in
-    by_scan text c k e (ltb (first_foreign text) (length text)) (ltb l (length text)) (first_foreign text) l (length (spans_of text))
+    by_scan text r e (ltb (first_foreign text) (length text)) (ltb l (length text)) (first_foreign text) l (length (spans_of text))
     ∙ sym (rw (le-ltb 16384 (length text) h))
 
 whole_outcome : (text : List ℕ) (n : ℕ) (o : Outcome) → Machine.whole n ≡ placed_by (λ j. get_or (places text) j (length text)) o → o ≡ Machine.whole n
@@ -78,17 +77,17 @@ walked text n st h e =
     }
 
 -- By the answer of the walk.
-module _ (text rows : List ℕ) (r : Walk) (h : length text ≤ 16384) (e : ending text zeros ≡ told_as r rows) where
-  pub walk_refused : {c k : ℕ} → r ≡ Turned c k → no_diagram (turned_away text c k) ≡ read_of text
-  walk_refused {c} {k} q = stopped text c k h (e ∙ ap (λ (x : Walk). told_as x rows) q)
+module _ (text rows : List ℕ) (h : length text ≤ 16384) where
+  pub walk_refused : {x y : Refusal} → ending text zeros ≡ told_as (Err x) rows → y ≡ turned_away text x → Err y ≡ read_of text
+  walk_refused {x} e q = ap (λ (z : Refusal). Err z) q ∙ stopped text x h e
 
-  pub walk_whole : {n : ℕ} → r ≡ Whole n → Walked text n rows
-  walk_whole {n} q = walked text n (state rows []) h (e ∙ ap (λ (x : Walk). told_as x rows) q)
+  pub walk_whole : {n : ℕ} → ending text zeros ≡ told_as (Ok n) rows → Walked text n rows
+  walk_whole {n} e = walked text n (state rows []) h e
 
 -- By the answer of the sweeps.
 module _ {text rows : List ℕ} {n : ℕ} (w : Walked text n rows) {v : Verdict} (q : v ≡ verdict text w.nodes) where
-  pub judged_refused : {c k : ℕ} → v ≡ Unkept c k → refused c k ≡ read_of text
-  judged_refused e = sym (w.answer ∙ ap (judged text w.nodes) (sym q ∙ e))
+  pub judged_refused : {x : Refusal} {r : Read} → v ≡ Err x → r ≡ Err x → r ≡ read_of text
+  judged_refused e p = p ∙ sym (w.answer ∙ ap (judged text w.nodes) (sym q ∙ e))
 
-  pub judged_kept : {x y : ℕ} → v ≡ Kept x y → {d : Diagram} → d ≡ stored text w.nodes x y → record { answer = Done; diagram = d } ≡ read_of text
-  judged_kept e {d} p = ap (λ (d : Diagram). record { answer = Done; diagram = d }) p ∙ sym (w.answer ∙ ap (judged text w.nodes) (sym q ∙ e))
+  pub judged_kept : {c : Counts} → v ≡ Ok c → {d : Diagram} → d ≡ stored text w.nodes c.copies c.events → Ok d ≡ read_of text
+  judged_kept e {d} p = ap (λ (d : Diagram). Ok d) p ∙ sym (w.answer ∙ ap (judged text w.nodes) (sym q ∙ e))

@@ -1,12 +1,12 @@
--- `reader::store` meets its contract. The loop's invariant: the nodes of the first i rows are stored over the blank ones. Its measure is how many are left.
+-- The nodes of the first i rows are stored over the blank ones.
 use Rattle.reader.proofs.Stored.{storing_none, storing_more, storing_all}
 use Rattle.reader.proofs.store.Goals as goal
 
 pub loop-i-init : goal.loop-i-init
-loop-i-init c = storing_none _ _ c.empty-blank.ensures
+loop-i-init c = storing_none _ _ c.empty-diagram.ensures
 
 pub loop-i-preserved : goal.loop-i-preserved
-loop-i-preserved c = storing_more c.loop-i.invariant c.requires c.loop-i-test.true c.node.ensures
+loop-i-preserved c = storing_more c.loop-i.invariant c.args.nodes.now.few c.loop-i-test.true c.node.ensures
 
 pub returns : goal.returns
 returns c text hs l b r = storing_all c.loop-i.invariant text hs _ _ c.loop-i-test.false l b r

@@ -3,14 +3,15 @@ use borrow.Author.Tests.{lt-ltb, le-ltb}
 use Rattle.reader.specs.code.Stages.{turned_away}
 use Rattle.reader.proofs.turned_away.Goals as goal
 
-pub returns-then-f-text : goal.returns-then-f-text
+pub returns-then-foreign-lexer : goal.returns-then-foreign-lexer
 unfolding turned_away
-returns-then-f-text c = rw (← c.foreign-f.ensures, lt-ltb _ _ c.if-f-text.true)
+returns-then-foreign-lexer c = rw (← c.foreign-foreign.ensures, lt-ltb _ _ c.if-foreign-lexer.true) c.at.ensures
 
-pub returns-then-l-text : goal.returns-then-l-text
+pub returns-then-long-lexer : goal.returns-then-long-lexer
 unfolding turned_away
-returns-then-l-text c = rw (← c.foreign-f.ensures, le-ltb _ _ c.if-f-text.false, ← c.first_long-l.ensures, lt-ltb _ _ c.if-l-text.true)
+returns-then-long-lexer c =
+    rw (← c.foreign-foreign.ensures, le-ltb _ _ c.if-foreign-lexer.false, ← c.first_long-long.ensures, lt-ltb _ _ c.if-long-lexer.true) c.at-then-long-lexer.ensures
 
 pub returns : goal.returns
 unfolding turned_away
-returns c = rw (← c.foreign-f.ensures, le-ltb _ _ c.if-f-text.false, ← c.first_long-l.ensures, le-ltb _ _ c.if-l-text.false)
+returns c = rw (← c.foreign-foreign.ensures, le-ltb _ _ c.if-foreign-lexer.false, ← c.first_long-long.ensures, le-ltb _ _ c.if-long-lexer.false)

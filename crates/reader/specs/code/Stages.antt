@@ -1,20 +1,20 @@
 -- What the functions between the stages are held to.
 use Rattle.std.specs.Prelude.{◌≡◌, cond, List, ℕ, ◌+◌, ◌*◌, ◌%◌, ◌≤◌, eqb, ltb, length, get_or}
+use Rattle.base.specs.Refusals.{refusal}
+use Rattle.base.specs.declared.Reason.TheVariants.{Byte, Word}
+use Rattle.base.specs.declared.Refusal.{Refusal}
 use Rattle.diagram.specs.TreeNodes.{TextNode}
 use Rattle.tokens.specs.Spans.{spans_of}
 use Rattle.tokens.specs.Scanned.{first_foreign, first_long}
 use Rattle.diagram.specs.declared.Node.{Node}
 use Rattle.walked.specs.Rows.{kind_of, Rowed, Nested, Sized}
 use Rattle.reading.specs.Answers.{judged_nodes, read_of}
-use Rattle.reading.specs.declared.Answer.{Answer}
-use Rattle.reading.specs.declared.Answer.TheVariants.{Refused}
 
--- The answer to a text that the walk refuses with a number at a place.
-unfoldable pub turned_away : List ℕ → ℕ → ℕ → Answer
-turned_away text number place =
-    cond (ltb (first_foreign text) (length text)) (Refused 3 (first_foreign text))
-    (cond (ltb (first_long (spans_of text) (length text)) (length text)) (Refused 4 (first_long (spans_of text) (length text)))
-    (Refused number place))
+-- The refusal of a text that the walk refuses.
+unfoldable pub turned_away : List ℕ → Refusal → Refusal
+turned_away text r =
+    cond (ltb (first_foreign text) (length text)) (refusal Byte (first_foreign text))
+    (cond (ltb (first_long (spans_of text) (length text)) (length text)) (refusal Word (first_long (spans_of text) (length text))) r)
 
 -- The node i by its row.
 unfoldable pub node_at : List ℕ → ℕ → Node
