@@ -24,8 +24,8 @@ fn add(codes: &mut [Code], code: Code, s: Walk) -> Walk
     }
     base::put(codes, s.count, code);
     Walk {
-        node: s.node,
         count: s.count + 1,
+        ..s
     }
 }
 
@@ -39,7 +39,7 @@ fn part(nodes: &[Node], left: usize, s: Walk, codes: &mut [Code]) -> Walk
     }
     let inside = Walk {
         node: s.node + 1,
-        count: s.count,
+        ..s
     };
     match Form::from(nodes[s.node].kind) {
         Form::Leaf => add(codes, Code::Leaf, inside),
@@ -59,7 +59,7 @@ fn looped(nodes: &[Node], left: usize, s: Walk, codes: &mut [Code]) -> Walk
     if s.node < nodes.len() && matches!(nodes[s.node].kind, Kind::Leaf) {
         let after = Walk {
             node: s.node + 1,
-            count: s.count,
+            ..s
         };
         return add(codes, Code::Again, after);
     }
@@ -97,10 +97,7 @@ fn further(
         if nodes::depth(nodes, node) <= nodes::depth(nodes, i) {
             return t;
         }
-        let again = Walk {
-            node,
-            count: t.count,
-        };
+        let again = Walk { node, ..t };
         let after = part(nodes, left, again, codes);
         t = add(codes, code, after);
     }

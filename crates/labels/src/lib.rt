@@ -41,15 +41,14 @@ impl Values {
             },
             1 => Values {
                 count: 2,
-                first: self.first,
                 second: x,
                 third: 0,
+                ..self
             },
             2 => Values {
                 count: 3,
-                first: self.first,
-                second: self.second,
                 third: x,
+                ..self
             },
             _ => self,
         }

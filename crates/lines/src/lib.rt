@@ -65,7 +65,7 @@ fn tell(text: &[u8], reset: bool, name: u16, values: Values, s: Walk, w: &mut Wr
     line(text, s.event, reset, usize::from(name), values, w);
     Walk {
         event: s.event % 1024 + 1,
-        node: s.node,
+        ..s
     }
 }
 
@@ -98,8 +98,8 @@ impl<'a> Drawing<'a> {
         }
         let node = nodes[s.node];
         let inside = Walk {
-            event: s.event,
             node: s.node + 1,
+            ..s
         };
         match Form::from(node.kind) {
             Form::Leaf => tell(self.text, false, node.name, values, inside, w),
@@ -138,10 +138,7 @@ impl<'a> Drawing<'a> {
     {
         let mut t = s;
         for value in 0..size {
-            let again = Walk {
-                event: t.event,
-                node: s.node,
-            };
+            let again = Walk { node: s.node, ..t };
             t = self.part(left, values.push(usize::from(value)), again, w);
         }
         t

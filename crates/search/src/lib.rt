@@ -93,11 +93,7 @@ fn into_copy(depth: u16, inner: u16, s: Search) -> Search
 {
     let inner = usize::from(inner);
     if inner == 0 {
-        return Search {
-            above: depth,
-            rest: s.rest,
-            values: s.values,
-        };
+        return Search { above: depth, ..s };
     }
     Search {
         above: depth,
@@ -125,8 +121,7 @@ fn inside(r: SearchNode, q: SearchNode, s: Search) -> ControlFlow<Spot, Search>
         }),
         Form::Loop | Form::Joined(_, None) => ControlFlow::Continue(Search {
             above: r.depth,
-            rest: s.rest,
-            values,
+            ..s
         }),
         Form::Joined(_, Some(_)) => ControlFlow::Continue(into_copy(r.depth, q.weight, s)),
     }
@@ -142,9 +137,8 @@ fn turn(r: SearchNode, q: SearchNode, s: Search) -> ControlFlow<Spot, Search>
     let weight = usize::from(r.weight);
     if weight <= s.rest {
         return ControlFlow::Continue(Search {
-            above: s.above,
             rest: s.rest - weight,
-            values: s.values,
+            ..s
         });
     }
     inside(r, q, s)
