@@ -1,4 +1,4 @@
-pub mod Coded
+pub mod Shown
 pub mod Fit
 pub mod Stack
 pub mod Nodes

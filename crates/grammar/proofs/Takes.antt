@@ -7,7 +7,7 @@ use lib.Dec.{eqb}
 use borrow.Author.Tests.{eqb-true, eq-eqb}
 use Rattle.diagram.specs.Tree.{Name}
 use Rattle.tokens.specs.Classes.{between}
-use Rattle.tokens.specs.Token.{Sign, opening, closing, comma, colon, Keyword, Token, key, name, numeral, other, sign_code}
+use Rattle.tokens.specs.Token.{Sign, opening, closing, comma, colon, Keyword, Token, key, name, numeral, other, sign_class}
 use Rattle.tokens.proofs.Tokens.{chosen}
 use Rattle.grammar.specs.Machine.{is_sign, is_name, counts, Place, member, child, allows, Want, sign, named, number, params, param, node, more, others, Move, off, big, push, ref, parts, full, begin, expand}
 
@@ -15,17 +15,17 @@ use Rattle.grammar.specs.Machine.{is_sign, is_name, counts, Place, member, child
 abbrev sign_at : ℕ → Sign
 sign_at c = cond (eqb c 1) opening (cond (eqb c 2) closing (cond (eqb c 3) comma colon))
 
-sign_back : (s : Sign) → sign_at (sign_code s) ≡ s
+sign_back : (s : Sign) → sign_at (sign_class s) ≡ s
 sign_back opening = refl
 sign_back closing = refl
 sign_back comma = refl
 sign_back colon = refl
 
 pub sign_same : (s : Sign) → is_sign s (Token.sign s) ≡ true
-sign_same s = eq-eqb (sign_code s) (sign_code s) refl
+sign_same s = eq-eqb (sign_class s) (sign_class s) refl
 
 sign_is : (s : Sign) (t : Token) → is_sign s t ≡ true → t ≡ Token.sign s
-sign_is s (Token.sign r) h = ap Token.sign (sym (sign_back r) ∙ (ap sign_at (eqb-true (sign_code r) (sign_code s) h) ∙ sign_back s))
+sign_is s (Token.sign r) h = ap Token.sign (sym (sign_back r) ∙ (ap sign_at (eqb-true (sign_class r) (sign_class s) h) ∙ sign_back s))
 sign_is s (key k) h = absurd (false≢true h)
 sign_is s (name w) h = absurd (false≢true h)
 sign_is s (numeral n) h = absurd (false≢true h)

@@ -5,4 +5,4 @@ pub mod Derives
 pub mod Printed
 pub mod Keys
 pub mod Worked
-pub mod code
+pub mod Places

@@ -2,23 +2,10 @@
 use Rattle.std.specs.Prelude.{Bool, true, false, ◌||◌, cond, List, [], ◌∷◌, ◌++◌, ℕ, suc, ◌+◌, ◌-◌, eqb, leb}
 use Rattle.base.specs.declared.Reason.{Reason}
 use Rattle.tokens.specs.Classes.{between}
-use Rattle.tokens.specs.Token.{Sign, opening, closing, comma, colon, Keyword, flow, leaf, group, replicator, loop, Token, key, name, numeral, other, sign_code}
+use Rattle.tokens.specs.Token.{Sign, opening, closing, comma, colon, Keyword, flow, leaf, group, replicator, loop, Token, key, name, numeral, other}
+pub use Rattle.tokens.specs.Token.{is_sign, is_name}
 
 -- What is asked of a token: is it this sign, a name, a keyword, a number from a to b.
-abbrev pub is_sign : Sign → Token → Bool
-is_sign s (Token.sign r) = eqb (sign_code r) (sign_code s)
-is_sign s (key k) = false
-is_sign s (name w) = false
-is_sign s (numeral n) = false
-is_sign s other = false
-
-abbrev pub is_name : Token → Bool
-is_name (Token.sign r) = false
-is_name (key k) = false
-is_name (name w) = true
-is_name (numeral n) = false
-is_name other = false
-
 -- "Leaves, flows and constructors are nodes": each keyword begins one.
 abbrev pub is_key : Token → Bool
 is_key (Token.sign r) = false

@@ -1,46 +1,50 @@
--- Words at both sides of what makes a token, with its number; and number 6 at both sides of its limits: document 01's drawings as texts, and what
+-- Words at both sides of what makes a token, with its kind; and number 6 at both sides of its limits: document 01's drawings as texts, and what
 -- the machine comes to over their tokens.
-use Rattle.std.specs.Prelude.{◌≡◌, List, [], ◌∷◌, ◌++◌, map, ℕ, zero, suc}
+use Rattle.std.specs.Prelude.{◌≡◌, List, [], ◌∷◌, ◌++◌, map, ℕ, zero, suc, Option, Some, None}
 use Rattle.base.specs.Text.{bytes}
 use Rattle.base.specs.declared.Reason.TheVariants.{Node}
 use Rattle.tokens.specs.Words.{keywords}
 use Rattle.diagram.specs.Tree.{all, some, one}
-use Rattle.tokens.specs.Token.{opening, closing, comma, colon, flow, leaf, group, replicator, loop, Token, sign, key, name, numeral, other, token_of, text_tokens, code}
+use Rattle.tokens.specs.Token.{opening, closing, comma, colon, flow, leaf, group, replicator, loop, Token, sign, key, name, numeral, other, token_of, text_tokens}
+use Rattle.tokens.specs.Kinds.{token_kind}
+use Rattle.tokens.specs.declared.Sign.TheVariants as Sign
+use Rattle.tokens.specs.declared.Keyword.TheVariants as Keyword
+use Rattle.tokens.specs.declared.TokenKind.{TokenKind}
 use Rattle.grammar.specs.Machine.{Outcome, whole, stop, outcome}
 
 -- A word of 24 bytes is a name, one of 25 is not; case counts; a numeral has no leading zero and is at most 16; a tab is foreign.
-abbrev pub words : List (List ℕ × Token × ℕ)
+abbrev pub words : List (List ℕ × Token × Option TokenKind)
 words =
-    (bytes "(", sign opening, 1)
-    ∷ (bytes ")", sign closing, 2)
-    ∷ (bytes ",", sign comma, 3)
-    ∷ (bytes ":", sign colon, 4)
-    ∷ (bytes "\t", other, 5)
-    ∷ (bytes "a", name (bytes "a"), 6)
-    ∷ (bytes "Flow", name (bytes "Flow"), 6)
-    ∷ (bytes "flow_1", name (bytes "flow_1"), 6)
-    ∷ (bytes "abcdefghijklmnopqrstuvwx", name (bytes "abcdefghijklmnopqrstuvwx"), 6)
-    ∷ (bytes "abcdefghijklmnopqrstuvwxy", other, 5)
-    ∷ (bytes "_a", other, 5)
-    ∷ (bytes "flow", key flow, 7)
-    ∷ (bytes "leaf", key leaf, 8)
-    ∷ (bytes "and", key (group all), 9)
-    ∷ (bytes "or", key (group some), 10)
-    ∷ (bytes "xor", key (group one), 11)
-    ∷ (bytes "all", key (replicator all), 12)
-    ∷ (bytes "some", key (replicator some), 13)
-    ∷ (bytes "one", key (replicator one), 14)
-    ∷ (bytes "loop", key loop, 15)
-    ∷ (bytes "0", numeral 0, 16)
-    ∷ (bytes "9", numeral 9, 25)
-    ∷ (bytes "16", numeral 16, 32)
-    ∷ (bytes "17", other, 5)
-    ∷ (bytes "01", other, 5)
-    ∷ (bytes "1a", other, 5)
+    (bytes "(", sign opening, Some (TokenKind.Sign Sign.Opening))
+    ∷ (bytes ")", sign closing, Some (TokenKind.Sign Sign.Closing))
+    ∷ (bytes ",", sign comma, Some (TokenKind.Sign Sign.Comma))
+    ∷ (bytes ":", sign colon, Some (TokenKind.Sign Sign.Colon))
+    ∷ (bytes "\t", other, None)
+    ∷ (bytes "a", name (bytes "a"), Some TokenKind.Name)
+    ∷ (bytes "Flow", name (bytes "Flow"), Some TokenKind.Name)
+    ∷ (bytes "flow_1", name (bytes "flow_1"), Some TokenKind.Name)
+    ∷ (bytes "abcdefghijklmnopqrstuvwx", name (bytes "abcdefghijklmnopqrstuvwx"), Some TokenKind.Name)
+    ∷ (bytes "abcdefghijklmnopqrstuvwxy", other, Some TokenKind.Other)
+    ∷ (bytes "_a", other, Some TokenKind.Other)
+    ∷ (bytes "flow", key flow, Some (TokenKind.Keyword Keyword.Flow))
+    ∷ (bytes "leaf", key leaf, Some (TokenKind.Keyword Keyword.Leaf))
+    ∷ (bytes "and", key (group all), Some (TokenKind.Keyword Keyword.And))
+    ∷ (bytes "or", key (group some), Some (TokenKind.Keyword Keyword.Or))
+    ∷ (bytes "xor", key (group one), Some (TokenKind.Keyword Keyword.Xor))
+    ∷ (bytes "all", key (replicator all), Some (TokenKind.Keyword Keyword.All))
+    ∷ (bytes "some", key (replicator some), Some (TokenKind.Keyword Keyword.Some))
+    ∷ (bytes "one", key (replicator one), Some (TokenKind.Keyword Keyword.One))
+    ∷ (bytes "loop", key loop, Some (TokenKind.Keyword Keyword.Loop))
+    ∷ (bytes "0", numeral 0, Some (TokenKind.Numeral 0))
+    ∷ (bytes "9", numeral 9, Some (TokenKind.Numeral 9))
+    ∷ (bytes "16", numeral 16, Some (TokenKind.Numeral 16))
+    ∷ (bytes "17", other, Some TokenKind.Other)
+    ∷ (bytes "01", other, Some TokenKind.Other)
+    ∷ (bytes "1a", other, Some TokenKind.Other)
     ∷ []
 
-abbrev pub Tokened : List (List ℕ × Token × ℕ) → Type 0
-Tokened ws = (map (λ w. token_of keywords w.0) ws ≡ map (λ w. w.1) ws) × (map (λ w. code w.1) ws ≡ map (λ w. w.2) ws)
+abbrev pub Tokened : List (List ℕ × Token × Option TokenKind) → Type 0
+Tokened ws = (map (λ w. token_of keywords w.0) ws ≡ map (λ w. w.1) ws) × (map (λ w. token_kind w.0) ws ≡ map (λ w. w.2) ws)
 
 -- So many children `leaf(a)(0)`, and the root with them.
 abbrev pub leaves : ℕ → List ℕ

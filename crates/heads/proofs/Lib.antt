@@ -1,1 +1,1 @@
-mod Values
+mod Sign

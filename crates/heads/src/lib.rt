@@ -1,17 +1,20 @@
 #![tactic(auto)]
 
-ghost use Rattle.std.specs.Prelude.{◌≡◌, [], ◌∷◌, ℕ, ◌+◌, ◌*◌, ◌-◌, ◌<◌, ◌≤◌, ◌⊎◌, length, IfOk, IfErr, MatchResult};
+ghost use Rattle.std.specs.Prelude.{◌≡◌, false, [], ◌∷◌, ℕ, ◌+◌, ◌*◌, ◌<◌, ◌≤◌, length, Some, IfOk, IfErr};
 ghost use Rattle.base.specs.declared.Reason.TheVariants.{Token, Text};
 ghost use Rattle.base.specs.Refusals.{refusal};
-ghost use Rattle.tokens.specs.Token.{Sign, opening, closing as closing_sign, colon, sign_code};
-ghost use Rattle.grammar.specs.Machine.{sign as sign_of, named, number, params};
-ghost use Rattle.walked.specs.Walk.{store, begun};
-ghost use Rattle.walked.specs.code.Readers.{Closing, Reads, Fills, Marks};
-ghost use Rattle.heads.specs.code.Seen.{Seen, Begun};
+ghost use Rattle.tokens.specs.Token.{key, opening, closing as closing_sign, colon};
+ghost use Rattle.tokens.specs.Kinds.{shown_sign, shown_key, shown, number_of};
+ghost use Rattle.grammar.specs.Machine.{sign as sign_of, named, number, params, counts};
+ghost use Rattle.grammar.specs.Places.{place_of};
+ghost use Rattle.walked.specs.Walk.{store, begun, row_code};
+ghost use Rattle.walked.specs.code.Readers.{Closing, Reads, Fills, Marks, Begins};
+ghost use Rattle.heads.specs.code.Seen.{Seen};
 
 use base::{Reason, Refusal};
+use grammar::Place;
 use lexer::Lexer;
-use tokens::Lexeme;
+use tokens::{Keyword, Lexeme, Sign};
 use walked::Position;
 
 // What the lines of the thesis's Figure 5.2 have in parentheses, and a node's keyword. The lines themselves are read in `walk`.
@@ -34,6 +37,19 @@ pub const SWITCH: usize = 6;
 
 pub const PAST: usize = 7;
 
+// The numbers of the keywords in a row: they go in document 01's order.
+pub const FLOW: u16 = 7;
+
+pub const LEAF: u16 = 8;
+
+pub const XOR: u16 = 11;
+
+pub const ALL: u16 = 12;
+
+pub const ONE: u16 = 14;
+
+pub const LOOP: u16 = 15;
+
 // A store into the row n. Past the last row it does nothing.
 fn put(rows: &mut [u16; 2056], n: usize, column: usize, v: u16)
     requires { column < 16 }
@@ -44,27 +60,46 @@ fn put(rows: &mut [u16; 2056], n: usize, column: usize, v: u16)
     }
 }
 
-// Begins the row of the node before which n nodes stand: the place of its keyword c, the keyword's number, and its depth, by the depths left for it.
-fn begin_row(rows: &mut [u16; 2056], n: usize, c: u8, place: u16, left: usize)
+// The number of a keyword in a row.
+fn code(keyword: Keyword) -> u16
+    ensures { result ≡ row_code (key (shown_key keyword)) }
+{
+    match keyword {
+        Keyword::Flow => FLOW,
+        Keyword::Leaf => LEAF,
+        Keyword::And => 9,
+        Keyword::Or => 10,
+        Keyword::Xor => XOR,
+        Keyword::All => ALL,
+        Keyword::Some => 13,
+        Keyword::One => ONE,
+        Keyword::Loop => LOOP,
+    }
+}
+
+// Begins the row of the node before which n nodes stand: the place of its keyword, the keyword's number, and its depth, by the depths left for it.
+fn begin_row(rows: &mut [u16; 2056], n: usize, keyword: Keyword, place: u16, left: usize)
     requires { n < 256 }
-    ensures { rows.new ≡ begun rows.old n c place left }
+    ensures { rows.new ≡ begun rows.old n (row_code (key (shown_key keyword))) place left }
 {
     let row = n + 1;
     put(rows, row, PLACE, place);
-    put(rows, row, KEYWORD, u16::from(c));
+    put(rows, row, KEYWORD, code(keyword));
     put(rows, row, DEPTH, 13usize.saturating_sub(left) as u16);
 }
 
 // The number that a numeral from `least` to `most` stands for; number 5 for another token.
 fn value(t: Lexeme, least: u8, most: u8) -> Result<u16, Refusal>
-    requires { (least < 200) × (most < 200) }
-    ensures ok { IfOk result (λ v. (16 + least ≤ t.code) × (t.code ≤ 16 + most) × (v ≡ t.code - 16)) }
-    ensures err { IfErr result (λ r. (r ≡ refusal Token t.start) × ((t.code < 16 + least) ⊎ (16 + most < t.code))) }
+    ensures ok { IfOk result (λ v. (number_of t.kind ≡ Some v) × (least ≤ v) × (v ≤ most)) }
+    ensures err { IfErr result (λ r. (r ≡ refusal Token t.start) × (counts least most (shown t.kind) ≡ false)) }
 {
-    if t.code < lexer::ZERO + least || lexer::ZERO + most < t.code {
+    let Some(n) = t.numeral() else {
+        return Err(Reason::Token.at(t.start));
+    };
+    if n < least || most < n {
         return Err(Reason::Token.at(t.start));
     }
-    Ok(u16::from(t.code - lexer::ZERO))
+    Ok(u16::from(n))
 }
 
 // What reads a text token by token. A text has at most 16,384 bytes, so each place in it fits 16 bits.
@@ -88,49 +123,52 @@ impl<'a> Parser<'a> {
         })
     }
 
-    // The keyword of a node, for which so many depths are left, and the position past it: number 5 where none of those up to the number top comes next,
-    // number 6 where the node is too deep or too many; else its row is begun.
+    // The keyword of a node, for which so many depths are left, and the position past it: number 5 where none that may stand here comes next, number 6
+    // where the node is too deep or too many; else its row is begun.
     pub fn node(
         &self,
         p: Position,
-        top: u8,
+        place: Place,
         left: usize,
         rows: &mut [u16; 2056],
-    ) -> Result<(u8, Position), Refusal>
-        ensures { Begun self.now.lexer.text.now p.at top left p.nodes rows.old result rows.new }
+    ) -> Result<(Keyword, Position), Refusal>
+        ensures { Begins self.now.lexer.text.now (place_of place) left p.nodes p.at rows.old result rows.new }
     {
         let t = self.lexer.next(p.at);
-        if t.code < lexer::FLOW || top < t.code {
+        let Some(keyword) = t.keyword() else {
+            return Err(Reason::Token.at(t.start));
+        };
+        if !place.allows(keyword) {
             return Err(Reason::Token.at(t.start));
         }
         if left == 0 || 256 <= p.nodes {
             return Err(Reason::Node.at(t.start));
         }
-        begin_row(rows, p.nodes, t.code, t.start as u16, left);
+        begin_row(rows, p.nodes, keyword, t.start as u16, left);
         let past = Position {
             at: t.end,
             nodes: p.nodes + 1,
         };
-        Ok((t.code, past))
+        Ok((keyword, past))
     }
 
     // One of the signs ( ) , : by its class: the place past it, or that of what stands there. No word is looked at.
-    fn seen(&self, at: usize, want: u8) -> Result<usize, usize>
-        ensures { (s : Sign) → sign_code s ≡ want → Seen self.now.lexer.text.now want at result }
+    fn seen(&self, at: usize, want: Sign) -> Result<usize, usize>
+        ensures { Seen self.now.lexer.text.now want at result }
     {
         let start = self.lexer.gap(at);
         if self.lexer.text.len() <= start {
             return Err(self.lexer.text.len());
         }
-        if self.lexer.class(self.lexer.text[start]) != want {
+        if self.lexer.class(self.lexer.text[start]) != want.class() {
             return Err(start);
         }
         Ok(start + 1)
     }
 
     // One of the signs has to come next.
-    pub fn sign(&self, p: Position, want: u8) -> Result<Position, Refusal>
-        ensures { (s : Sign) → sign_code s ≡ want → Reads self.now.lexer.text.now (sign_of s ∷ []) p.nodes p.at result }
+    pub fn sign(&self, p: Position, want: Sign) -> Result<Position, Refusal>
+        ensures { Reads self.now.lexer.text.now (sign_of (shown_sign want) ∷ []) p.nodes p.at result }
     {
         match self.seen(p.at, want) {
             Ok(at) => Ok(Position { at, nodes: p.nodes }),
@@ -142,7 +180,7 @@ impl<'a> Parser<'a> {
     pub fn closing(&self, at: usize) -> Option<usize>
         ensures { Closing self.now.lexer.text.now at result }
     {
-        self.seen(at, lexer::CLOSING).ok()
+        self.seen(at, Sign::Closing).ok()
     }
 
     // The name of the last node, or its par: its place, and the place past it.
@@ -150,7 +188,7 @@ impl<'a> Parser<'a> {
         ensures { Fills self.now.lexer.text.now (named ∷ []) p.nodes p.at rows.old result rows.new }
     {
         let t = self.lexer.next(p.at);
-        if t.code != lexer::NAME {
+        if !t.is_name() {
             return Err(Reason::Token.at(t.start));
         }
         put(rows, p.nodes, NAME, t.start as u16);
@@ -165,7 +203,7 @@ impl<'a> Parser<'a> {
     fn opened_name(&self, p: Position, rows: &mut [u16; 2056]) -> Result<Position, Refusal>
         ensures { Fills self.now.lexer.text.now (sign_of opening ∷ named ∷ []) p.nodes p.at rows.old result rows.new }
     {
-        let p = self.sign(p, lexer::OPENING)?;
+        let p = self.sign(p, Sign::Opening)?;
         self.name(p, rows)
     }
 
@@ -176,15 +214,15 @@ impl<'a> Parser<'a> {
         let mut at = p.at;
         loop {
             let comma = self.lexer.next(at);
-            if comma.code != lexer::COMMA {
+            if !comma.is_sign(Sign::Comma) {
                 return Err(Reason::Token.at(comma.start));
             }
             let t = self.lexer.next(comma.end);
             at = t.end;
-            if t.code != lexer::NAME {
+            if !t.is_name() {
                 let switch = value(t, 0, 1)?;
                 put(rows, p.nodes, SWITCH, switch);
-                return self.sign(Position { at, nodes: p.nodes }, lexer::CLOSING);
+                return self.sign(Position { at, nodes: p.nodes }, Sign::Closing);
             }
         }
     }
@@ -195,7 +233,7 @@ impl<'a> Parser<'a> {
     {
         let p = self.opened_name(p, rows)?;
         let p = self.params(p, rows)?;
-        self.sign(p, lexer::OPENING)
+        self.sign(p, Sign::Opening)
     }
 
     // Document 01's addition to the par of Figure 5.2, constructor: the size of the last node, from 1 to 16, and the `)`.
@@ -210,7 +248,7 @@ impl<'a> Parser<'a> {
                 at: t.end,
                 nodes: p.nodes,
             },
-            lexer::CLOSING,
+            Sign::Closing,
         )
     }
 
@@ -219,7 +257,7 @@ impl<'a> Parser<'a> {
         ensures { Fills self.now.lexer.text.now (sign_of opening ∷ named ∷ sign_of colon ∷ number 1 16 ∷ sign_of closing_sign ∷ []) p.nodes p.at rows.old result rows.new }
     {
         let p = self.opened_name(p, rows)?;
-        let p = self.sign(p, lexer::COLON)?;
+        let p = self.sign(p, Sign::Colon)?;
         self.size(p, rows)
     }
 
@@ -228,7 +266,7 @@ impl<'a> Parser<'a> {
         ensures { Fills self.now.lexer.text.now (sign_of opening ∷ named ∷ sign_of closing_sign ∷ []) p.nodes p.at rows.old result rows.new }
     {
         let p = self.opened_name(p, rows)?;
-        self.sign(p, lexer::CLOSING)
+        self.sign(p, Sign::Closing)
     }
 
     // Figure 5.2, flow: the ref of the child before which i nodes stand, `(0)` or `(1)`, which is its solid mark.
@@ -240,7 +278,7 @@ impl<'a> Parser<'a> {
     ) -> Result<Position, Refusal>
         ensures { Marks self.now.lexer.text.now i p.nodes p.at rows.old result rows.new }
     {
-        let p = self.sign(p, lexer::OPENING)?;
+        let p = self.sign(p, Sign::Opening)?;
         let t = self.lexer.next(p.at);
         let solid = value(t, 0, 1)?;
         put(rows, i, 8 + SOLID, solid);
@@ -249,7 +287,7 @@ impl<'a> Parser<'a> {
                 at: t.end,
                 nodes: p.nodes,
             },
-            lexer::CLOSING,
+            Sign::Closing,
         )
     }
 }

@@ -14,7 +14,7 @@ use Rattle.tokens.specs.Rest.{rest}
 use Rattle.tokens.specs.Scanned.{foreign_in, first_foreign, first_long}
 use Rattle.tokens.proofs.Between.{in_range}
 use Rattle.tokens.proofs.Steps.{rest_start, rest_end, rest_skip, rest_token}
-use Rattle.tokens.proofs.WordCodes.{part_length, first_byte}
+use Rattle.tokens.proofs.WordKinds.{part_length, first_byte}
 use Rattle.lexer.proofs.Ways.{end_after}
 
 -- What f finds in all tokens is what it finds in those from `at` on, and a token stands there, or the text ends.

@@ -4,26 +4,29 @@ use mathlib.Core.Bool.{Bool, true, false, cond}
 use mathlib.Core.List.{List, [], ◌∷◌}
 use Prim.Native.Nat.{ℕ, suc, ◌+◌, ◌-◌, ◌≤◌, ◌<◌, max}
 use native.Mathlib.Omega.{arith}
-use Rattle.std.proofs.Common.{⊎_elim}
+use Rattle.std.proofs.Common.{⊎_elim, Some}
 use Rattle.std.proofs.lemmas.Bool.{cases_lt}
 use lib.ListN.{length, drop, get_or, length-drop}
 use Rattle.diagram.specs.Tree.{Name}
 use Rattle.tokens.specs.Classes.{between, class_of, worded}
 use Rattle.tokens.specs.Remarks.{blanks}
-use Rattle.tokens.specs.Words.{front, word_code, code}
+use Rattle.tokens.specs.Words.{front, keywords}
+use Rattle.tokens.specs.Token.{word_token, token_of}
+use Rattle.tokens.specs.Kinds.{kind, token_kind}
 use Rattle.tokens.specs.Spans.{width}
-use Rattle.tokens.proofs.Between.{between_in}
+use Rattle.tokens.proofs.Between.{between_in, between_high}
+use Rattle.tokens.proofs.WordKinds.{byte_kind}
 use Rattle.tokens.proofs.Steps.{width_some, width_le}
 
 -- A token whose first byte has the class c.
 module _ (w : Name) {b c : ℕ} (B : b ≡ get_or w 0 0) (C : c ≡ class_of b) where
-  pub a_sign : between 5 7 c ≡ false → c ≡ code w
-  unfolding code
+  pub a_sign : between 5 7 c ≡ false → byte_kind c ≡ token_kind w
+  unfolding token_kind token_of
   a_sign f = rw (← B, ← C, f)
 
-  pub a_word : 5 ≤ c → c ≤ 7 → code w ≡ word_code w
-  unfolding code
-  a_word l u = rw (← B, ← C, between_in 5 7 c l u)
+  pub a_word : 5 ≤ c → c ≤ 7 → token_kind w ≡ Some (kind (word_token keywords w))
+  unfolding token_kind token_of
+  a_word l u = rw (← B, ← C, between_in 5 7 c l u, between_high 0 0 c (omega arith))
 
 -- Where a token ends: after a byte at least, and within the text.
 pub end_after : (text : List ℕ) (at e : ℕ) → at < length text → e ≡ at + width (drop at text) → (at < e) × (e ≤ length text)

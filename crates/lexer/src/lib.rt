@@ -1,17 +1,19 @@
 #![tactic(auto)]
 
-ghost use Rattle.std.specs.Prelude.{◌≡◌, cond, ℕ, Bool, position, ◌+◌, ◌-◌, ◌≤◌, ◌<◌, get_or, length, take, drop};
+ghost use Rattle.std.specs.Prelude.{◌≡◌, true, cond, ℕ, Bool, Some, None, position, ◌+◌, ◌-◌, ◌≤◌, ◌<◌, get_or, length, take, drop};
 ghost use Rattle.diagram.specs.Names.{same as alike};
 ghost use Rattle.tokens.specs.Classes.{between, class_of, within, worded as worded_byte, unbroken};
 ghost use Rattle.tokens.specs.Remarks.{blanks};
-ghost use Rattle.tokens.specs.Words.{front, word_at, keywords, numeral as numeral_of, word_code};
+ghost use Rattle.tokens.specs.Words.{front, word_at, keywords, every};
+ghost use Rattle.tokens.specs.Token.{word_token, numeral_in};
+ghost use Rattle.tokens.specs.Kinds.{kind, keyword_in};
 ghost use Rattle.tokens.specs.Parts.{Word};
 ghost use Rattle.tokens.specs.Spans.{width, spans_of};
 ghost use Rattle.tokens.specs.Rest.{Next};
 ghost use Rattle.tokens.specs.Scanned.{first_foreign, first_long};
 ghost use Rattle.lexer.specs.Lexicon.{Lexicon};
 
-use tokens::Lexeme;
+use tokens::{Keyword, Lexeme, TokenKind};
 
 // Document 01's "constant table of 256 class numbers", the class of each byte: 0 foreign, 1 to 4 the signs ( ) , : in this order, 5 letter, 6 digit,
 // 7 underscore, 8 blank, 9 the start of a remark.
@@ -26,40 +28,14 @@ const CLASSES: [u8; 256] = [
     0, 0, 0, 0, 0, 0, 0, 0, 0, 0, 0, 0, 0, 0, 0, 0, 0, 0, 0, 0, 0, 0, 0, 0, 0, 0, 0, 0, 0, 0, 0, 0,
 ];
 
-// The classes of a byte and the numbers of a token that code asks for; numerals follow `0` by their value.
-pub const FOREIGN: u8 = 0;
-
-pub const OPENING: u8 = 1;
-
-pub const CLOSING: u8 = 2;
-
-pub const COMMA: u8 = 3;
-
-pub const COLON: u8 = 4;
+// The classes of a byte that code asks for.
+const FOREIGN: u8 = 0;
 
 pub const LETTER: u8 = 5;
 
 pub const UNDERSCORE: u8 = 7;
 
-pub const BLANK: u8 = 8;
-
-pub const OTHER: u8 = 5;
-
-pub const NAME: u8 = 6;
-
-pub const FLOW: u8 = 7;
-
-pub const LEAF: u8 = 8;
-
-pub const XOR: u8 = 11;
-
-pub const ALL: u8 = 12;
-
-pub const ONE: u8 = 14;
-
-pub const LOOP: u8 = 15;
-
-pub const ZERO: u8 = 16;
+const BLANK: u8 = 8;
 
 // Past the bytes from `at` on that pass a test.
 fn past<F: Fn(u8) -> bool>(text: &[u8], at: usize, passes: F) -> usize
@@ -127,14 +103,14 @@ impl<'a> Lexer<'a> {
         self.run(at, FOREIGN, UNDERSCORE)
     }
 
-    // The token at a place or after it. Number 0 is none: the text's end, or a foreign byte.
+    // The token at a place or after it. It has no kind at the text's end, and where it is a foreign byte.
     pub fn next(&self, at: usize) -> Lexeme
         ensures { Next self.now.text.now at result }
     {
         let start = self.gap(at);
         if self.text.len() <= start {
             return Lexeme {
-                code: FOREIGN,
+                kind: None,
                 start: self.text.len(),
                 end: start,
             };
@@ -142,14 +118,17 @@ impl<'a> Lexer<'a> {
         let class = self.class(self.text[start]);
         if class < LETTER {
             return Lexeme {
-                code: class,
+                kind: TokenKind::of_class(class),
                 start,
                 end: start + 1,
             };
         }
         let end = self.run(start + 1, LETTER, UNDERSCORE);
-        let code = number(&self.text[start..end], class);
-        Lexeme { code, start, end }
+        Lexeme {
+            kind: Some(word_kind(&self.text[start..end], class)),
+            start,
+            end,
+        }
     }
 
     // The end of the token that starts at `at`: of a word, or past the one byte.
@@ -195,48 +174,58 @@ const KEYWORDS: [&[u8]; 9] = [
     b"flow", b"leaf", b"and", b"or", b"xor", b"all", b"some", b"one", b"loop",
 ];
 
-// Which of the keywords a word is, if it is one.
-fn keyword(word: &[u8]) -> Option<usize>
+// The place of a word among the keywords.
+fn place(word: &[u8]) -> Option<usize>
     ensures { result ≡ position (alike word.now) keywords }
 {
     KEYWORDS.iter().position(|k| word == *k)
 }
 
-// The number of a digit from `0` to `last`, which is `first` for `0`; 5 for any other byte.
-fn digit(b: u8, last: u8, first: u8) -> u8
+// The keyword that a word is.
+fn keyword(word: &[u8]) -> Option<Keyword>
+    ensures { result ≡ keyword_in keywords word.now }
+{
+    Keyword::at(place(word)?)
+}
+
+// The number of a digit from `0` to `last`, which is `first` for `0`.
+fn digit(b: u8, last: u8, first: u8) -> Option<u8>
     requires { (last < 58) × (first < 200) }
-    ensures { result ≡ cond (between 48 last b) (b - 48 + first) 5 }
+    ensures { result ≡ cond (between 48 last b) (Some (b - 48 + first)) None }
 {
     if (b'0'..=last).contains(&b) {
-        b - b'0' + first
+        Some(b - b'0' + first)
     } else {
-        OTHER
+        None
     }
 }
 
-// The number of a numeral from 0 to 16 without leading zero, and 5 for any other word.
-fn numeral(word: &[u8]) -> u8
-    ensures { result ≡ numeral_of word.now }
+// The number of a numeral from 0 to 16 without leading zero.
+fn numeral(word: &[u8]) -> Option<u8>
+    ensures { result ≡ numeral_in word.now }
 {
     match word {
-        [b] => digit(*b, b'9', ZERO),
-        [b'1', b] => digit(*b, b'6', ZERO + 10),
-        _ => OTHER,
+        [b] => digit(*b, b'9', 0),
+        [b'1', b] => digit(*b, b'6', 10),
+        _ => None,
     }
 }
 
-// The number of a word whose first byte has the class c: a keyword's, 6 for a name, a numeral's, 5 for any other word.
-fn number(word: &[u8], class: u8) -> u8
+// The kind of a word whose first byte has this class.
+fn word_kind(word: &[u8], class: u8) -> TokenKind
     requires { (0 < length word.now) × (class ≡ class_of (get_or word.now 0 0)) }
-    ensures { result ≡ word_code word.now }
+    ensures { every worded_byte word.now ≡ true → result ≡ kind (word_token keywords word.now) }
 {
     if class != LETTER {
-        return numeral(word);
+        return match numeral(word) {
+            Some(n) => TokenKind::Numeral(n),
+            None => TokenKind::Other,
+        };
     }
     match keyword(word) {
-        Some(i) => FLOW + i as u8,
-        None if word.len() <= 24 => NAME,
-        None => OTHER,
+        Some(keyword) => TokenKind::Keyword(keyword),
+        None if word.len() <= 24 => TokenKind::Name,
+        None => TokenKind::Other,
     }
 }
 

@@ -23,7 +23,7 @@ use Rattle.tokens.proofs.Cut.{cut_is_token}
 use Rattle.tokens.proofs.Steps.{rest_end, rest_skip, rest_token, width_le}
 use Rattle.tokens.proofs.Spans.{first_of, whole_word}
 use Rattle.tokens.proofs.Tokens.{token, written, keywords_sound}
-use Rattle.tokens.proofs.WordCodes.{lettered_first}
+use Rattle.tokens.proofs.WordKinds.{lettered_first}
 use Rattle.grammar.specs.Tokens.{bit}
 use Rattle.grammar.proofs.Spelled.{wordy, writable, read_spelled}
 use Rattle.walked.specs.Rows.{tokens_from, past_word}

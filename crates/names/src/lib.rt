@@ -32,19 +32,19 @@ impl Row {
     pub fn is_flow(&self) -> bool
         ensures { result ≡ flow_code self.now.keyword }
     {
-        self.keyword == usize::from(lexer::FLOW)
+        self.keyword == usize::from(heads::FLOW)
     }
 
     pub fn is_leaf(&self) -> bool
         ensures { result ≡ leaf_code self.now.keyword }
     {
-        self.keyword == usize::from(lexer::LEAF)
+        self.keyword == usize::from(heads::LEAF)
     }
 
     pub fn is_loop(&self) -> bool
         ensures { result ≡ loop_code self.now.keyword }
     {
-        self.keyword == usize::from(lexer::LOOP)
+        self.keyword == usize::from(heads::LOOP)
     }
 
     // A leaf or a flow, which have names that differ.
@@ -58,7 +58,7 @@ impl Row {
     pub fn is_replicator(&self) -> bool
         ensures { result ≡ copying_code self.now.keyword }
     {
-        (usize::from(lexer::ALL)..=usize::from(lexer::ONE)).contains(&self.keyword)
+        (usize::from(heads::ALL)..=usize::from(heads::ONE)).contains(&self.keyword)
     }
 
     // "A leaf, flow, xor or one".
@@ -66,8 +66,8 @@ impl Row {
         ensures { result ≡ solid_code self.now.keyword }
     {
         self.is_titled()
-            || self.keyword == usize::from(lexer::XOR)
-            || self.keyword == usize::from(lexer::ONE)
+            || self.keyword == usize::from(heads::XOR)
+            || self.keyword == usize::from(heads::ONE)
     }
 
     // The depth, which is at most 12.

@@ -15,7 +15,7 @@ use Rattle.tokens.specs.Remarks.{blanks}
 use Rattle.tokens.specs.Words.{front}
 use Rattle.tokens.proofs.Front.{front_more, front_le}
 use Rattle.tokens.proofs.Remarks.{blanks_again, token_stands}
-use Rattle.tokens.proofs.WordCodes.{part_length}
+use Rattle.tokens.proofs.WordKinds.{part_length}
 use Rattle.grammar.specs.Printed.{printed, unblanked}
 use Rattle.grammar.proofs.Printing.{unblanked_front, kept, without_blanks}
 use Rattle.printer.specs.code.Over.{over}

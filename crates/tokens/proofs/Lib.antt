@@ -7,7 +7,8 @@ pub mod Steps
 pub mod Spans
 pub mod Foreign
 pub mod WordAt
-pub mod WordCodes
+pub mod WordKinds
 pub mod Worked
 pub mod Tokens
 pub mod Cut
+pub mod Shown

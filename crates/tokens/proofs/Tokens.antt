@@ -1,7 +1,7 @@
--- Laws of tokens: the tokens of texts are proper, their numbers are those of their bytes, and writing and reading a token are inverse to each other.
+-- Laws of tokens: the tokens of texts are proper, and writing and reading a token are inverse to each other.
 use mathlib.Core.Path.{◌≡◌, refl, sym, ◌∙◌, ap}
 use mathlib.Core.Logic.{◌⊎◌, inl, inr}
-use mathlib.Core.Bool.{Bool, true, false, ◌&&◌, ◌||◌, cond, and-true, true≢false, false≢true}
+use mathlib.Core.Bool.{Bool, true, false, ◌&&◌, ◌||◌, cond, false≢true}
 use mathlib.Core.List.{List, [], ◌∷◌, map}
 use Prim.Native.Nat.{ℕ, suc, ◌+◌, ◌≤◌, ◌<◌}
 use native.Mathlib.Nat.{add-zero, zero-add}
@@ -9,16 +9,18 @@ use native.Mathlib.Omega.{arith}
 use lib.Dec.{eqb}
 use lib.ListN.{length, get_or}
 use borrow.Author.Tests.{eqb-true, lt-ltb, ltb-true, le-leb}
+use Rattle.std.specs.Prelude.{Some, None}
 use Rattle.diagram.specs.Tree.{Name, all, some, one}
 use Rattle.diagram.specs.Names.{same}
 use Rattle.base.proofs.Truth.{clash, by_cases, and_l, and_i}
 use Rattle.base.proofs.Decided.{same_decides}
 use Rattle.tokens.specs.Classes.{between, spacing, class_of, foreign, worded, unbroken}
-use Rattle.tokens.specs.Words.{keywords, numerals, place_in, keyword, short, every, lettered, numeral as numeral_code, word_code, code as bytes_code}
+use Rattle.tokens.specs.Words.{keywords, numerals, place_in, every, lettered}
 use Rattle.tokens.specs.Spans.{Span, spans_of}
-use Rattle.tokens.specs.Token.{Sign, opening, closing, comma, colon, Keyword, flow, leaf, group, replicator, loop, sign, key, name, numeral, other, in_order, key_place, word_place, keyed, named, class_token, numeral_token, word_token, token_of, text_tokens, proper, all_proper, sign_bytes, bytes_of, sound, sign_code, code}
+use Rattle.tokens.specs.Token.{Sign, opening, closing, comma, colon, Keyword, flow, leaf, group, replicator, loop, sign, key, name, numeral, other, in_order, key_place, word_place, keyed, named, class_token, word_token, token_of, text_tokens, proper, all_proper, sign_bytes, bytes_of, sound, sign_class}
+use Rattle.tokens.specs.Kinds.{kind, token_kind}
 use Rattle.tokens.proofs.Below.{at_below}
-use Rattle.tokens.proofs.Between.{in_range, between_in}
+use Rattle.tokens.proofs.Between.{in_range}
 use Rattle.tokens.proofs.Remarks.{worded_unbroken}
 
 -- What a token's bytes can be: a word, or one byte that is no blank and starts no remark.
@@ -67,7 +69,7 @@ key_back loop = (omega arith, refl)
 
 -- A byte by its class: a sign, or none.
 data Classed (b c : ℕ) : Type 0 where
-  a_sign : (s : Sign) → class_token c ≡ sign s → (c ≡ sign_code s) × (1 ≤ c) → b ∷ [] ≡ sign_bytes s → Classed b c
+  a_sign : (s : Sign) → class_token c ≡ sign s → (c ≡ sign_class s) × (1 ≤ c) → b ∷ [] ≡ sign_bytes s → Classed b c
   no_sign : class_token c ≡ other → (c ≡ 0) ⊎ (5 ≤ c) → Classed b c
 
 classed : (b : ℕ) → Classed b (class_of b)
@@ -82,7 +84,7 @@ classed b =
     (up (eqb b 95) refl (inr (omega arith))
     (up (spacing b) refl (inr (omega arith)) (up (eqb b 35) refl (inr (omega arith)) (no_sign refl (inl refl))))))))))
   where
-    at : (v : ℕ) {c d : ℕ} (s : Sign) → class_token c ≡ sign s → (c ≡ sign_code s) × (1 ≤ c) → v ∷ [] ≡ sign_bytes s → Classed b d
+    at : (v : ℕ) {c d : ℕ} (s : Sign) → class_token c ≡ sign s → (c ≡ sign_class s) × (1 ≤ c) → v ∷ [] ≡ sign_bytes s → Classed b d
         → Classed b (cond (eqb b v) c d)
     at v {c} {d} s p q r h = chosen (eqb b v) c d (Classed b) (λ e. a_sign s p q (ap (λ (x : ℕ). x ∷ []) (eqb-true b v e) ∙ r)) (λ e. h)
 
@@ -162,50 +164,14 @@ whole_word [] h p = absurd (false≢true p)
 whole_word (b ∷ []) h p = worded_unbroken b p
 whole_word (b ∷ c ∷ w) h p = h
 
--- With document 01's words a token has the number of its bytes, unless it is a foreign byte, which has the number 0 and is wanted nowhere.
-word_spelled : (w : Name) → token w ≡ true → worded (get_or w 0 0) ≡ true → every worded w ≡ true
-word_spelled [] h p = absurd (false≢true h)
-word_spelled (b ∷ []) h p = and_i p refl
-word_spelled (b ∷ c ∷ w) h p = h
+-- A token has the kind of the token that its bytes are, unless it is a foreign byte, which has none and is wanted nowhere.
+pub known_kind : (w : Name) → foreign (get_or w 0 0) ≡ false → token_kind w ≡ Some (kind (token_of keywords w))
+unfolding token_kind
+known_kind w f = rw f
 
-named_short : (words : List Name) (w : Name) → lettered w ≡ true → every worded w ≡ true → keyed words w ≡ false → named words w ≡ short w
-unfolding named
-named_short words w l h q = rw (l, h, q) (and-true (short w))
-
-word_coded : (w : Name) → every worded w ≡ true → code (word_token keywords w) ≡ word_code w
-unfolding word_token word_code keyword keywords numeral_code
-word_coded w h = go (found keywords w)
-  where
-    plain : (l s : Bool) → lettered w ≡ l → short w ≡ s → keyed keywords w ≡ false → Found numerals w
-        → code (cond l (cond (named keywords w) (name w) other) (numeral_token (place_in numerals 0 17 w))) ≡ cond l (cond s 6 5) (place_in numerals 16 5 w)
-    plain true true q r z f = rw (named_short keywords w q h z, r)
-    plain true false q r z f = rw (named_short keywords w q h z, r)
-    plain false s q r z (nowhere f) = rw (f 0 17, f 16 5)
-    plain false s q r z (there i l f e) = rw (f 0 17, f 16 5, zero-add i, lt-ltb i 17 l)
-
-    go : Found keywords w → code (word_token keywords w) ≡ word_code w
-    go (nowhere f) = let z : keyed keywords w ≡ false = rw (f 0 9) in rw (z, f 7 0) (plain (lettered w) (short w) refl refl z (found numerals w))
-    go (there i l f e) = rw (f 0 9, f 7 0, zero-add i, lt-ltb i 9 l, lt-ltb 0 (7 + i) (omega arith)) (ap (λ (k : ℕ). 7 + k) (key_at i l))
-
--- A byte that stands in no word has no class past the signs'.
-no_word : (w : Name) → token w ≡ true → worded (get_or w 0 0) ≡ false → 5 ≤ class_of (get_or w 0 0) → ⊥
-no_word [] h p c = false≢true h
-no_word (b ∷ []) h p c = clash (between_in 5 7 (class_of b) c (in_range 0 7 (class_of b) h).1) p
-no_word (b ∷ d ∷ w) h p c = clash (and_l (worded b) (every worded (d ∷ w)) h) p
-
-pub known_code : (w : Name) → token w ≡ true → foreign (get_or w 0 0) ≡ false → bytes_code w ≡ code (token_of keywords w)
-unfolding token_of bytes_code
-known_code w h f =
-    by_cases (worded (get_or w 0 0)) (λ p. rw p (sym (word_coded w (word_spelled w h p)))) (λ p. sign_at p (classed (get_or w 0 0)))
-  where
-    sign_at : worded (get_or w 0 0) ≡ false → Classed (get_or w 0 0) (class_of (get_or w 0 0)) → bytes_code w ≡ code (token_of keywords w)
-    sign_at p (a_sign s e c b) = rw (p, e) c.0
-    sign_at p (no_sign e (inl c)) = absurd (true≢false (rw c at f))
-    sign_at p (no_sign e (inr c)) = absurd (no_word w h p c)
-
-pub foreign_code : (words : List Name) (w : Name) → foreign (get_or w 0 0) ≡ true → (bytes_code w ≡ 0) × (token_of words w ≡ other)
-unfolding token_of bytes_code
-foreign_code words w f = let z : class_of (get_or w 0 0) ≡ 0 = omega (arith, in_range 0 0 (class_of (get_or w 0 0)) f) in rw z (refl, refl)
+pub foreign_kind : (words : List Name) (w : Name) → foreign (get_or w 0 0) ≡ true → (token_kind w ≡ None) × (token_of words w ≡ other)
+unfolding token_kind token_of
+foreign_kind words w f = let z : class_of (get_or w 0 0) ≡ 0 = omega (arith, in_range 0 0 (class_of (get_or w 0 0)) f) in (rw f, rw z)
 
 -- Document 01's words are sound.
 pub keywords_sound : sound keywords ≡ true

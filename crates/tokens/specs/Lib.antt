@@ -4,6 +4,7 @@ pub mod Words
 pub mod Parts
 pub mod Spans
 pub mod Token
+pub mod Kinds
 pub mod Rest
 pub mod Scanned
 pub mod Worked

@@ -1,6 +1,5 @@
--- Document 01, "The text": the tokens of a text as the grammar knows them, which of them a word is, how each is written, and the number by which
--- the code knows it. The nine words that are keywords are given: document 01's are `tokens.specs.Words.keywords`.
-use Rattle.std.specs.Prelude.{Bool, true, not, ◌&&◌, cond, List, [], ◌∷◌, map, ℕ, ◌+◌, eqb, ltb, leb, length, get_or}
+-- Document 01, "The text": the tokens of a text as the grammar knows them, which of them a word is, and how each is written. The nine words that are keywords are given: document 01's are `tokens.specs.Words.keywords`.
+use Rattle.std.specs.Prelude.{Bool, true, false, not, ◌&&◌, cond, List, [], ◌∷◌, map, ℕ, ◌+◌, eqb, ltb, leb, length, get_or, Option, Some, None}
 use Rattle.base.specs.Text.{bytes}
 use Rattle.diagram.specs.Tree.{Name, Way, all, some, one}
 use Rattle.diagram.specs.Names.{differ}
@@ -120,17 +119,27 @@ all_lettering (w ∷ ws) = lettering w && all_lettering ws
 unfoldable pub sound : List Name → Bool
 sound words = eqb (length words) 9 && (all_lettering words && differ words)
 
--- The number by which the code knows a token: 1 to 4 the signs, 5 what is wanted nowhere, 6 a name, 7 to 15 the keywords, 16 to 32 the
--- numerals 0 to 16.
-abbrev pub sign_code : Sign → ℕ
-sign_code opening = 1
-sign_code closing = 2
-sign_code comma = 3
-sign_code colon = 4
+-- What is asked of a token: is it this sign, a name. The class of a sign's byte tells the sign.
+abbrev pub sign_class : Sign → ℕ
+sign_class opening = 1
+sign_class closing = 2
+sign_class comma = 3
+sign_class colon = 4
 
-abbrev pub code : Token → ℕ
-code (sign s) = sign_code s
-code (key k) = 7 + key_place k
-code (name w) = 6
-code (numeral n) = 16 + n
-code other = 5
+abbrev pub is_sign : Sign → Token → Bool
+is_sign s (sign r) = eqb (sign_class r) (sign_class s)
+is_sign s (key k) = false
+is_sign s (name w) = false
+is_sign s (numeral n) = false
+is_sign s other = false
+
+abbrev pub is_name : Token → Bool
+is_name (sign r) = false
+is_name (key k) = false
+is_name (name w) = true
+is_name (numeral n) = false
+is_name other = false
+
+-- The number that a word stands for, if it is a numeral.
+unfoldable pub numeral_in : Name → Option ℕ
+numeral_in w = cond (ltb (place_in numerals 0 17 w) 17) (Some (place_in numerals 0 17 w)) None

@@ -1,13 +1,15 @@
 #![tactic(auto)]
 
 ghost use Rattle.std.specs.Prelude.{◌≡◌, ◌<◌};
-ghost use Rattle.grammar.specs.Machine.{root, member, child, flow_parts, group_parts, loop_parts};
-ghost use Rattle.grammar.specs.code.Coded.{coded_parts};
+ghost use Rattle.tokens.specs.Kinds.{shown_key};
+ghost use Rattle.grammar.specs.Machine.{root, member, child, flow_parts, group_parts, loop_parts, parts};
 ghost use Rattle.walked.specs.Walk.{ending};
 ghost use Rattle.walked.specs.code.Readers.{Fills, Opens, told};
 
 use base::{Reason, Refusal};
+use grammar::Place;
 use heads::Parser;
+use tokens::{Keyword, Sign};
 use walked::Position;
 
 // Figure 5.2 of the thesis has four lines: flow, child, cons-child and constructor. Each has its reader here, in the figure's order, and each reader tries
@@ -45,15 +47,8 @@ fn read_child(
 ) -> Result<Position, Refusal>
     ensures { Opens parser.now.lexer.text.now child depth p.nodes p.at rows.old result rows.new }
 {
-    let (keyword, p) = parser.node(p, lexer::LOOP, depth, rows)?;
-    let below = depth - 1;
-    if keyword == lexer::LEAF {
-        return parser.leaf(p, rows);
-    }
-    if lexer::LEAF < keyword {
-        return constructor(parser, p, keyword, below, rows);
-    }
-    flow(parser, p, below, rows)
+    let (keyword, p) = parser.node(p, Place::Child, depth, rows)?;
+    of_keyword(parser, p, keyword, depth - 1, rows)
 }
 
 // Figure 5.2, cons-child, which document 01 calls a member: leaf, flow.
@@ -66,32 +61,31 @@ fn read_member(
 ) -> Result<Position, Refusal>
     ensures { Opens parser.now.lexer.text.now member depth p.nodes p.at rows.old result rows.new }
 {
-    let (keyword, p) = parser.node(p, lexer::LEAF, depth, rows)?;
-    if keyword == lexer::LEAF {
-        return parser.leaf(p, rows);
-    }
-    flow(parser, p, depth - 1, rows)
+    let (keyword, p) = parser.node(p, Place::Member, depth, rows)?;
+    of_keyword(parser, p, keyword, depth - 1, rows)
 }
 
-// Figure 5.2, constructor, after the keyword: and, or, xor over members; all, some, one with a par over a member; loop over a member.
+// What follows the keyword of a node. Figure 5.2, constructor: and, or, xor over members; all, some, one with a par over a member; loop over a member.
 #[cycle(figure)]
-fn constructor(
+fn of_keyword(
     parser: &Parser,
     p: Position,
-    keyword: u8,
+    keyword: Keyword,
     depth: usize,
     rows: &mut [u16; 2056],
 ) -> Result<Position, Refusal>
-    ensures { 8 < keyword → Fills parser.now.lexer.text.now (coded_parts keyword depth) p.nodes p.at rows.old result rows.new }
+    ensures { Fills parser.now.lexer.text.now (parts (shown_key keyword) depth) p.nodes p.at rows.old result rows.new }
 {
-    if keyword <= lexer::XOR {
-        return group(parser, p, depth, rows);
+    match keyword {
+        Keyword::Flow => flow(parser, p, depth, rows),
+        Keyword::Leaf => parser.leaf(p, rows),
+        Keyword::And | Keyword::Or | Keyword::Xor => group(parser, p, depth, rows),
+        Keyword::All | Keyword::Some | Keyword::One => {
+            let p = parser.copies(p, rows)?;
+            body(parser, p, depth, rows)
+        }
+        Keyword::Loop => body(parser, p, depth, rows),
     }
-    if keyword <= lexer::ONE {
-        let p = parser.copies(p, rows)?;
-        return body(parser, p, depth, rows);
-    }
-    body(parser, p, depth, rows)
 }
 
 // Figure 5.2, constructor, the first way: after and, or, xor two members, and others up to the `)`.
@@ -104,7 +98,7 @@ fn group(
 ) -> Result<Position, Refusal>
     ensures { Fills parser.now.lexer.text.now (group_parts depth) p.nodes p.at rows.old result rows.new }
 {
-    let p = parser.sign(p, lexer::OPENING)?;
+    let p = parser.sign(p, Sign::Opening)?;
     let mut p = read_member(parser, p, depth, rows)?;
     loop {
         p = read_member(parser, p, depth, rows)?;
@@ -124,9 +118,9 @@ fn body(
 ) -> Result<Position, Refusal>
     ensures { Fills parser.now.lexer.text.now (loop_parts depth) p.nodes p.at rows.old result rows.new }
 {
-    let p = parser.sign(p, lexer::OPENING)?;
+    let p = parser.sign(p, Sign::Opening)?;
     let p = read_member(parser, p, depth, rows)?;
-    parser.sign(p, lexer::CLOSING)
+    parser.sign(p, Sign::Closing)
 }
 
 // Figure 5.2, flow, with the keyword: the root.
@@ -134,8 +128,8 @@ fn read_root(parser: &Parser, rows: &mut [u16; 2056]) -> Result<Position, Refusa
     ensures { Opens parser.now.lexer.text.now root 12 0 0 rows.old result rows.new }
 {
     let start = Position { at: 0, nodes: 0 };
-    let (_, p) = parser.node(start, lexer::FLOW, 12, rows)?;
-    flow(parser, p, 11, rows)
+    let (keyword, p) = parser.node(start, Place::Root, 12, rows)?;
+    of_keyword(parser, p, keyword, 11, rows)
 }
 
 // The text is one flow, and nothing stands after it: its nodes are written over the rows, from the second on, and counted.

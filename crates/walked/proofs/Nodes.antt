@@ -12,11 +12,11 @@ use Rattle.diagram.specs.declared.Kind.{Kind}
 use Rattle.diagram.specs.declared.Kind.TheVariants.{Flow as FlowNode, Leaf, Loop}
 use Rattle.tokens.specs.Classes.{between}
 use Rattle.tokens.specs.Words.{keywords}
-use Rattle.tokens.specs.Token.{opening, closing, comma, colon, Keyword, Token, key, numeral, code}
+use Rattle.tokens.specs.Token.{opening, closing, comma, colon, Keyword, Token, key, numeral}
 use Rattle.grammar.specs.Named.{all_named}
 use Rattle.grammar.specs.Tokens.{bit, pars_tokens, ref_tokens, flow_tokens, children_tokens, child_tokens, member_tokens, members_tokens}
 use Rattle.grammar.specs.Machine.{Place, member, child, allows, Want, sign, number, params, node, more, others, ref, parts}
-use Rattle.walked.specs.Walk.{State, state, store, begun, waiting}
+use Rattle.walked.specs.Walk.{State, state, store, begun, waiting, row_code}
 use Rattle.walked.specs.Rows.{mark, kind_code, Row}
 use Rattle.walked.proofs.Filled.{Room, Holds, Head, head_store, head_begun, Part, First, part_none, part_seq, part_plain, part_marked, first_node}
 use Rattle.walked.proofs.Past.{start_of, Here, past_key, past_token, past_bit, key_there}
@@ -24,7 +24,7 @@ use Rattle.walked.proofs.Row.{no_name, one_name, with_pars, row_told}
 use Rattle.walked.proofs.Track.{past_pars, track, closes, ref_step, size_step, pars_step, open_step, name_step, more_closing, others_closing, more_node, others_node}
 
 -- The keywords and the kinds of a way.
-group_code : (y : Way) → code (key (Keyword.group y)) ≡ kind_code (group_kind y)
+group_code : (y : Way) → row_code (key (Keyword.group y)) ≡ kind_code (group_kind y)
 group_code all = refl
 group_code some = refl
 group_code one = refl
@@ -34,7 +34,7 @@ group_unnamed all = (refl, refl)
 group_unnamed some = (refl, refl)
 group_unnamed one = (refl, refl)
 
-replicator_code : (y : Way) (z : ℕ) → code (key (Keyword.replicator y)) ≡ kind_code (replicator_kind y z)
+replicator_code : (y : Way) (z : ℕ) → row_code (key (Keyword.replicator y)) ≡ kind_code (replicator_kind y z)
 replicator_code all z = refl
 replicator_code some z = refl
 replicator_code one z = refl
@@ -217,7 +217,7 @@ module _ (text : List ℕ) where
         (past_token text refl (past_token text refl (past_key text h))) E
 
     -- A constructor with members but no name.
-    bare_walked : (w : Keyword) (kind : Kind) (vs : List Want) (ms : Members) (us : List Token) → code (key w) ≡ kind_code kind
+    bare_walked : (w : Keyword) (kind : Kind) (vs : List Want) (ms : Members) (us : List Token) → row_code (key w) ≡ kind_code kind
         → parts w (d - 1) ≡ sign opening ∷ vs → has_name kind ≡ false → size_of kind ≡ 0 → MembersPass around (d - 1) (suc x) vs ms us (suc n) m
         → Walks (node child d) (λ s. n ∷ s) (key w ∷ Token.sign opening ∷ members_tokens ms (Token.sign closing ∷ us)) us
         (λ b hs. text_node n kind b x [] ∷ members_tree_nodes own ms around (suc x) (suc n) hs) n m
@@ -265,7 +265,7 @@ module _ (text : List ℕ) where
         (λ s ws. rw (← replicator_code y z)
         (name_step text child d n (Keyword.replicator y) refl H few
         (sign colon ∷ number 1 16 ∷ sign closing ∷ sign opening ∷ vs) ws rows s k ts₁ par refl
-        ∙ size_step text (vs ++ ws) (suc n) (named_rows rows k (code (key (Keyword.replicator y))) e) (n ∷ s) (suc (suc (suc k))) z ts g))
+        ∙ size_step text (vs ++ ws) (suc n) (named_rows rows k (row_code (key (Keyword.replicator y))) e) (n ∷ s) (suc (suc (suc k))) z ts g))
         (past_token text refl (past_token text refl (past_token text refl (past_token text refl h₁)))) A
 
     pub flow_walks : (place : Place) (t : Name) (ps : List Name) (sw : Bool) (c : Child) (r : Bool) (cs : Children) (us : List Token)

@@ -13,10 +13,10 @@ use Rattle.diagram.specs.Tree.{Name}
 use Rattle.tokens.specs.Words.{keywords}
 use Rattle.tokens.specs.Spans.{Span}
 use Rattle.tokens.specs.Classes.{between}
-use Rattle.tokens.specs.Token.{opening, closing, comma, colon, Keyword, Token, key, name, numeral, token_of, code}
+use Rattle.tokens.specs.Token.{opening, closing, comma, colon, Keyword, Token, key, name, numeral, token_of}
 use Rattle.grammar.specs.Tokens.{bit, pars_tokens, ref_tokens}
 use Rattle.grammar.specs.Machine.{Place, member, child, allows, Want, sign, named, number, params, node, more, others, Move, off, big, push, ref, parts, full, expand}
-use Rattle.walked.specs.Walk.{State, state, store, begun, waiting, beginning, naming, effect, End, whole, stop, proceed, walk}
+use Rattle.walked.specs.Walk.{State, state, store, begun, waiting, beginning, naming, effect, row_code, End, whole, stop, proceed, walk}
 use Rattle.walked.specs.Rows.{mark}
 use Rattle.walked.proofs.Past.{start_of}
 
@@ -99,7 +99,7 @@ module _ (text : List ℕ) where
       (k : ℕ) (ts : List Token) where
     pub open_step : parts w (d - 1) ≡ sign opening ∷ vs
         → track (node place d ∷ ws) n (state rows s) k (key w ∷ Token.sign opening ∷ ts)
-        ≡ track (vs ++ ws) (suc n) (state (begun rows n (code (key w)) (pl k) d) (waiting place n s)) (suc (suc k)) ts
+        ≡ track (vs ++ ws) (suc n) (state (begun rows n (row_code (key w)) (pl k) d) (waiting place n s)) (suc (suc k)) ts
     unfolding track expand effect
     open_step p =
         rw (allowed, ne_eqb d 0 (λ z. omega arith), lt-leb 256 n few, p, append-nil vs, add-one n, add-zero (suc n))
@@ -108,7 +108,7 @@ module _ (text : List ℕ) where
     pub name_step : (t : Name) → parts w (d - 1) ≡ sign opening ∷ named ∷ vs
         → track (node place d ∷ ws) n (state rows s) k (key w ∷ Token.sign opening ∷ name t ∷ ts)
         ≡ track (vs ++ ws) (suc n)
-        (naming (suc n) (pl (suc (suc k))) (pl (suc (suc k)) + length t) (state (begun rows n (code (key w)) (pl k) d) (waiting place n s)))
+        (naming (suc n) (pl (suc (suc k))) (pl (suc (suc k)) + length t) (state (begun rows n (row_code (key w)) (pl k) d) (waiting place n s)))
         (suc (suc (suc k))) ts
     unfolding track expand effect
     name_step t p =
@@ -128,7 +128,7 @@ module _ (text : List ℕ) where
     unfolding track expand effect
     more_node w =
         begin_after (full d n) (parts w (d - 1)) (ref ++ (more d ∷ [])) ws (pl k)
-        (λ u vs. track vs (n + u) (beginning child d n (code (key w)) (pl k) st) (suc k) ts)
+        (λ u vs. track vs (n + u) (beginning child d n (row_code (key w)) (pl k) st) (suc k) ts)
 
     pub others_node : (w : Keyword) → allows member w ≡ true
         → track (others d ∷ ws) n st k (key w ∷ ts) ≡ track (node member d ∷ others d ∷ ws) n st k (key w ∷ ts)
@@ -136,4 +136,4 @@ module _ (text : List ℕ) where
     others_node w a =
         rw a
         (begin_after (full d n) (parts w (d - 1)) (others d ∷ []) ws (pl k)
-        (λ u vs. track vs (n + u) (beginning member d n (code (key w)) (pl k) st) (suc k) ts))
+        (λ u vs. track vs (n + u) (beginning member d n (row_code (key w)) (pl k) st) (suc k) ts))

@@ -4,7 +4,7 @@ use Rattle.base.specs.declared.Reason.{Reason}
 use Rattle.diagram.specs.Tree.{Name}
 use Rattle.tokens.specs.Words.{keywords}
 use Rattle.tokens.specs.Spans.{Span}
-use Rattle.tokens.specs.Token.{closing, Token, key, name, numeral, other, token_of, code}
+use Rattle.tokens.specs.Token.{closing, Token, key, name, numeral, other, key_place, token_of}
 use Rattle.tokens.specs.Rest.{rest}
 use Rattle.grammar.specs.Machine.{is_sign, is_name, Place, root, member, child, Want, sign, named, number, params, param, node, more, others, Move, off, big, push, depths, Outcome, expand}
 use Rattle.grammar.specs.Machine as Machine
@@ -65,6 +65,14 @@ value (name w) = 0
 value (numeral n) = n
 value other = 0
 
+-- The number of a keyword in a row.
+abbrev pub row_code : Token → ℕ
+row_code (Token.sign s) = 0
+row_code (key k) = 7 + key_place k
+row_code (name w) = 0
+row_code (numeral n) = 0
+row_code other = 0
+
 -- What a token, at the place p, writes where it is taken for a want and n nodes stand before it.
 unfoldable pub effect : Want → ℕ → Token → ℕ → State → State
 effect (sign s) n t p st = st
@@ -72,9 +80,9 @@ effect named n t p st = naming n p (p + length (spelled t)) st
 effect (number a b) n t p st = cond (eqb a 0) (marking (value t) st) (sizing n (value t) st)
 effect params n t p st = st
 effect param n t p st = cond (is_name t) st (switching n (value t) st)
-effect (node place d) n t p st = beginning place d n (code t) p st
-effect (more d) n t p st = cond (is_sign closing t) st (beginning child d n (code t) p st)
-effect (others d) n t p st = cond (is_sign closing t) st (beginning member d n (code t) p st)
+effect (node place d) n t p st = beginning place d n (row_code t) p st
+effect (more d) n t p st = cond (is_sign closing t) st (beginning child d n (row_code t) p st)
+effect (others d) n t p st = cond (is_sign closing t) st (beginning member d n (row_code t) p st)
 
 -- What stands at the end: a text read, with its number of nodes and their rows; or a refusal at a place.
 pub data End : Type 0 where

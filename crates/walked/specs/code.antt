@@ -1,2 +1,2 @@
-pub mod Coded
+pub mod Kinds
 pub mod Readers

@@ -1,15 +1,14 @@
--- `lexer::keyword` meets its contract: the same comparisons in the same order.
-use Rattle.std.proofs.Common.{◌∙◌, ℕ, List, Bor, eqb, refl, rules, tests}
-use Rattle.std.specs.Cmp.Lexicographic.{pointwise}
-use Rattle.std.proofs.lemmas.Iterator.{YieldsList-from_slice}
-use Rattle.std.proofs.lemmas.Iterator.Search.{position_from_yields_List}
+-- `lexer::keyword` meets its contract: the place tells the keyword.
+use Rattle.std.proofs.Common.{◌∙◌, sym, ap}
+use native.Mathlib.Nat.{zero-add}
+use Rattle.tokens.specs.Kinds.{key_at}
 use Rattle.tokens.specs.Words.{keywords}
-use Rattle.lexer.proofs.Keywords.{pointwise_same, first_alike}
+use Rattle.lexer.proofs.Keywords.{found_at, not_found}
 use Rattle.lexer.proofs.keyword.Goals as goal
 
+pub returns-in_err-place : goal.returns-in_err-place
+returns-in_err-place c =
+    c.from_residual.ensures ∙ sym (ap key_at (not_found c.args.word.now keywords 0 9 c.in_err-place.ensures))
+
 pub returns : goal.returns
-unfolding keywords
-returns c =
-    let w = c.args.word.now in
-    let p = position_from_yields_List (λ k. pointwise eqb w k.now) _ _ c.position.result c.position.ensures.ran (YieldsList-from_slice _ c.iter.ensures.rest) (λ x b q k. search (rules, tests)) in
-    p ∙ first_alike {A = Bor (List ℕ)} (λ k. k.now) (λ k. pointwise eqb w k.now) w (λ k. pointwise_same w k.now) c.iter.ensures.rest keywords refl
+returns c = c.at.ensures ∙ ap key_at (sym (zero-add _) ∙ (found_at c.args.word.now keywords 0 9 _ c.in_ok-place.ensures).1)

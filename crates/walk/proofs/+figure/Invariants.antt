@@ -12,8 +12,8 @@ decreases-body l = l.depth * 3 + 1
 abbrev pub decreases-read_child : goal.decreases-read_child
 decreases-read_child l = l.depth * 3
 
-abbrev pub decreases-constructor : goal.decreases-constructor
-decreases-constructor l = l.depth * 3 + 2
+abbrev pub decreases-of_keyword : goal.decreases-of_keyword
+decreases-of_keyword l = l.depth * 3 + 2
 
 abbrev pub decreases-flow : goal.decreases-flow
 decreases-flow l = l.depth * 3 + 1

@@ -1,17 +1,21 @@
 -- What a reader says of the machine along a text: for the contracts of private functions.
-use Rattle.std.specs.Prelude.{◌≡◌, List, [], ◌∷◌, ◌++◌, ℕ, ◌-◌, ◌≤◌, ◌<◌, length, Option, Some, None, Result, Ok, Err}
+use Rattle.std.specs.Prelude.{◌≡◌, true, false, List, [], ◌∷◌, ◌++◌, ℕ, ◌-◌, ◌≤◌, ◌<◌, length, Option, Some, None, Result, Ok, Err}
 use Rattle.base.specs.declared.Refusal.{Refusal}
 use Rattle.tokens.specs.Rest.{Next}
+use Rattle.tokens.specs.Token.{closing}
+use Rattle.tokens.specs.Kinds.{shown_key, shown}
+use Rattle.tokens.specs.declared.Keyword.{Keyword}
+use Rattle.tokens.specs.declared.Sign.TheVariants.{Closing as ClosingSign}
+use Rattle.tokens.specs.declared.TokenKind.{TokenKind}
 use Rattle.tokens.specs.declared.Lexeme.{Lexeme}
-use Rattle.grammar.specs.Machine.{Place, Want, node, ref}
-use Rattle.grammar.specs.code.Coded.{top, coded_parts}
+use Rattle.grammar.specs.Machine.{is_sign, Place, allows, Want, node, ref, parts}
 use Rattle.walked.specs.Walk.{State, state, waiting, End, whole, stop, from}
 use Rattle.walked.specs.declared.Position.{Position}
 
 -- Whether a `)` comes next: the position past it.
 pub record Closing (text : List ℕ) (at : ℕ) (r : Option ℕ) : Type 0 where
-  pub shut : (e : ℕ) → r ≡ Some e → Next text at (record { code = 2; start = e - 1; end = e })
-  pub another : r ≡ None → (t : Lexeme) × (Next text at t × (t.code ≡ 2 → ⊥))
+  pub shut : (e : ℕ) → r ≡ Some e → Next text at (record { kind = Some (TokenKind.Sign ClosingSign); start = e - 1; end = e })
+  pub another : r ≡ None → (t : Lexeme) × (Next text at t × (is_sign closing (shown t.kind) ≡ false))
 
 -- What a reader answers: the position from which the next token is looked for, with the number of nodes read so far, or the refusal.
 abbrev pub Step : Type 0
@@ -49,12 +53,12 @@ Opens text place d n at rows r rows' = (s : List ℕ) → Writes text (node plac
 abbrev pub Marks : List ℕ → ℕ → ℕ → ℕ → List ℕ → Step → List ℕ → Type 0
 Marks text i n at rows r rows' = (s : List ℕ) → Writes text ref n at (state rows (i ∷ s)) r (state rows' s)
 
--- A node's keyword t, where d depths are left for the node and n nodes stand before it: it is refused, or its row is begun and its parts are wanted, at
--- each position where it comes next and in each place whose last keyword is `last`.
-pub record Begins (t : Lexeme) (last d n : ℕ) (rows : List ℕ) (r : Step) (rows' : List ℕ) : Type 0 where
-  pub taken : (p : Position) → r ≡ Ok p → (7 ≤ t.code) × (t.code ≤ last) × (0 < d)
-  pub turns : {text : List ℕ} {at : ℕ} (place : Place) → top place ≡ last → Next text at t → (s : List ℕ)
-      → Turns text (node place d ∷ []) n at (state rows s) r (coded_parts t.code (d - 1)) (state rows' (waiting place n s))
+-- The keyword of a node, where d depths are left for the node and n nodes stand before it: it is refused, or its row is begun and its parts are wanted.
+pub record Begins (text : List ℕ) (place : Place) (d n at : ℕ) (rows : List ℕ) (r : Result (Keyword × Position) Refusal) (rows' : List ℕ) : Type 0 where
+  pub refused : (x : Refusal) → r ≡ Err x → (s : List ℕ) → Writes text (node place d ∷ []) n at (state rows s) (Err x) (state rows' s)
+  pub taken : (k : Keyword) (p : Position) → r ≡ Ok (k, p) → (allows place (shown_key k) ≡ true) × (0 < d)
+  pub turns : (k : Keyword) (p : Position) → r ≡ Ok (k, p) → (s : List ℕ)
+      → Turns text (node place d ∷ []) n at (state rows s) (Ok p) (parts (shown_key k) (d - 1)) (state rows' (waiting place n s))
 
 -- What the answer for a whole text and the rows after it say of the end.
 abbrev pub told : Result ℕ Refusal → List ℕ → End

@@ -1,6 +1,4 @@
 -- `heads::Parser::flow_head` meets its contract: a name, pars and sw, and the `(` before the children.
-use Rattle.std.proofs.Common.{refl}
-use Rattle.tokens.specs.Token.{opening}
 use Rattle.walked.proofs.Laws.{starts, halts, goes, ends, passed}
 use Rattle.heads.proofs.Parser.flow_head.Goals as goal
 
@@ -11,4 +9,4 @@ pub returns-in_err-p-2 : goal.returns-in_err-p-2
 returns-in_err-p-2 c s = halts (c.in_err-p-2.ensures s) (passed c.from_residual-in_err-p-2.ensures) _ (goes (c.in_ok-p.ensures s) _ starts)
 
 pub returns : goal.returns
-returns c s = ends (c.sign.ensures opening refl _) (goes (c.in_ok-p-2.ensures s) _ (goes (c.in_ok-p.ensures s) _ starts))
+returns c s = ends (c.sign.ensures _) (goes (c.in_ok-p-2.ensures s) _ (goes (c.in_ok-p.ensures s) _ starts))

@@ -1,12 +1,13 @@
 -- `heads::Parser::name` meets its contract: a name, or another token.
-use Rattle.walked.specs.code.Coded.{coded_effect}
+use Rattle.std.proofs.Common.{sym}
+use Rattle.walked.specs.code.Kinds.{kind_effect}
 use Rattle.walked.proofs.Laws.{starts, closes, off_grammar, name_takes, name_other}
 use Rattle.heads.proofs.Parser.name.Goals as goal
 
-pub returns-then-t-ne-NAME : goal.returns-then-t-ne-NAME
-returns-then-t-ne-NAME c s = off_grammar starts c.next-t.ensures c.at.ensures (name_other _ _ c.if-t-ne-NAME.true)
+pub returns-then-not-is_name : goal.returns-then-not-is_name
+returns-then-not-is_name c s = off_grammar starts c.next-t.ensures c.at.ensures (name_other _ _ (sym c.if-not-is_name.ensures))
 
 pub returns : goal.returns
-unfolding coded_effect
+unfolding kind_effect
 returns c s =
-    rw (c.put-2.ensures, c.put.ensures) (closes starts c.next-t.ensures (name_takes _ _ c.if-t-ne-NAME.false))
+    rw (c.put-2.ensures, c.put.ensures) (closes starts c.next-t.ensures (name_takes _ _ (sym c.if-not-is_name.ensures)))

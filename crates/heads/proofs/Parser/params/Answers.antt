@@ -1,37 +1,31 @@
 -- `heads::Parser::params` meets its contract: comma by comma, up to the sw.
-use Rattle.std.proofs.Common.{refl, arith}
-use Rattle.tokens.specs.Token.{closing}
-use Rattle.walked.specs.code.Coded.{coded_effect}
-use Rattle.walked.proofs.Laws.{ends, off_grammar, taken, comma_takes, comma_other, par_taken, sw_taken, passed}
-use Rattle.heads.proofs.Values.{sw_off}
+use Rattle.std.proofs.Common.{sym, arith}
+use Rattle.tokens.specs.Token.{comma}
+use Rattle.walked.proofs.Laws.{ends, off_grammar, comma_taken, comma_other, par_taken, sw_taken, sw_off, sign_some, name_some, passed}
 use Rattle.heads.proofs.Parser.params.Goals as goal
 
-pub returns-then-comma-ne-COMMA : goal.returns-then-comma-ne-COMMA
-returns-then-comma-ne-COMMA c s = off_grammar (c.loop-p.invariant s) c.next-comma.ensures c.at.ensures (comma_other _ _ c.if-comma-ne-COMMA.true)
+pub returns-then-not-is_sign : goal.returns-then-not-is_sign
+returns-then-not-is_sign c s = off_grammar (c.loop-p.invariant s) c.next-comma.ensures c.at.ensures (comma_other _ _ (sym c.if-not-is_sign.ensures))
 
 pub returns-in_err-switch : goal.returns-in_err-switch
-unfolding coded_effect
 returns-in_err-switch c s =
     let e = c.in_err-switch.ensures.err in
-    let l = taken (c.loop-p.invariant s) c.next-comma.ensures (comma_takes _ _ c.if-comma-ne-COMMA.false) in
-    rw (passed c.from_residual.ensures) (off_grammar l c.next-t.ensures e.0 (sw_off _ _ c.if-t-ne-NAME.true e.1))
+    let l = comma_taken c.next-comma.ensures (sym c.if-not-is_sign.ensures) (c.loop-p.invariant s) in
+    rw (passed c.from_residual.ensures) (off_grammar l c.next-t.ensures e.0 (sw_off _ _ (sym c.if-not-is_name.ensures) e.1))
 
-pub returns-then-t-ne-NAME : goal.returns-then-t-ne-NAME
-unfolding coded_effect
-returns-then-t-ne-NAME c s =
+pub returns-then-not-is_name : goal.returns-then-not-is_name
+returns-then-not-is_name c s =
     let v = c.in_ok-switch.ensures.ok in
-    let l = taken (c.loop-p.invariant s) c.next-comma.ensures (comma_takes _ _ c.if-comma-ne-COMMA.false) in
-    rw (c.put.ensures, v.2)
-    (ends (c.sign.ensures closing refl _) (sw_taken c.next-t.ensures l c.if-t-ne-NAME.true v.0 v.1))
+    let l = comma_taken c.next-comma.ensures (sym c.if-not-is_sign.ensures) (c.loop-p.invariant s) in
+    rw c.put.ensures (ends (c.sign.ensures _) (sw_taken c.next-t.ensures _ v.0 v.2 l))
 
 pub loop-p-smaller : goal.loop-p-smaller
 loop-p-smaller c =
-    let a = c.next-comma.ensures.onward (λ z. omega arith) in
-    let b = c.next-t.ensures.onward (λ z. omega arith) in
+    let a = c.next-comma.ensures.onward (sign_some comma c.next-comma.result.kind (sym c.if-not-is_sign.ensures)) in
+    let b = c.next-t.ensures.onward (name_some c.next-t.result.kind (sym c.if-not-is_name.ensures)) in
     omega arith
 
 pub loop-p-preserved : goal.loop-p-preserved
-unfolding coded_effect
 loop-p-preserved c s =
-    let l = taken (c.loop-p.invariant s) c.next-comma.ensures (comma_takes _ _ c.if-comma-ne-COMMA.false) in
-    par_taken c.next-t.ensures l c.if-t-ne-NAME.false
+    let l = comma_taken c.next-comma.ensures (sym c.if-not-is_sign.ensures) (c.loop-p.invariant s) in
+    par_taken c.next-t.ensures (sym c.if-not-is_name.ensures) l
