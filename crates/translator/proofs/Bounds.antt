@@ -1,6 +1,6 @@
 -- Property 1, for translation, and that a call has one answer; every accepted text is translated.
 use mathlib.Core.Path.{◌≡◌, refl, sym, ap, subst, ◌∙◌}
-use mathlib.Core.List.{List, [], ◌∷◌, cons≢nil, head-eq_of_cons-eq}
+use mathlib.Core.List.{List, [], ◌∷◌, cons≢nil}
 use Prim.Native.Nat.{ℕ, ◌≤◌, ◌<◌}
 use native.Mathlib.Omega.{arith}
 use lib.Dec.{ltb}
@@ -8,7 +8,11 @@ use lib.ListN.{length, take}
 use lib.Seq.{length-take-le}
 use borrow.Author.Tests.{ltb-true, ltb-false}
 use Rattle.base.specs.Fill.{fill}
-use Rattle.base.specs.Reports.{Report, result}
+use Rattle.std.specs.Prelude.{Ok, Err}
+use Rattle.base.specs.Refusals.{number, refusal as refusal_at}
+use Rattle.base.specs.Reports.{Report, Written as Answer, result, refusal as refusal_report}
+use Rattle.base.specs.declared.Reason.{Reason as Why}
+use Rattle.base.proofs.Reports.{refusal_told, written_told}
 use Rattle.base.proofs.Filled.{fill_length, fill_front, fill_past, fill_none, fill_taken}
 use Rattle.base.proofs.Truth.{by_cases}
 use Rattle.diagram.specs.Tree.{Flow}
@@ -21,27 +25,22 @@ use Rattle.layout.proofs.Sentences.{sound_exactly}
 use Rattle.translator.specs.Reports.{report}
 use Rattle.translator.specs.Translates.{TableOf, table_of, Written, Translation, short, refused, done}
 use Rattle.translator.specs.Bounds.{Result, Reason, short_sheet, of_text, Refusal, Bounded, its_result, its_refusal}
-use Rattle.translator.specs.declared.Translated.{Translated}
-use Rattle.translator.specs.declared.Translated.TheVariants.{Bytes, Refused}
 
 -- ---- reports
 -- Two answers that report the same are the same.
-pub report_once : (r q : Translated) → report r ≡ report q → r ≡ q
-report_once (Bytes m) (Bytes n) e = ap Bytes (head-eq_of_cons-eq (ap (λ (x : Report). x.values) e))
-report_once (Bytes m) (Refused c p) e = absurd (cons≢nil (ap (λ (x : Report). x.values) e))
-report_once (Refused c p) (Bytes n) e = absurd (cons≢nil (sym (ap (λ (x : Report). x.values) e)))
-report_once (Refused c p) (Refused b q) e =
-    let x : c ≡ b = ap (λ (x : Report). x.number) e in
-    let y : p ≡ q = ap (λ (x : Report). x.place) e in
-    cc
+pub report_once : (r q : Answer) → report r ≡ report q → r ≡ q
+report_once = written_told
 
--- An answer that reports so many bytes.
-bytes_reported : (r : Translated) (n : ℕ) → report r ≡ result (n ∷ []) → r ≡ Bytes n
-bytes_reported r n e = report_once r (Bytes n) e
+-- An answer that reports so many bytes, and one that reports a refusal.
+bytes_reported : (r : Answer) (n : ℕ) → report r ≡ result (n ∷ []) → r ≡ Ok n
+bytes_reported r n e = report_once r (Ok n) e
+
+refusal_reported : (r : Answer) (why : Why) (place : ℕ) → report r ≡ refusal_report (number why) place → r ≡ Err (refusal_at why place)
+refusal_reported = refusal_told (λ n. n ∷ [])
 
 -- No refusal has bytes.
-bytes_refused : {n number place : ℕ} → report (Bytes n) ≡ report (Refused number place) → ⊥
-bytes_refused e = cons≢nil (ap (λ (x : Report). x.values) e)
+bytes_refused : {A : Type 0} {n number place : ℕ} → report (Ok n) ≡ refusal_report number place → A
+bytes_refused e = absurd (cons≢nil (ap (λ (x : Report). x.values) e))
 
 -- ---- the table that was written
 -- A table of at most 512 events and 12,288 rows.
@@ -60,7 +59,7 @@ module _ (d : Flow) (lent : List ℕ) (count : ℕ) (left : List ℕ) (w : Writt
   few = omega (arith, w.its_count, table_few (table_of d) ((sound_exactly (table_of d)).0 w.its_table.its_sound))
 
 -- ---- property 1
-module _ (text lent : List ℕ) (r : Translated) (left : List ℕ) where
+module _ (text lent : List ℕ) (r : Answer) (left : List ℕ) where
   written_result : (d : Flow) (count : ℕ) → 51204 ≤ length lent → Accepted text d → report r ≡ result (count ∷ []) → Written d lent count left → Result text lent r left
   written_result d count h a e w = record {
     long = h;
@@ -75,7 +74,7 @@ module _ (text lent : List ℕ) (r : Translated) (left : List ℕ) where
     past = rw (w.its_count, w.its_left) (fill_past lent (table_of d));
   }
 
-  read_refused : (number place : ℕ) → 51204 ≤ length lent → RefusedAt text number place → report r ≡ report (Refused number place) → left ≡ lent
+  read_refused : (number place : ℕ) → 51204 ≤ length lent → RefusedAt text number place → report r ≡ refusal_report number place → left ≡ lent
       → Refusal text lent r left
   read_refused number place h t e q =
       let n = refused_at_near text number place t in
@@ -90,7 +89,7 @@ module _ (text lent : List ℕ) (r : Translated) (left : List ℕ) where
         untouched = q;
       }
 
-  short_refused : length lent < 51204 → report r ≡ report (Refused 1 0) → left ≡ lent → Refusal text lent r left
+  short_refused : length lent < 51204 → report r ≡ refusal_report 1 0 → left ≡ lent → Refusal text lent r left
   short_refused h e q = record {
     number = 1;
     place = 0;
@@ -129,64 +128,64 @@ module _ (text lent : List ℕ) (r : Translated) (left : List ℕ) where
   bounded_translation (its_refusal k) = refusal_translation k k.reason
 
   -- As a caller takes the bytes that were written.
-  pub translate_room : Translation text lent r left → (n : ℕ) → r ≡ Bytes n → (n ≤ length left) × (n ≡ length (take n left))
-  translate_room (short h e q) n t = absurd (bytes_refused (sym (ap report t) ∙ e))
-  translate_room (refused number place h u e q) n t = absurd (bytes_refused (sym (ap report t) ∙ e))
+  pub translate_room : Translation text lent r left → (n : ℕ) → r ≡ Ok n → (n ≤ length left) × (n ≡ length (take n left))
+  translate_room (short h e q) n t = bytes_refused (sym (ap report t) ∙ e)
+  translate_room (refused number place h u e q) n t = bytes_refused (sym (ap report t) ∙ e)
   translate_room (done d count h a e w) n t =
-      let same : Bytes n ≡ Bytes count = sym t ∙ bytes_reported r count e in
+      let same : Ok n ≡ Ok count = sym t ∙ bytes_reported r count e in
       let x : n ≡ count = cc in
       let l : n ≤ length left = omega (arith, x, w.its_count, w.fits, stays d lent count left w) in
       (l, sym (length-take-le n left l))
 
   -- "Every accepted text is translated when the buffer is long enough."
   pub accepted_translated : Translation text lent r left → (d : Flow) → Accepted text d → 51204 ≤ length lent
-      → (count : ℕ) × (r ≡ Bytes count) × TableOf d (take count left)
+      → (count : ℕ) × (r ≡ Ok count) × TableOf d (take count left)
   accepted_translated (short h e q) d a long = absurd (omega arith)
   accepted_translated (refused number place h t e q) d a long = absurd (never_both text d number place a t)
   accepted_translated (done f count h b e w) d a long =
       (count, bytes_reported r count e, subst (λ tree. TableOf tree (take count left)) (accepted_once text f d b a) (rw (front_is f lent count left w) w.its_table))
 
   -- Of an accepted text the bytes that were written are its table.
-  pub accepted_table : Translation text lent r left → (d : Flow) → Accepted text d → (n : ℕ) → r ≡ Bytes n → take n left ≡ table_of d
-  accepted_table (short h e q) d a n t = absurd (bytes_refused (sym (ap report t) ∙ e))
-  accepted_table (refused number place h u e q) d a n t = absurd (bytes_refused (sym (ap report t) ∙ e))
+  pub accepted_table : Translation text lent r left → (d : Flow) → Accepted text d → (n : ℕ) → r ≡ Ok n → take n left ≡ table_of d
+  accepted_table (short h e q) d a n t = bytes_refused (sym (ap report t) ∙ e)
+  accepted_table (refused number place h u e q) d a n t = bytes_refused (sym (ap report t) ∙ e)
   accepted_table (done f count h b e w) d a n t =
-      let same : Bytes n ≡ Bytes count = sym t ∙ bytes_reported r count e in
+      let same : Ok n ≡ Ok count = sym t ∙ bytes_reported r count e in
       let x : n ≡ count = cc in
       rw x (front_is f lent count left w ∙ ap table_of (accepted_once text f d b a))
 
 -- ---- one answer
 -- What a text that is read or turned away gets, where the buffer is long enough: an answer, and bytes over the front of what was lent.
-abbrev answer_for : {text : List ℕ} → Fate text → Translated
-answer_for (taken d a) = Bytes (length (table_of d))
-answer_for (refused_at number place t) = Refused number place
+abbrev answer_for : {text : List ℕ} → Fate text → Answer
+answer_for (taken d a) = Ok (length (table_of d))
+answer_for (refused_at why place t) = Err (refusal_at why place)
 
 abbrev bytes_for : {text : List ℕ} → Fate text → List ℕ
 bytes_for (taken d a) = table_of d
-bytes_for (refused_at number place t) = []
+bytes_for (refused_at why place t) = []
 
-module _ (text lent : List ℕ) (r : Translated) (left : List ℕ) where
+module _ (text lent : List ℕ) (r : Answer) (left : List ℕ) where
   by_fate : (f : Fate text) → Translation text lent r left → 51204 ≤ length lent → (r ≡ answer_for f) × (left ≡ fill lent (bytes_for f))
   by_fate (taken d a) (short h e q) long = absurd (omega arith)
   by_fate (refused_at n p t) (short h e q) long = absurd (omega arith)
   by_fate (taken d a) (refused m i h u e q) long = absurd (never_both text d m i a u)
   by_fate (refused_at n p t) (refused m i h u e q) long =
-      let s = refused_at_once text m i n p u t in
-      (report_once r (Refused n p) (e ∙ rw (s.0, s.1)), q ∙ sym (fill_none lent))
+      let s = refused_at_once text m i (number n) p u t in
+      (refusal_reported r n p (e ∙ rw (s.0, s.1)), q ∙ sym (fill_none lent))
   by_fate (taken d a) (done f count h b e w) long =
       let s = accepted_once text f d b a in (
         bytes_reported r (length (table_of d)) (e ∙ ap (λ (n : ℕ). result (n ∷ [])) (w.its_count ∙ ap (λ (x : Flow). length (table_of x)) s)),
         w.its_left ∙ ap (λ (x : Flow). fill lent (table_of x)) s,
       )
-  by_fate (refused_at n p t) (done f count h b e w) long = absurd (never_both text f n p b t)
+  by_fate (refused_at n p t) (done f count h b e w) long = absurd (never_both text f (number n) p b t)
 
-  by_length : Translation text lent r left → length lent < 51204 → (r ≡ Refused 1 0) × (left ≡ lent)
-  by_length (short h e q) s = (report_once r (Refused 1 0) e, q)
+  by_length : Translation text lent r left → length lent < 51204 → (r ≡ Err (refusal_at Why.Buffer 0)) × (left ≡ lent)
+  by_length (short h e q) s = (refusal_reported r Why.Buffer 0 e, q)
   by_length (refused m i h u e q) s = absurd (omega arith)
   by_length (done f count h b e w) s = absurd (omega arith)
 
 -- The answer and the bytes that are written depend on the text alone: buffers that are long enough get the same.
-pub text_alone : (text lent more : List ℕ) (r q : Translated) (left other : List ℕ) → 51204 ≤ length lent → 51204 ≤ length more
+pub text_alone : (text lent more : List ℕ) (r q : Answer) (left other : List ℕ) → 51204 ≤ length lent → 51204 ≤ length more
     → Translation text lent r left → Translation text more q other
     → (r ≡ q) × ((bytes : List ℕ) × (left ≡ fill lent bytes) × (other ≡ fill more bytes))
 text_alone text lent more r q left other long enough t u =
@@ -195,7 +194,7 @@ text_alone text lent more r q left other long enough t u =
     (a.0 ∙ sym b.0, (bytes_for (fate text), a.1, b.1))
 
 -- A text and a buffer get one answer, and one list of bytes is left.
-module _ (text lent : List ℕ) (r q : Translated) (left other : List ℕ) where
+module _ (text lent : List ℕ) (r q : Answer) (left other : List ℕ) where
   pub one_translation : Translation text lent r left → Translation text lent q other → (r ≡ q) × (left ≡ other)
   one_translation t u =
       by_cases (ltb (length lent) 51204)

@@ -14,6 +14,8 @@ use Rattle.diagram.specs.declared.Diagram.{Diagram}
 use Rattle.reading.specs.Accepted.{Accepted}
 use Rattle.reading.specs.Shows.{Shows}
 use Rattle.process.specs.Expand.{expand}
+use Rattle.postfix.specs.declared.Code.{Code}
+use Rattle.postfix.specs.declared.Code.TheVariants.{Leaf}
 use Rattle.postfix.specs.Postfix.{postfix}
 use Rattle.process.proofs.Numbered.{size, Numbered}
 use Rattle.process.proofs.Events.{expand_laid}
@@ -29,9 +31,9 @@ use Rattle.plan.proofs.Guarded.{plan_agrees, plan_rows}
 use Rattle.guards.specs.Table.{TableWritten}
 use Rattle.translator.specs.Translates.{TableOf, table_of, Written}
 
--- What the walk over the nodes leaves in a column of 1,024 numbers.
+-- What the walk over the nodes leaves in a column of 1,024 codes.
 abbrev pub codes : Diagram → Place
-codes g = expanded g (replicate 1024 0)
+codes g = expanded g (replicate 1024 Leaf)
 
 module _ (text : List ℕ) (d : Flow) (a : Accepted text d) where
   pub its_numbers : Numbered (expand d) 0
@@ -47,8 +49,8 @@ module _ (text : List ℕ) (d : Flow) (a : Accepted text d) where
   few = omega (arith, rows_few d a.keeps.sizes, a.copies)
 
   module _ (g : Diagram) (s : Shows text d g) where
-    walked : codes g ≡ place (flow_nodes d) (length (postfix (expand d))) (fill (replicate 1024 0) (postfix (expand d)))
-    walked = expansion_exact text d g s a.keeps.sizes a.depth a.nodes a.events (replicate 1024 0)
+    walked : codes g ≡ place (flow_nodes d) (length (postfix (expand d))) (fill (replicate 1024 Leaf) (postfix (expand d)))
+    walked = expansion_exact text d g s a.keeps.sizes a.depth a.nodes a.events (replicate 1024 Leaf)
 
     -- How many numbers there are, and which.
     pub count_is : (codes g).walk.count ≡ length (postfix (expand d))
@@ -56,13 +58,13 @@ module _ (text : List ℕ) (d : Flow) (a : Accepted text d) where
 
     pub count_fits : (codes g).walk.count ≤ length (codes g).codes
     count_fits =
-        let l = ap (λ (p : Place). length p.codes) walked ∙ fill_length (replicate 1024 0) (postfix (expand d)) in
+        let l = ap (λ (p : Place). length p.codes) walked ∙ fill_length (replicate 1024 Leaf) (postfix (expand d)) in
         omega (arith, count_is, its_short, l)
 
     pub numbers_are : take (codes g).walk.count (codes g).codes ≡ postfix (expand d)
     numbers_are =
         rw count_is
-        (ap (λ (p : Place). take (length (postfix (expand d))) p.codes) walked ∙ fill_front (replicate 1024 0) (postfix (expand d)) its_short)
+        (ap (λ (p : Place). take (length (postfix (expand d))) p.codes) walked ∙ fill_front (replicate 1024 Leaf) (postfix (expand d)) its_short)
 
   -- The bytes that are chosen are a table of the diagram.
   its_length : length (table_of d) ≤ 51204
@@ -85,7 +87,7 @@ module _ (text : List ℕ) (d : Flow) (a : Accepted text d) where
   }
 
   -- They are what is written, whatever was lent.
-  pub plan_written : (lent : List ℕ) → 51204 ≤ length lent → (ops : List ℕ) (events size : ℕ) (left : List ℕ) → TableWritten ops events lent size left
+  pub plan_written : (lent : List ℕ) → 51204 ≤ length lent → (ops : List Code) (events size : ℕ) (left : List ℕ) → TableWritten ops events lent size left
       → ops ≡ postfix (expand d) → events ≡ flow_events d → Written d lent size left
   unfolding table_of
   plan_written lent long ops events size left w o e =
@@ -93,5 +95,5 @@ module _ (text : List ℕ) (d : Flow) (a : Accepted text d) where
       let plan = w.its_plan d a.keeps.sizes o e (and_i (le-leb (length ops) 1024 short) (and_i (le-leb events 512 (omega (arith, e, a.events))) (le-leb 51204 (length lent) long))) in
       record { its_count = plan.0; its_left = plan.1; fits = omega (arith, its_length, long); its_table = its_table }
     where
-      length_of : (ops : List ℕ) → ops ≡ postfix (expand d) → length ops ≤ 1024
+      length_of : (ops : List Code) → ops ≡ postfix (expand d) → length ops ≤ 1024
       length_of ops o = rw o its_short

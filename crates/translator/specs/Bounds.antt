@@ -1,15 +1,14 @@
 -- Property 1, for translation: an answer is the table of the text's diagram, or one refusal, "which leaves lent memory untouched". No more than one answer is bounded so.
 use Rattle.std.specs.Prelude.{◌≡◌, List, [], ◌∷◌, ℕ, ◌≤◌, ◌<◌, length, take, drop}
-use Rattle.base.specs.Reports.{result, refusal}
+use Rattle.base.specs.Reports.{Written as Answer, result, refusal}
 use Rattle.diagram.specs.Tree.{Flow}
 use Rattle.reading.specs.Accepted.{Accepted}
 use Rattle.reading.specs.Refused.{RefusedAt}
 use Rattle.translator.specs.Reports.{report}
 use Rattle.translator.specs.Translates.{TableOf, table_of}
-use Rattle.translator.specs.declared.Translated.{Translated}
 
 -- The front of the lent bytes is the table of the diagram, and the bytes past it are those that were there.
-pub record Result (text lent : List ℕ) (r : Translated) (left : List ℕ) : Type 0 where
+pub record Result (text lent : List ℕ) (r : Answer) (left : List ℕ) : Type 0 where
   pub long : 51204 ≤ length lent
   pub tree : Flow
   pub accepted : Accepted text tree
@@ -27,7 +26,7 @@ pub data Reason (text lent : List ℕ) (number place : ℕ) : Type 0 where
   of_text : 51204 ≤ length lent → RefusedAt text number place → Reason text lent number place
 
 -- One of the numbers 1 to 11, and every lent byte as it was.
-pub record Refusal (text lent : List ℕ) (r : Translated) (left : List ℕ) : Type 0 where
+pub record Refusal (text lent : List ℕ) (r : Answer) (left : List ℕ) : Type 0 where
   pub number : ℕ
   pub place : ℕ
   pub is : report r ≡ refusal number place
@@ -37,6 +36,6 @@ pub record Refusal (text lent : List ℕ) (r : Translated) (left : List ℕ) : T
   pub reason : Reason text lent number place
   pub untouched : left ≡ lent
 
-pub data Bounded (text lent : List ℕ) (r : Translated) (left : List ℕ) : Type 0 where
+pub data Bounded (text lent : List ℕ) (r : Answer) (left : List ℕ) : Type 0 where
   its_result : Result text lent r left → Bounded text lent r left
   its_refusal : Refusal text lent r left → Bounded text lent r left

@@ -2,15 +2,13 @@
 -- row bound and property 3 hold." What is chosen is a function of the diagram, never of what the buffer held, so that all is told by equality; of what is chosen, those properties.
 use Rattle.std.specs.Prelude.{◌≡◌, true, ◌&&◌, List, [], ◌∷◌, ℕ, ◌+◌, ◌*◌, ◌≤◌, ◌<◌, leb, ltb, length}
 use Rattle.base.specs.Fill.{fill}
-use Rattle.base.specs.Reports.{result, refusal}
+use Rattle.base.specs.Reports.{Written as Answer, result, refusal}
 use Rattle.diagram.specs.Tree.{Flow}
 use Rattle.diagram.specs.Count.{flow_copies, flow_events}
 use Rattle.diagram.specs.declared.Diagram.{Diagram}
 use Rattle.reading.specs.Accepted.{Accepted}
 use Rattle.reading.specs.Refused.{RefusedAt}
 use Rattle.reading.specs.Shows.{Shows}
-use Rattle.reading.specs.declared.Answer.{Answer}
-use Rattle.reading.specs.declared.Answer.TheVariants.{Done, Refused as Unread}
 use Rattle.process.specs.Expand.{expand}
 use Rattle.process.specs.Bits.{clears}
 use Rattle.layout.specs.Fields.{events, rows, event_word, first_of, count_of}
@@ -18,8 +16,6 @@ use Rattle.layout.specs.Sound.{sound}
 use Rattle.book.specs.Plays.{PlaysByBook}
 use Rattle.plan.specs.Plan.{planned}
 use Rattle.translator.specs.Reports.{report}
-use Rattle.translator.specs.declared.Translated.{Translated}
-use Rattle.translator.specs.declared.Translated.TheVariants.{Bytes, Refused}
 
 -- A table of a diagram.
 pub record TableOf (d : Flow) (t : List ℕ) : Type 0 where
@@ -46,15 +42,10 @@ pub record Written (d : Flow) (lent : List ℕ) (count : ℕ) (left : List ℕ) 
 
 -- The answer to a text, and the lent bytes after it: number 1, "translation under 51,204", before all others; then reading's refusal, "Lent buffers and records keep their
 -- bytes"; or the table of the text's diagram.
-pub data Translation (text lent : List ℕ) (r : Translated) (left : List ℕ) : Type 0 where
+pub data Translation (text lent : List ℕ) (r : Answer) (left : List ℕ) : Type 0 where
   short : length lent < 51204 → report r ≡ refusal 1 0 → left ≡ lent → Translation text lent r left
   refused : (number place : ℕ) → 51204 ≤ length lent → RefusedAt text number place → report r ≡ refusal number place → left ≡ lent → Translation text lent r left
   done : (d : Flow) (count : ℕ) → 51204 ≤ length lent → Accepted text d → report r ≡ result (count ∷ []) → Written d lent count left → Translation text lent r left
-
--- Reading's refusal, passed on: for the contract of a private function. Where the text was read there is none, and no byte was written.
-abbrev pub passed_on : Answer → Translated
-passed_on Done = Bytes 0
-passed_on (Unread number place) = Refused number place
 
 -- A diagram that reading a text answered: for the contract of a private function.
 pub record Read (g : Diagram) : Type 0 where
