@@ -1,7 +1,6 @@
 #![tactic(auto)]
 
 ghost use Rattle.std.specs.Prelude.{◌≡◌, true, not, List, [], ℕ, ◌+◌, ◌-◌, ◌*◌, ◌/◌, ◌%◌, ◌≤◌, ◌<◌, min, length, get_or, drop, reverse, IfSome};
-
 ghost use Rattle.diagram.specs.Tree.{Name};
 ghost use Rattle.diagram.specs.Names.{equal, same, new};
 ghost use Rattle.tokens.specs.Words.{word_at};

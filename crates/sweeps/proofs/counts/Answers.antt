@@ -1,5 +1,5 @@
 -- The nodes passed keep number 10; the counts so far, and the copies of a node at each depth at which the next one may be.
-use Rattle.std.proofs.Common.{◌≡◌, ◌+◌, ◌*◌, ◌≤◌, get_or, refl, sym, ◌∙◌, arith}
+use Rattle.std.proofs.Common.{◌≡◌, ◌+◌, ◌*◌, ◌≤◌, get_or, refl, ◌∙◌, arith}
 use Rattle.base.specs.declared.Reason.TheVariants as Reason
 use Rattle.rules.specs.Kept.{strongs_kept}
 use Rattle.names.proofs.Searched.{search_start, search_end}

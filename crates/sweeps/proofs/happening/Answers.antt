@@ -19,9 +19,9 @@ returns-clause-value c = λ t.
     let its = c.row-row.ensures.keyword in
     let no = sym c.is_leaf.ensures ∙ c.if-is_leaf.false in
     elim c.else-is_loop.branch [
-      else-is_loop-via-then-is_loop+then-next-nodes+else-is_flow w ↦
+      | else-is_loop-via-then-is_loop+then-next-nodes+else-is_flow w ↦
           rw w.if-is_flow.false at
           (event_next t c.requires c.args.n its no (sym c.is_loop.ensures ∙ w.if-is_loop.true) w.if-next-nodes.true w.row.ensures.keyword w.is_flow.ensures)
-    | else-is_loop-via-then-is_loop+else-next-nodes w ↦ event_last t c.requires c.args.n its no (sym c.is_loop.ensures ∙ w.if-is_loop.true) w.if-next-nodes.false
-    | else-is_loop-via-else-is_loop w ↦ event_other t c.requires c.args.n its no (sym c.is_loop.ensures ∙ w.if-is_loop.false)
+      | else-is_loop-via-then-is_loop+else-next-nodes w ↦ event_last t c.requires c.args.n its no (sym c.is_loop.ensures ∙ w.if-is_loop.true) w.if-next-nodes.false
+      | else-is_loop-via-else-is_loop w ↦ event_other t c.requires c.args.n its no (sym c.is_loop.ensures ∙ w.if-is_loop.false)
     ]

@@ -1,5 +1,5 @@
 -- The weights of the solid children among the nodes from i on, and the first of these nodes that breaks the rule.
-use Rattle.std.proofs.Common.{◌≡◌, ℕ, ◌+◌, ◌-◌, ◌*◌, ◌≤◌, ◌<◌, get_or, refl, ◌∙◌, arith}
+use Rattle.std.proofs.Common.{◌≡◌, ◌+◌, ◌-◌, ◌*◌, ◌≤◌, ◌<◌, get_or, refl, ◌∙◌, arith}
 use lib.ListN.{length-set}
 use Rattle.sweeps.proofs.Weighed.{Weighed, First, weigh_start, first_start, weigh_next, first_next, first_all, blame_within}
 use Rattle.sweeps.proofs.unsolid.Goals as goal

@@ -1,5 +1,4 @@
 -- `sweeps::verdict` meets its contract: rule by rule.
-use Rattle.std.proofs.Common.{arith}
 use Rattle.base.specs.declared.Reason.TheVariants as Reason
 use Rattle.sweeps.proofs.Ruled.{as_told, refused_name, refused_key, by_7, by_8, by_9, by_10}
 use Rattle.sweeps.proofs.verdict.Goals as goal

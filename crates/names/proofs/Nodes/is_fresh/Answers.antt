@@ -1,5 +1,4 @@
 -- The pars passed, the nearest first, differ from the one that starts at `at`.
-use Rattle.std.proofs.Common.{arith}
 use Rattle.names.proofs.Surrounding.{fresh_start, fresh_end, fresh_twice, fresh_next}
 use Rattle.names.proofs.Nodes.is_fresh.Goals as goal
 

@@ -1,17 +1,16 @@
 -- The pars read are the first of those around.
-use Rattle.std.proofs.Common.{◌≡◌, ℕ, ◌+◌, ◌<◌, ◌≤◌, Bool, true, false, not, Option, Some, None, List, eqb, length, get_or, refl, sym, ap, ◌∙◌, arith, rules}
+use Rattle.std.proofs.Common.{◌≡◌, ℕ, ◌≤◌, Bool, not, List, eqb, length, get_or, refl, sym, ap, ◌∙◌, arith, rules}
 use Rattle.std.specs.Cmp.Lexicographic.{pointwise}
-use borrow.Author.Tests.{eq-eqb, ne_eqb, not-true, not-false}
+use borrow.Author.Tests.{ne_eqb, not-true, not-false}
 use Rattle.std.proofs.Common.{⊎_elim}
 use Rattle.std.proofs.lemmas.Bool.{cases_lt}
 use Rattle.std.proofs.lemmas.List.{get_or_past}
 use Rattle.diagram.specs.Tree.{Name}
 use Rattle.diagram.specs.Names.{same}
 use Rattle.tokens.specs.Classes.{class_of}
-use Rattle.tokens.specs.Words.{word_at}
 use Rattle.lexer.proofs.Keywords.{pointwise_same}
 use Rattle.names.proofs.Marked.{word_ends}
-use Rattle.names.proofs.Reading.{read_start, read_end, read_inside, read_over, read_other, read_next, ends_here}
+use Rattle.names.proofs.Reading.{read_start, read_end, read_inside, read_other, read_next, ends_here}
 use Rattle.names.proofs.Nodes.is_listed.Goals as goal
 
 pub loop-k-init : goal.loop-k-init

@@ -1,5 +1,5 @@
 -- The pars read are the first of those around.
-use Rattle.std.proofs.Common.{◌≡◌, ℕ, ◌≤◌, List, length}
+use Rattle.std.proofs.Common.{◌≡◌, ℕ, List, length}
 use Rattle.diagram.specs.Tree.{Name}
 use Rattle.walked.specs.Rows.{past_word, Listed}
 use Rattle.names.specs.code.Pars.{Around}

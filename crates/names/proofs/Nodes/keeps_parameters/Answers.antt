@@ -1,5 +1,5 @@
 -- Rule 8 of a node, by its row and the pars around it.
-use Rattle.std.proofs.Common.{sym, ◌∙◌, arith}
+use Rattle.std.proofs.Common.{sym, ◌∙◌}
 use Rattle.names.proofs.Asked.{asked_many, asked_flow, asked_other, asked_copying}
 use Rattle.names.proofs.Nodes.keeps_parameters.Goals as goal
 

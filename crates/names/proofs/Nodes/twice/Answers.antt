@@ -24,7 +24,7 @@ loop-i-preserved c =
     let its = c.row-row.ensures in
     let small : c.loop-i.i < 256 = omega (arith, h, c.args.self.now.few) in
     elim c.if-is_titled.branch [
-      then-is_titled+else-is_taken w ↦
+      | then-is_titled+else-is_taken w ↦
           let title : titled_at c.args.self.now.rows.now c.loop-i.i ≡ true = rw its.keyword at (sym c.is_titled.ensures ∙ w.if-is_titled.true) in
           rw (w.heads-is, w.links-is) (
             linkable_next c.loop-i.invariant.0 w.mark-s.ensures.upper_bound small,
@@ -35,10 +35,10 @@ loop-i-preserved c =
                   name_next t h (c.loop-i.invariant.1 t).1 title (found w.is_taken.ensures) w.if-is_taken.false,
                 ),
           )
-    | else-is_titled w ↦
-        let e = rw its.keyword at (sym c.is_titled.ensures ∙ w.if-is_titled.false) in
-        rw (w.heads-is, w.links-is)
-        (linkable_none c.loop-i.invariant.0, λ t. (linking_none (c.loop-i.invariant.1 t).0 e, name_none t h (c.loop-i.invariant.1 t).1 e))
+      | else-is_titled w ↦
+          let e = rw its.keyword at (sym c.is_titled.ensures ∙ w.if-is_titled.false) in
+          rw (w.heads-is, w.links-is)
+          (linkable_none c.loop-i.invariant.0, λ t. (linking_none (c.loop-i.invariant.1 t).0 e, name_none t h (c.loop-i.invariant.1 t).1 e))
     ]
 
 pub returns-clause-value : goal.returns-clause-value
