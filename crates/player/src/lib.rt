@@ -7,6 +7,7 @@ ghost use Rattle.player.specs.Shown.{item as item_of, events_line as events_line
 use base::Refusal;
 use output::Writer;
 use record::Record;
+use said::ListingLines;
 
 // An event's line in brackets, if it is there.
 fn item(there: bool, line: &[u8], out: &mut Writer)
@@ -24,13 +25,8 @@ fn events_line(word: &[u8], listing: &[u8], bits: &[u64; 8], out: &mut Writer)
     ensures { Writes out.old out.new (events_line_of word.now listing.now bits.now) }
 {
     out.bytes(word);
-    let (_, mut left) = said::first_line(listing);
-    let mut e = 0;
-    while !left.is_empty() {
-        let (line, others) = said::first_line(left);
+    for (e, line) in ListingLines::new(listing).skip(1).enumerate() {
         item(record::bit(bits, e), line, out);
-        left = others;
-        e += 1;
     }
     out.bytes(b"\n");
 }
@@ -85,8 +81,7 @@ pub fn turn(listing: &[u8], table: &[u8], before: Record, said: &[u8], out: &mut
 pub fn opening(listing: &[u8], table: &[u8], out: &mut Writer)
     ensures { Writes out.old out.new (opening_text listing.now table.now) }
 {
-    let (line, _) = said::first_line(listing);
-    out.bytes(line);
+    out.bytes(ListingLines::new(listing).next().unwrap_or(b""));
     out.byte(b'\n');
     state_lines(listing, table, record::blank(), out);
 }

@@ -1,4 +1,5 @@
 mod Search
 pub mod Lines
+pub mod Listed
 mod Saying
 pub mod Meant

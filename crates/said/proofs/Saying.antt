@@ -1,14 +1,16 @@
 -- Which line says it. Assumes nothing.
-use Rattle.std.proofs.Common.{◌≡◌, ℕ, suc, Bool, true, false, ◌||◌, eqb, List, ◌∷◌, length, take, drop, sym, ◌∙◌}
+use Rattle.std.proofs.Common.{◌≡◌, ℕ, suc, Bool, true, false, not, ◌||◌, eqb, List, [], ◌∷◌, take, drop, refl, sym, ◌∙◌, arith}
+use Rattle.std.specs.List.{prefix_len}
 use Rattle.std.specs.Cmp.Lexicographic.{pointwise}
 use Rattle.std.proofs.lemmas.Bool.Decides.{same_from_decides}
 use Rattle.std.proofs.lemmas.Slice.Eq.{bytes_eq-Decides}
 use Rattle.base.specs.Equal.{same}
 use Rattle.base.proofs.Decided.{same_decides}
+use Rattle.base.proofs.Truth.{by_cases}
 use Rattle.said.specs.Search.{index_of}
-use Rattle.said.specs.Lines.{lines, first, rest}
-use Rattle.said.specs.Said.{number_part, label_part, says, before_saying}
-use Rattle.said.proofs.Lines.{lines_some, lines_empty}
+use Rattle.said.specs.Lines.{lines, rest, event_lines}
+use Rattle.said.proofs.Lines.{after_first}
+use Rattle.said.specs.Said.{number_part, label_part, says, before_saying, event_said}
 
 -- As bytes are compared.
 alike : (v w : List ℕ) → pointwise eqb v w ≡ same v w
@@ -26,23 +28,12 @@ module _ (line said number label : List ℕ) (p : number ≡ take (index_of 32 l
   pub says_label : {r b : Bool} → r ≡ pointwise eqb number said → r ≡ false → b ≡ pointwise eqb label said → b ≡ says line said
   says_label s t g = g ∙ sym (both_parts ∙ rw (← s, t))
 
-module _ (ls : List (List ℕ)) (l : List ℕ) (on : List (List ℕ)) (q : ls ≡ l ∷ on) where
-  found : (said : List ℕ) → says l said ≡ true → before_saying ls said ≡ 0
-  unfolding before_saying
-  found said t = rw (q, t)
-
-  further : (said : List ℕ) → says l said ≡ false → before_saying ls said ≡ suc (before_saying on said)
-  unfolding before_saying
-  further said t = rw (q, t)
-
--- Of the lines that are left, the first says it, or one after it may; and where none is left.
-module _ (left l others said : List ℕ) (h : false ≡ eqb (length left) 0) (p : l ≡ first (lines left)) (q : lines others ≡ rest (lines left)) where
-  pub seek_found : says l said ≡ true → before_saying (lines left) said ≡ 0
-  seek_found t = found (lines left) l (lines others) (lines_some left l others h p q) said t
-
-  pub seek_on : says l said ≡ false → before_saying (lines left) said ≡ suc (before_saying (lines others) said)
-  seek_on t = further (lines left) l (lines others) (lines_some left l others h p q) said t
-
-pub seek_done : (left said : List ℕ) → true ≡ eqb (length left) 0 → before_saying (lines left) said ≡ 0
+-- How many lines stand before the first that says it.
+counted : (ls : List (List ℕ)) (said : List ℕ) → prefix_len (λ l. not (says l said)) ls ≡ before_saying ls said
 unfolding before_saying
-seek_done left said h = rw (lines_empty left h)
+counted [] said = refl
+counted (l ∷ ls) said = by_cases (says l said) (λ e. rw e) (λ e. rw (e, counted ls said) (omega arith))
+
+pub said_first : (listing said : List ℕ) → prefix_len (λ l. not (says l said)) (drop 1 (lines listing)) ≡ event_said listing said
+unfolding event_lines
+said_first listing said = rw (after_first (lines listing)) (counted (rest (lines listing)) said)

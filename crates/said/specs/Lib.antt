@@ -1,4 +1,5 @@
 pub mod Search
 pub mod Lines
+pub mod Left
 pub mod Said
 pub mod Meant

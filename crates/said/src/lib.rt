@@ -3,7 +3,9 @@
 ghost use Rattle.std.specs.Prelude.{◌≡◌, ◌==◌, suc, ◌-◌, ◌≤◌, length, take, drop};
 ghost use Rattle.std.specs.List.{position};
 ghost use Rattle.said.specs.Search.{index_of};
-ghost use Rattle.said.specs.Lines.{lines, first, rest};
+ghost use Rattle.std.specs.Iterator.{YieldsFirstRef, item_count};
+ghost use Rattle.said.specs.Lines.{lines};
+ghost use Rattle.said.specs.Left.{lines_left};
 ghost use Rattle.said.specs.Said.{says as says_of, event_said};
 
 // Where the first byte b stands.
@@ -24,13 +26,36 @@ fn parted(bytes: &[u8], b: u8) -> (&[u8], &[u8])
     }
 }
 
-// The first of some lines, and the lines after it.
-pub fn first_line(bytes: &[u8]) -> (&[u8], &[u8])
-    ensures line { result.0.now ≡ first (lines bytes.now) }
-    ensures others { lines result.1.now ≡ rest (lines bytes.now) }
-    ensures fewer { length result.1.now ≤ length bytes.now - 1 }
-{
-    parted(bytes, b'\n')
+// The lines of some bytes, without their ends: what is left of the bytes.
+#[derive(Drop)]
+pub struct ListingLines<'a> {
+    pub left: &'a [u8],
+}
+
+impl<'a> ListingLines<'a> {
+    // All of them.
+    pub fn new(bytes: &'a [u8]) -> ListingLines<'a>
+        ensures { lines_left result ≡ lines bytes.now }
+    {
+        ListingLines { left: bytes }
+    }
+}
+
+impl<'a> Iterator for ListingLines<'a> {
+    type Item = &'a [u8];
+
+    ghost next_gives = { YieldsFirstRef lines_left };
+
+    ghost remaining = { item_count lines_left };
+
+    fn next(&mut self) -> Option<&'a [u8]> {
+        if self.left.is_empty() {
+            return None;
+        }
+        let (line, others) = parted(self.left, b'\n');
+        self.left = others;
+        Some(line)
+    }
 }
 
 // Whether the line of an event says it: its number, or all that stands after the number and a space.
@@ -45,15 +70,8 @@ fn says(line: &[u8], said: &[u8]) -> bool
 pub fn event(listing: &[u8], said: &[u8]) -> usize
     ensures { result ≡ event_said listing.now said.now }
 {
-    let (_, mut left) = first_line(listing);
-    let mut e = 0;
-    while !left.is_empty() {
-        let (line, others) = first_line(left);
-        if says(line, said) {
-            return e;
-        }
-        left = others;
-        e += 1;
-    }
-    e
+    ListingLines::new(listing)
+        .skip(1)
+        .take_while(|line| !says(line, said))
+        .count()
 }

@@ -1,28 +1,22 @@
--- Line by line.
-use Rattle.std.proofs.Common.{sym, ap, ◌∙◌, List, ℕ, zero-add, arith}
-use Rattle.said.specs.Lines.{event_lines}
-use Rattle.said.specs.Said.{before_saying}
-use Rattle.said.proofs.Lines.{some_bytes}
-use Rattle.said.proofs.Saying.{seek_found, seek_on, seek_done}
+-- The lines after the first, up to the one that says it.
+use Rattle.std.proofs.Common.{not, drop, ◌∙◌, rules}
+use Rattle.std.proofs.lemmas.Iterator.Consumers.{YieldsList-at, count_from_yields_List}
+use Rattle.std.proofs.lemmas.Iterator.Search.{YieldsList-from_take_while}
+use Rattle.std.proofs.lemmas.List.Folds.{length-prefix_len}
+use Rattle.said.specs.Lines.{lines}
+use Rattle.said.specs.Said.{says}
+use Rattle.said.proofs.Lines.{lines_few}
+use Rattle.said.proofs.Listed.{after_first_line}
+use Rattle.said.proofs.Saying.{said_first}
 use Rattle.said.proofs.event.Goals as goal
 
-pub loop-left-init : goal.loop-left-init
-unfolding event_lines
-loop-left-init c =
-    let f = c.first_line.ensures in (omega (arith, f.fewer), zero-add _ ∙ ap (λ (ls : List (List ℕ)). before_saying ls c.args.said.now) f.others)
-
-pub returns-then-says : goal.returns-then-says
-returns-then-says c =
-    let f = c.first_line-in-loop-left.ensures in
-    let z = seek_found c.loop-left.left.now _ _ c.args.said.now c.loop-left-test.ensures f.line f.others (sym c.says.ensures ∙ c.if-says.true) in
-    omega (arith, c.loop-left.invariant.1, z)
-
-pub loop-left-preserved : goal.loop-left-preserved
-loop-left-preserved c =
-    let f = c.first_line-in-loop-left.ensures in
-    let some = some_bytes c.loop-left.left.now c.loop-left-test.ensures in
-    let z = seek_on c.loop-left.left.now _ _ c.args.said.now c.loop-left-test.ensures f.line f.others (sym c.says.ensures ∙ c.if-says.false) in
-    (omega (arith, c.loop-left.invariant.0, f.fewer, some), omega (arith, c.loop-left.invariant.1, z))
+pub count-requires-clause-fits : goal.count-requires-clause-fits
+count-requires-clause-fits c = let few = lines_few c.args.listing.now in search rules
 
 pub returns : goal.returns
-returns c = let z = seek_done c.loop-left.left.now c.args.said.now c.loop-left-test.ensures in omega (arith, c.loop-left.invariant.1, z)
+returns c =
+    count_from_yields_List c.take_while.result _ c.count.ensures.ran
+    (YieldsList-from_take_while _ (λ l. not (says l c.args.said.now))
+    (YieldsList-at c.take_while.ensures.source (after_first_line c.args.listing.now c.new.result c.new.ensures c.skip.ensures.source c.skip.ensures.count))
+    c.take_while.ensures.closure c.take_while.ensures.done (λ x b q k. (search rules, search rules)))
+    ∙ (length-prefix_len (λ l. not (says l c.args.said.now)) (drop 1 (lines c.args.listing.now)) ∙ said_first c.args.listing.now c.args.said.now)
