@@ -11,6 +11,7 @@ ghost use Rattle.tokens.specs.Parts.{Word};
 ghost use Rattle.tokens.specs.Spans.{width, spans_of};
 ghost use Rattle.tokens.specs.Rest.{Next};
 ghost use Rattle.tokens.specs.Scanned.{first_foreign, first_long};
+ghost use Rattle.lexer.specs.First.{first_by};
 ghost use Rattle.lexer.specs.Lexicon.{Lexicon};
 
 use tokens::{Keyword, Lexeme, TokenKind};
@@ -139,33 +140,35 @@ impl<'a> Lexer<'a> {
         self.run(at, LETTER, UNDERSCORE).max(at + 1)
     }
 
+    // The place of the first token whose first byte and length pass a test, or the text's length.
+    fn first<F: Fn(u8, usize) -> bool>(&self, passes: F) -> usize
+        requires { F.IsAlwaysCallable passes }
+        ensures { (test : ℕ → ℕ → Bool) → ((b n : ℕ) (r : Bool) → b < 256 → F.post passes b n r → r ≡ test b n) → result ≡ first_by test (spans_of self.now.text.now) (length self.now.text.now) }
+    {
+        let text = self.text;
+        let mut place = self.gap(0);
+        while place < text.len() {
+            let end = self.token_end(place);
+            if passes(text[place], end - place) {
+                return place;
+            }
+            place = self.gap(end);
+        }
+        text.len()
+    }
+
     // The place of the first foreign byte, or the text's length.
     pub fn foreign(&self) -> usize
         ensures { result ≡ first_foreign self.now.text.now }
     {
-        let mut place = self.gap(0);
-        while place < self.text.len() {
-            if self.class(self.text[place]) == FOREIGN {
-                return place;
-            }
-            place = self.gap(self.token_end(place));
-        }
-        self.text.len()
+        self.first(|b, _| self.class(b) == FOREIGN)
     }
 
     // The place of the first token of over 24 bytes, or the text's length.
     pub fn first_long(&self) -> usize
         ensures { result ≡ first_long (spans_of self.now.text.now) (length self.now.text.now) }
     {
-        let mut at = self.gap(0);
-        while at < self.text.len() {
-            let end = self.token_end(at);
-            if 24 < end - at {
-                return at;
-            }
-            at = self.gap(end);
-        }
-        self.text.len()
+        self.first(|_, n| 24 < n)
     }
 }
 
