@@ -1,9 +1,10 @@
 -- Two parts in postfix order, one after the other: where the second begins, and how many events a part has.
 use mathlib.Core.Path.{◌≡◌, refl, ◌∙◌}
 use mathlib.Core.List.{List, [], ◌∷◌, ◌++◌, reverse, reverse-append, append_assoc}
-use Prim.Native.Nat.{ℕ, ◌+◌, ◌-◌, ◌≤◌, ◌<◌}
+use Prim.Native.Nat.{ℕ, suc, ◌+◌, ◌-◌, ◌≤◌, ◌<◌}
 use native.Mathlib.Omega.{arith}
-use lib.ListN.{length, length-reverse}
+use lib.ListN.{length, get_or, take, length-reverse}
+use lib.Seq.{take-suc, take-length, length-take-le}
 use borrow.Author.Tests.{ne_eqb}
 use Rattle.std.proofs.lemmas.Grind.{common_steps}
 use Rattle.process.specs.Process.{Joint, seq, and, or, xor, Process, event, join, again, rounds}
@@ -59,18 +60,21 @@ pub second_is : (before : List Code) (q : Process) → second_begins (before ++ 
 unfolding second_begins
 second_is before q = over_part q before 1 (omega arith) ∙ (none_wanted (reverse before) ∙ length-reverse before)
 
--- As the code goes, from the end: of the codes that are left, and where none is.
-pub one_back : (cs before : List Code) (c : Code) (n : ℕ) → cs ≡ before ++ (c ∷ []) → 0 < n
-    → left_over (reverse cs) n ≡ left_over (reverse before) (wanted c n)
-one_back cs before c n e h = rw e (last_wanted before c n h)
+-- As the code goes, from the end: over the first i codes.
+module _ (cs : List Code) (i n : ℕ) where
+  pub from_end : i ≡ length cs → second_begins cs ≡ left_over (reverse (take i cs)) 1
+  unfolding second_begins
+  from_end e = rw (e, take-length cs)
 
-pub all_there : (cs : List Code) (n : ℕ) → n ≡ 0 → left_over (reverse cs) n ≡ length cs
-all_there cs n e = rw e (none_wanted (reverse cs) ∙ length-reverse cs)
+  pub one_back : (k : ℕ) (x : Code) → i ≡ suc k → i ≤ length cs → 0 < n → left_over (reverse (take i cs)) n ≡ left_over (reverse (take k cs)) (wanted (get_or cs k x) n)
+  one_back k x e l h = rw (e, take-suc cs k x (omega arith)) (last_wanted (take k cs) (get_or cs k x) n h)
 
-pub none_left : (cs : List Code) (n : ℕ) → length cs ≡ 0 → left_over (reverse cs) n ≡ 0
-unfolding left_over
-none_left [] n e = refl
-none_left (c ∷ cs) n e = absurd (omega arith)
+  pub all_there : n ≡ 0 → i ≤ length cs → left_over (reverse (take i cs)) n ≡ i
+  all_there e l = rw e (none_wanted (reverse (take i cs)) ∙ (length-reverse (take i cs) ∙ length-take-le i cs l))
+
+  pub none_left : i ≡ 0 → left_over (reverse (take i cs)) n ≡ 0
+  unfolding left_over
+  none_left e = rw e
 
 -- ---- how many events
 count_append : (xs ys : List Code) → event_count (xs ++ ys) ≡ event_count xs + event_count ys

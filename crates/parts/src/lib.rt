@@ -22,16 +22,14 @@ fn wanted(code: Code, n: usize) -> usize
 pub fn second(codes: &[Code]) -> usize
     ensures { (result ≡ second_begins codes.now) × (result ≤ length codes.now) }
 {
-    let mut rest = codes;
     let mut n = 1;
-    while 0 < n {
-        let Some((last, before)) = rest.split_last() else {
-            return 0;
-        };
-        n = wanted(*last, n);
-        rest = before;
+    for i in (0..codes.len()).rev() {
+        if n == 0 {
+            return i + 1;
+        }
+        n = wanted(codes[i], n);
     }
-    rest.len()
+    0
 }
 
 // Each leaf, loop over a leaf and reset is an event.

@@ -12,21 +12,37 @@ use Rattle.labels.specs.declared.Spot.{Spot}
 use Rattle.labels.specs.declared.SearchNode.{SearchNode}
 use Rattle.labels.specs.declared.Search.{Search}
 use Rattle.labels.specs.Weights.{sum_mod, parts, with_weight, weight, weigh}
-use Rattle.labels.specs.Seeks.{next, turn, seek}
+use Rattle.labels.specs.Seeks.{next, turn, onward, seek}
 use Rattle.labels.proofs.Steps.{seek_turn}
 
--- The search along nodes of which r is the first.
-module _ (rs after : List SearchNode) (r q : SearchNode) (s : Search) {t : ControlFlow Spot Search} (e : rs ≡ r ∷ after) (b : q ≡ next after) (k : t ≡ turn r q s) where
-  pub seek_found : (p : Spot) → t ≡ Break p → Some p ≡ seek rs s
-  seek_found p o = rw e (sym (seek_turn r after s (Break p) (rw (← b, ← k) o)))
+-- The first of some nodes, and of those from node i on.
+front : (rs : List SearchNode) → get_or rs 0 (next []) ≡ next rs
+front [] = refl
+front (r ∷ rs) = refl
 
-  pub seek_on : (u : Search) → t ≡ Continue u → seek after u ≡ seek rs s
-  seek_on u o = rw e (sym (seek_turn r after s (Continue u) (rw (← b, ← k) o)))
+front_from : (rs : List SearchNode) (i : ℕ) → get_or rs i (next []) ≡ next (drop i rs)
+front_from rs zero = front rs
+front_from [] (suc i) = refl
+front_from (r ∷ rs) (suc i) = front_from rs i
 
-pub seek_end : (rs : List SearchNode) (s : Search) → length rs ≡ 0 → None ≡ seek rs s
-unfolding seek
-seek_end [] s h = refl
-seek_end (r ∷ rs) s h = absurd (omega arith)
+-- The search from node i on.
+module _ (rs : List SearchNode) (i : ℕ) (s : Search) where
+  module _ (h : i < length rs) (x : SearchNode) {q : SearchNode} {t : ControlFlow Spot Search} (b : q ≡ get_or rs (i + 1) (next [])) (k : t ≡ turn (get_or rs i x) q s) where
+    here : seek (drop i rs) s ≡ onward t (λ u. seek (drop (i + 1) rs) u)
+    here =
+        let second : q ≡ next (drop (suc i) rs) = b ∙ (rw add-one (front_from rs (suc i))) in
+        rw (drop-cons rs i x h, add-one i)
+        (seek_turn (get_or rs i x) (drop (suc i) rs) s t (rw (← second) (sym k)))
+
+    pub seek_found : (p : Spot) → t ≡ Break p → Some p ≡ seek (drop i rs) s
+    seek_found p o = sym (here ∙ rw o)
+
+    pub seek_on : (u : Search) → t ≡ Continue u → seek (drop (i + 1) rs) u ≡ seek (drop i rs) s
+    seek_on u o = sym (here ∙ rw o)
+
+  pub seek_end : length rs ≤ i → None ≡ seek (drop i rs) s
+  unfolding seek
+  seek_end h = rw (drop_of_length-le rs h)
 
 -- The sum over the parts of a node, of those from node i on.
 module _ (d n i : ℕ) (rs : List SearchNode) where

@@ -144,13 +144,6 @@ fn turn(r: SearchNode, q: SearchNode, s: Search) -> ControlFlow<Spot, Search>
     inside(r, q, s)
 }
 
-// The first of some nodes.
-fn first(nodes: &[SearchNode]) -> SearchNode
-    ensures { result ≡ next nodes.now }
-{
-    base::at(nodes, 0, NONE)
-}
-
 // What an event number stands for, by the nodes in the order of the text.
 pub fn seek(nodes: &[SearchNode], event: usize) -> Option<Spot>
     ensures { result ≡ seek_of nodes.now (begin event) }
@@ -160,13 +153,12 @@ pub fn seek(nodes: &[SearchNode], event: usize) -> Option<Spot>
         rest: event,
         values: Values::none(),
     };
-    let mut rest = nodes;
-    while let Some((r, after)) = rest.split_first() {
-        match turn(*r, first(after), s) {
+    for (i, r) in nodes.iter().enumerate() {
+        let q = base::at(nodes, i + 1, NONE);
+        match turn(*r, q, s) {
             ControlFlow::Break(spot) => return Some(spot),
             ControlFlow::Continue(further) => s = further,
         }
-        rest = after;
     }
     None
 }
