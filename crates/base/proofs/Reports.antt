@@ -1,6 +1,7 @@
 -- What is reported of an answer tells the answer.
 use Rattle.std.proofs.Common.{◌≡◌, refl, sym, ap, ap₂, ◌∙◌, ℕ, ◌≤◌, List, [], ◌∷◌, get_or, arith}
-use Rattle.std.specs.Prelude.{Result, Ok, Err}
+use Rattle.std.specs.Prelude.{Result, Ok, Err, IsErr, IsErrAnd}
+use Rattle.std.proofs.lemmas.Result.{err_from_is_err_and}
 use mathlib.Core.List.{head-eq_of_cons-eq}
 use Rattle.base.specs.Refusals.{number, refusal}
 use Rattle.base.specs.Reports.{Report, result as result_report, refusal as refusal_report, answer, written}
@@ -63,3 +64,7 @@ module _ {A : Type 0} (values : A → List ℕ) where
 
 pub written_told : (r q : Result ℕ Refusal) → written r ≡ written q → r ≡ q
 written_told = answer_told (λ n. n ∷ []) (λ m n e. head-eq_of_cons-eq e)
+
+-- What `?` passes on is the refusal that it met.
+pub passed : {T E : Type 0} {x : E} {r : Result T E} → IsErr r × IsErrAnd r (λ y. y ≡ x) → r ≡ Err x
+passed {T} {E} {x} {r} h = let e = err_from_is_err_and {Q = λ (y : E). y ≡ x} r h.1 in e.1 ∙ ap (λ (y : E). Err y) e.2

@@ -1,53 +1,22 @@
--- How far a text is printed. Assumes nothing.
+-- How far a text is printed.
 use mathlib.Core.Path.{◌≡◌, refl, sym, ◌∙◌, ap}
 use mathlib.Core.Bool.{false}
 use mathlib.Core.List.{List, [], ◌∷◌, ◌++◌, append_assoc, append-nil}
 use Prim.Native.Nat.{ℕ, suc, ◌+◌, ◌-◌, ◌≤◌, ◌<◌}
-use native.Mathlib.Numerals.{add-one}
 use native.Mathlib.Omega.{arith}
-use lib.ListN.{length, get_or, take, drop, set, length-append, length-drop, drop_of_length-le}
+use lib.ListN.{length, get_or, take, drop, length-drop, drop_of_length-le}
 use lib.Seq.{drop-cons, drop-drop}
-use Rattle.base.specs.Fill.{fill}
 use Rattle.base.proofs.Truth.{by_cases}
-use Rattle.base.proofs.Filled.{fill_none, fill_next, fill_length}
 use Rattle.tokens.specs.Classes.{unbroken}
 use Rattle.tokens.specs.Remarks.{blanks}
 use Rattle.tokens.specs.Words.{front}
 use Rattle.tokens.proofs.Front.{front_more, front_le}
 use Rattle.tokens.proofs.Remarks.{blanks_again, token_stands}
-use Rattle.tokens.proofs.WordKinds.{part_length}
 use Rattle.grammar.specs.Printed.{printed, unblanked}
 use Rattle.grammar.proofs.Printing.{unblanked_front, kept, without_blanks}
-use Rattle.printer.specs.code.Over.{over}
-
--- One byte of a part, and then the others.
-module _ (text : List ℕ) (i e : ℕ) where
-  pub over_more : (out now : List ℕ) (m : ℕ) → i < e → e ≤ length text → now ≡ set out m (get_or text i 0)
-      → over now (m + 1) (take (e - (i + 1)) (drop (i + 1) text)) ≡ over out m (take (e - i) (drop i text))
-  unfolding over
-  over_more out now m h l q =
-      let s : e - i ≡ suc (e - suc i) = omega arith in
-      rw (s, drop-cons text i 0 (omega arith), add-one i, q)
-
-  pub over_none : (out : List ℕ) (m : ℕ) → e ≤ i → over out m (take (e - i) (drop i text)) ≡ out
-  unfolding over
-  over_none out m h = let s : e - i ≡ 0 = omega arith in rw s
-
--- A part written up to i: what is left of it, over the bytes as they are, is all of it over the bytes as they came.
-pub record Partly (text : List ℕ) (a e : ℕ) (lent : List ℕ) (n : ℕ) (out : List ℕ) (m i : ℕ) : Type 0 where
-  pub size : length out ≡ length lent
-  pub begun : a ≤ i
-  pub inside : i ≤ e
-  pub count : m + a ≡ n + i
-  pub bytes : over out m (take (e - i) (drop i text)) ≡ over lent n (take (e - a) (drop a text))
-
--- Bytes written after others that cover the front.
-pub over_fill : (lent ps bs : List ℕ) → over (fill lent ps) (length ps) bs ≡ fill lent (ps ++ bs)
-unfolding over
-over_fill lent ps [] = rw (append-nil ps)
-over_fill lent ps (b ∷ bs) =
-    let n : length ps + 1 ≡ length (ps ++ (b ∷ [])) = sym (length-append ps (b ∷ [])) in
-    rw (fill_next lent ps b, n) (over_fill lent (ps ++ (b ∷ [])) bs ∙ ap (fill lent) (append_assoc ps (b ∷ []) bs))
+use Rattle.output.specs.Writes.{Writes}
+use Rattle.output.specs.declared.Writer.{Writer}
+use Rattle.output.proofs.Writes.{both, none}
 
 -- Without its blanks a text is the tokens that stand side by side at its front, and then the rest of it without its blanks.
 unblanked_run : (bs : List ℕ) → unblanked false bs ≡ take (front unbroken bs) bs ++ unblanked false (drop (front unbroken bs) bs)
@@ -74,61 +43,39 @@ module _ (text : List ℕ) (at : ℕ) where
         let m = front_more unbroken text at h b in
         (omega arith, omega (arith, front_le unbroken (drop at text), length-drop at text))
 
--- The tokens before `at` are written, n bytes, and nothing is skipped there.
-pub record Copied (text lent out : List ℕ) (n at : ℕ) : Type 0 where
+-- The tokens before `at` are written, and nothing is skipped there.
+pub record Copied (text : List ℕ) (at : ℕ) (w v : Writer) : Type 0 where
   pub clear : blanks (drop at text) ≡ 0
-  pub few : n ≤ at
   pub bytes : List ℕ
-  pub count : n ≡ length bytes
   pub whole : printed text ≡ bytes ++ unblanked false (drop at text)
-  pub done : out ≡ fill lent bytes
+  pub done : Writes w v bytes
 
-pub copied_start : (text lent : List ℕ) (at : ℕ) → at ≡ 0 + blanks (drop 0 text) → Copied text lent lent 0 at
-copied_start text lent at e =
+pub copied_start : (text : List ℕ) (at : ℕ) (w : Writer) → at ≡ 0 + blanks (drop 0 text) → Copied text at w w
+copied_start text at w e =
     let s = past_gap text 0 at e in
-    record {
-      clear = s.0;
-      few = omega arith;
-      bytes = [];
-      count = refl;
-      whole = without_blanks text ∙ s.1;
-      done = sym (fill_none lent);
-    }
+    record { clear = s.0; bytes = []; whole = without_blanks text ∙ s.1; done = none w }
 
-module _ (text lent out : List ℕ) (n at : ℕ) (w : Copied text lent out n at) where
+module _ (text : List ℕ) (at : ℕ) (w v : Writer) (k : Copied text at w v) where
   module _ (e : ℕ) (l : at < length text) (E : e ≡ at + front unbroken (drop at text)) where
-    pub part_inside : length text ≤ length lent → (at ≤ e) × (e ≤ length text) × (n + (e - at) ≤ length out)
-    part_inside h =
-        let a = run_inside text at e E l w.clear in
-        (omega arith, a.1, omega (arith, a.0, a.1, w.few, ap length w.done ∙ fill_length lent w.bytes))
+    pub part_inside : (at ≤ e) × (e ≤ length text)
+    part_inside = let a = run_inside text at e E l k.clear in (omega arith, a.1)
 
     pub less_left : (i : ℕ) → i ≡ e + blanks (drop e text) → length text - i < length text - at
-    less_left i I = omega (arith, (run_inside text at e E l w.clear).0)
+    less_left i I = omega (arith, (run_inside text at e E l k.clear).0)
 
-    pub copied_more : (now : List ℕ) (m i : ℕ) → m ≡ n + (e - at) → now ≡ over out n (take (e - at) (drop at text)) → i ≡ e + blanks (drop e text)
-        → Copied text lent now m i
-    copied_more now m i M q I =
-        let a = run_inside text at e E l w.clear in
+    pub copied_more : (u : Writer) (i : ℕ) → Writes v u (take (e - at) (drop at text)) → i ≡ e + blanks (drop e text) → Copied text i w u
+    copied_more u i q I =
         let s = past_gap text e i I in
         let t = take (e - at) (drop at text) in
-        let z : length t ≡ e - at = part_length text at e a.1 in
         record {
           clear = s.0;
-          few = omega (arith, w.few);
-          bytes = w.bytes ++ t;
-          count = omega (arith, length-append w.bytes t, w.count);
+          bytes = k.bytes ++ t;
           whole =
-              w.whole ∙ ap (λ (r : List ℕ). w.bytes ++ r) (past_run text at e E ∙ ap (λ (r : List ℕ). t ++ r) s.1)
-              ∙ sym (append_assoc w.bytes t (unblanked false (drop i text)));
-          done = q ∙ rw (w.done, w.count) (over_fill lent w.bytes t);
+              k.whole ∙ ap (λ (r : List ℕ). k.bytes ++ r) (past_run text at e E ∙ ap (λ (r : List ℕ). t ++ r) s.1)
+              ∙ sym (append_assoc k.bytes t (unblanked false (drop i text)));
+          done = both w v u k.bytes t k.done q;
         }
 
-  nothing_left : length text ≤ at → printed text ≡ w.bytes
+  pub copied_all : length text ≤ at → Writes w v (printed text)
   unfolding unblanked
-  nothing_left l = w.whole ∙ rw (drop_of_length-le text l) (append-nil w.bytes)
-
-  pub copied_all : length text ≤ at → n ≡ length (printed text)
-  copied_all l = w.count ∙ sym (ap length (nothing_left l))
-
-  pub copied_out : length text ≤ at → out ≡ fill lent (printed text)
-  copied_out l = w.done ∙ sym (ap (fill lent) (nothing_left l))
+  copied_all l = let all : printed text ≡ k.bytes = k.whole ∙ rw (drop_of_length-le text l) (append-nil k.bytes) in rw all k.done

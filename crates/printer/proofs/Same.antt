@@ -4,7 +4,8 @@ use mathlib.Core.List.{List, [], ◌∷◌, map, map-append}
 use Prim.Native.Nat.{ℕ, ◌-◌, ◌≤◌}
 use native.Mathlib.Omega.{arith}
 use lib.ListN.{length, get_or, drop, replicate}
-use Rattle.base.specs.Reports.{result}
+use Rattle.std.specs.Prelude.{Ok}
+use Rattle.base.specs.Reports.{Written, result}
 use Rattle.base.proofs.Filled.{fill_front}
 use Rattle.diagram.specs.Tree.{Flow}
 use Rattle.diagram.specs.TreeNodes.{TextNode}
@@ -15,13 +16,11 @@ use Rattle.grammar.specs.Printed.{printed}
 use Rattle.reading.specs.Nodes.{node_of, stored}
 use Rattle.reading.specs.Answers.{read_of}
 use Rattle.reading.specs.Accepted.{Accepted}
-use Rattle.reading.specs.declared.ReadResult.{ReadResult}
-use Rattle.reading.proofs.Exact.{accepted_read, accepted_exactly}
+use Rattle.reading.proofs.Exact.{its_diagram, accepted_exactly}
 use Rattle.reading.proofs.Shown.{accepted_shown}
 use Rattle.printer.specs.Prints.{left_by}
 use Rattle.printer.specs.Reports.{report}
 use Rattle.printer.specs.Same.{unplaced_node, unplaced, Same, written, wrote, Again, Alike}
-use Rattle.printer.specs.declared.Printed.{Printed}
 use Rattle.printer.proofs.Alike.{printed_shorter, printed_accepted, print_alike}
 use Rattle.printer.proofs.Bounds.{accepted_prints}
 
@@ -68,32 +67,35 @@ only_places g h e p q =
     ∙ ap (λ (l : List Node). record { nodes = l; count = h.count; copies = h.copies; events = h.events }) ns
 
 -- Two texts of one tree have the same diagram, places aside.
-pub same_diagram : (s t : List ℕ) (d : Flow) → Accepted s d → Accepted t d → Same s (read_of s).diagram t (read_of t).diagram
-same_diagram s t d a b = record {
-  nodes =
-      ap (λ (o : ReadResult). unplaced o.diagram) (accepted_read s d a)
-      ∙ (stored_unplaced s t _ _ _ ∙ sym (ap (λ (o : ReadResult). unplaced o.diagram) (accepted_read t d b)));
-  names = (accepted_shown s d a).nodes ∙ sym (accepted_shown t d b).nodes;
+pub same_diagram : (s t : List ℕ) (d : Flow) → Accepted s d → Accepted t d → {g h : Diagram} → read_of s ≡ Ok g → read_of t ≡ Ok h → Same s g t h
+same_diagram s t d a b q r = record {
+  nodes = rw (its_diagram s d a q, its_diagram t d b r) (stored_unplaced s t _ _ _);
+  names = (accepted_shown s d a q).nodes ∙ sym (accepted_shown t d b r).nodes;
 }
 
 -- What was written is the text without its blanks.
 pub wrote_printed : (text lent : List ℕ) (d : Flow) → 16384 ≤ length lent → Accepted text d → wrote text lent ≡ printed text
 wrote_printed text lent d h a =
-    ap (λ (p : Printed). written p (left_by text lent p)) (accepted_prints text lent d h a)
+    ap (λ (p : Written). written p (left_by text lent p)) (accepted_prints text lent d h a)
     ∙ fill_front lent (printed text) (omega (arith, printed_shorter text, a.short))
 
 -- "printing and reading again yields that diagram"
 pub print_then_read : (text lent : List ℕ) (d : Flow) → 16384 ≤ length lent → Accepted text d → Again text lent d
-print_then_read text lent d h a =
-    let w = wrote_printed text lent d h a in
+print_then_read text lent d long a =
+    let w = wrote_printed text lent d long a in
     let b : Accepted (wrote text lent) d = subst (λ (l : List ℕ). Accepted l d) (sym w) (printed_accepted text d a) in
+    let (g, q) = (accepted_exactly text).1 (d, a) in
+    let (h, r) = (accepted_exactly (wrote text lent)).1 (d, b) in
     record {
-      reported = ap report (accepted_prints text lent d h a) ∙ ap (λ (l : List ℕ). result (length l ∷ [])) (sym w);
+      reported = ap report (accepted_prints text lent d long a) ∙ ap (λ (l : List ℕ). result (length l ∷ [])) (sym w);
       accepted = b;
-      done = (accepted_exactly (wrote text lent)).1 (d, b);
-      same = same_diagram (wrote text lent) text d b a;
-      shows = accepted_shown text d a;
-      shows_again = accepted_shown (wrote text lent) d b;
+      first = g;
+      second = h;
+      read = q;
+      done = r;
+      same = same_diagram (wrote text lent) text d b a r q;
+      shows = accepted_shown text d a q;
+      shows_again = accepted_shown (wrote text lent) d b r;
     }
 
 -- "two accepted texts print alike exactly if their diagrams are equal"
@@ -106,5 +108,5 @@ left_alike s lent d t owed e h k a b =
     let trees : wrote s lent ≡ wrote t owed → d ≡ e = λ q. i.0 (sym w ∙ (q ∙ v)) in
     record {
       exactly = (trees, λ q. w ∙ (i.1 q ∙ sym v));
-      same = λ q. same_diagram s t d a (subst (Accepted t) (sym (trees q)) b);
+      same = λ q g h x y. same_diagram s t d a (subst (Accepted t) (sym (trees q)) b) x y;
     }

@@ -2,4 +2,3 @@ pub mod Prints
 pub mod Bounds
 pub mod Reports
 pub mod Same
-pub mod code

@@ -1,2 +1,0 @@
-pub mod Over
-pub mod PassedOn
