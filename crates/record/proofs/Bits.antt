@@ -12,7 +12,7 @@ use lib.Seq.{get_or-set_same, get_or-set_other, set_out}
 use lib.Dec.{eqb, ltb, leb, lit<}
 use lib.Pow.{pow_pos, pow-add, pow-lt, shl-shr, shl_exact}
 use lib.Bits.{bit_or, bit_xor, or_lt, xor_lt, or_shr, or_mod, xor_shr, xor_mod, or_zero_r, xor_zero_r}
-use borrow.Author.Tests.{eqb-true, eqb-false, eq-eqb, ltb-true, ltb-false, leb-true, le-leb, le-ltb, lt-ltb}
+use borrow.Author.Tests.{eqb-true, eqb-false, eq-eqb, ltb-true, ltb-false, leb-true, leb-false, le-leb, le-ltb, lt-ltb}
 use Rattle.base.proofs.Truth.{by_cases}
 use Rattle.record.specs.Bits.{Words, bit_at, change, set_bit, without, clear_bit, clear_bits}
 
@@ -169,10 +169,16 @@ pub clear_bits_more : (ws bs cs : List ℕ) (first i : ℕ) → bs ≡ clear_bit
 unfolding clear_bits
 clear_bits_more ws bs cs first i b c = c ∙ rw (b, add-one i)
 
-pub clear_bits_past : (ws bs : List ℕ) (first i count : ℕ) → bs ≡ clear_bits ws first i → 512 ≤ first + i → i ≤ count → bs ≡ clear_bits ws first count
-clear_bits_past ws bs first i count b h l =
+pub clear_bits_past : (ws bs : List ℕ) (first i count : ℕ) → bs ≡ clear_bits ws first i → 512 ≤ first + i → 512 ≤ first + count
+    → bs ≡ clear_bits ws first count
+clear_bits_past ws bs first i count b h k =
+    by_cases (leb i count)
+    (λ l. let least = leb-true i count l in
     let q : (count - i) + i ≡ count = omega arith in
-    b ∙ sym (clear_bits_out ws first i (count - i) h) ∙ ap (clear_bits ws first) q
+    b ∙ sym (clear_bits_out ws first i (count - i) h) ∙ ap (clear_bits ws first) q)
+    (λ l. let least = leb-false i count l in
+    let q : i ≡ (i - count) + count = omega arith in
+    b ∙ ap (clear_bits ws first) q ∙ clear_bits_out ws first count (i - count) k)
 
 -- A run of bits is cleared, and no other bit changes.
 pub bits_cleared : (ws : List ℕ) (first n i : ℕ) → length ws ≡ 8 → i < 512

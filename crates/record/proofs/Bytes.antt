@@ -1,24 +1,40 @@
 -- A record's bytes: what `store` writes, `load` reads.
-use mathlib.Core.Path.{◌≡◌, refl, ap, ◌∙◌}
+use mathlib.Core.Path.{◌≡◌, refl, subst, ap, ◌∙◌}
 use mathlib.Core.List.{List, [], ◌∷◌}
-use Prim.Native.Nat.{ℕ, zero, suc, ◌+◌, ◌≤◌, ◌<◌}
+use Prim.Native.Nat.{ℕ, zero, suc, ◌+◌, ◌*◌, ◌≤◌, ◌<◌}
 use native.Mathlib.Numerals.{add-one}
 use native.Mathlib.Omega.{arith}
 use lib.ListN.{length, get_or, set, take, length-append, get_or-append}
 use lib.Seq.{get_or_at, take_all}
 use lib.Dec.{eqb}
 use borrow.Author.Tests.{eqb-true, eqb-false}
+use denote.Param.Members.{Mut}
+use Rattle.std.specs.Prelude.{⊤}
+use Rattle.std.specs.Fn.{Called}
+use Rattle.std.specs.Array.{IsFromFnResultFrom, IsFromFnResult}
+use Rattle.std.proofs.lemmas.List.FromFn.{fill_by_all}
 use Rattle.base.specs.Fill.{fill}
 use Rattle.base.specs.Packed.{field}
 use Rattle.base.proofs.Truth.{by_cases}
 use Rattle.base.proofs.Filled.{fill_more}
 use Rattle.record.specs.Bytes.{words_of, byte_of, bytes_to, bytes_of}
 
--- Eight words that were read.
-pub loaded : (s : List ℕ) (a b c d e f g h : ℕ) → a ≡ field 8 s 0 → b ≡ field 8 s 8 → c ≡ field 8 s 16 → d ≡ field 8 s 24 → e ≡ field 8 s 32 → f ≡ field 8 s 40
-    → g ≡ field 8 s 48 → h ≡ field 8 s 56 → a ∷ b ∷ c ∷ d ∷ e ∷ f ∷ g ∷ h ∷ [] ≡ words_of s
+-- What the calls of a function that keeps its state made, at each number from i on.
+made : {F : Type 0} {g : Mut F (ℕ × ⊤) ℕ} (h : ℕ → ℕ) (f : F) → ((i y : ℕ) (q : F) → Called g f (i, tt) y q → (q ≡ f) × (y ≡ h i))
+    → (ys : List ℕ) (i n : ℕ) → IsFromFnResultFrom g f ys i n → (k : ℕ) → i ≤ k → k < i + n → get_or ys k 0 ≡ h k
+made h f each ys i zero m k a b = absurd (omega arith)
+made {g = g} h f each ys i (suc n) (q, y, e, c, rest) k a b =
+    let (same, is) = each i y q c in
+    by_cases (eqb k i)
+    (λ z. rw (eqb-true k i z) (e.1 0 ∙ is))
+    (λ z. let past = eqb-false k i z in
+    made h f each ys (i + 1) n (subst (λ s. IsFromFnResultFrom g s ys (i + 1) n) same rest) k (omega (arith, past)) (omega arith))
+
+pub loaded : {F : Type 0} {g : Mut F (ℕ × ⊤) ℕ} (s ys : List ℕ) (f : F)
+    → ((i y : ℕ) (q : F) → Called g f (i, tt) y q → (q ≡ f) × (y ≡ field 8 s (8 * i))) → IsFromFnResult g f ys 8 → ys ≡ words_of s
 unfolding words_of
-loaded s a b c d e f g h A B C D E F G H = rw (A, B, C, D, E, F, G, H)
+loaded s ys f each m =
+    fill_by_all (λ i. field 8 s (8 * i)) ys 8 0 m.long (λ k l. made (λ i. field 8 s (8 * i)) f each ys 0 8 m.each k (omega arith) l)
 
 pub bytes_length : (ws : List ℕ) (n : ℕ) → length (bytes_to ws n) ≡ n
 unfolding bytes_to

@@ -9,8 +9,8 @@ use native.Mathlib.Omega.{arith}
 use lib.ListN.{get_or}
 use lib.Dec.{eqb, ltb, lit<}
 use lib.Pow.{pow_pos, mod-pow-add}
-use borrow.Author.Tests.{eqb-true, eqb-false, eq-eqb, ltb-true, ltb-false, lt-ltb}
-use Rattle.base.proofs.Truth.{by_cases, and_l, and_r, and_i, or_e, or_l, or_r, not_i, not_e, agree}
+use borrow.Author.Tests.{eqb-true, eqb-false, eq-eqb, ltb-true, ltb-false, lt-ltb, ne_eqb}
+use Rattle.base.proofs.Truth.{by_cases, is_false, clash, and_l, and_r, and_i, or_e, or_l, or_r, not_i, not_e, agree}
 use Rattle.base.proofs.Each.{each_below, below_each}
 use Rattle.record.specs.Bits.{bit_at, clear_between}
 use Rattle.record.proofs.Bits.{one_shl}
@@ -102,18 +102,24 @@ module _ (ws : List ℕ) (first i : ℕ) (h : i < 8) (small : get_or ws i 0 < 2 
       (λ c. and_i (clear_each ws first (64 * i) (λ e l f. each_clear ws first (64 * i + 64) c e (omega arith) f)) (eq-eqb rest 0 (its_low c)))
 
 -- What the loop over the words holds: before the first word, after one more, after the eighth.
-pub past_start : (ws : List ℕ) (first : ℕ) → true ≡ clear_between ws first (64 * 0)
-unfolding clear_between
-past_start ws first = refl
+-- Where no bit of the words before it is set, word i tells by the number p whether one of its own is.
+module _ (ws : List ℕ) (first i p : ℕ) (h : i < 8) (c : clear_between ws first (64 * i) ≡ true)
+    (r : (p ≡ get_or ws i 0 % 2 ^ (64 * i + 64 - first)) × (get_or ws i 0 < 2 ^ 64)) where
+  told : eqb p 0 ≡ clear_between ws first (64 * (i + 1))
+  told =
+      let e : 64 * i + 64 ≡ 64 * (i + 1) = omega arith in
+      rw r.0 (rw c at (next_word ws first i h r.1) ∙ ap (clear_between ws first) e)
 
-pub past_more : (ws : List ℕ) (first i p : ℕ) (none : Bool) → i < 8 → none ≡ clear_between ws first (64 * i)
-    → (p ≡ get_or ws i 0 % 2 ^ (64 * i + 64 - first)) × (get_or ws i 0 < 2 ^ 64) → (none && eqb p 0) ≡ clear_between ws first (64 * (i + 1))
-past_more ws first i p none h q r =
-    let e : 64 * i + 64 ≡ 64 * (i + 1) = omega arith in
-    rw (q, r.0) (next_word ws first i h r.1 ∙ ap (clear_between ws first) e)
+  pub none_more : p ≡ 0 → clear_between ws first (64 * (i + 1)) ≡ true
+  none_more q = sym told ∙ eq-eqb p 0 q
 
-pub past_end : (ws : List ℕ) (first i : ℕ) (none : Bool) → i ≡ 8 → none ≡ clear_between ws first (64 * i) → not none ≡ not (clear_between ws first 512)
-past_end ws first i none h q = rw (q, h)
+  pub some_set : (p ≡ 0 → ⊥) → true ≡ not (clear_between ws first 512)
+  some_set n =
+      let none : clear_between ws first (64 * (i + 1)) ≡ false = sym told ∙ ne_eqb p 0 n in
+      let all : clear_between ws first 512 ≡ false =
+      is_false (clear_between ws first 512)
+      (λ a. clash (clear_each ws first (64 * (i + 1)) (λ e k. each_clear ws first 512 a e (omega arith))) none) in
+      rw all
 
 -- The remainder by which the code finds a word's bits at or past `first`.
 pub past_all : (w start first : ℕ) → w < 2 ^ 64 → first ≤ start → w ≡ w % 2 ^ (start + 64 - first)

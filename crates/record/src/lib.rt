@@ -1,10 +1,15 @@
 #![tactic(auto)]
 
-ghost use Rattle.std.specs.Prelude.{◌≡◌, ◌+◌, ◌-◌, ◌<◌, ◌%◌, ◌^◌};
+ghost use Rattle.std.specs.Prelude.{◌≡◌, ℕ, ◌+◌, ◌-◌, ◌<◌, ◌%◌, ◌^◌};
 ghost use Rattle.base.specs.Fill.{fill};
-ghost use Rattle.record.specs.Bits.{bit_at, set_bit, clear_bit, clear_bits, set_past};
+ghost use Rattle.record.specs.Bits.{bit_at, change, set_bit, clear_bit, clear_bits, set_past};
 ghost use Rattle.record.specs.Bytes.{words_of, bytes_of};
 ghost use Rattle.record.specs.Blank.{blank_record};
+
+// The control bits of a record, and its bytes in C.
+const BITS: usize = 512;
+
+pub const BYTES: usize = 64;
 
 // The run record: a control bit for each event, bit 0 the top bit of the first word. Laid out as in C, so that a caller outside can lend one.
 #[repr(C)]
@@ -13,6 +18,7 @@ pub struct Record {
     pub bits: [u64; 8],
 }
 
+#[tactic(auto, unfolding(crate::specs::Blank::blank_record))]
 pub fn blank() -> Record
     ensures { result ≡ blank_record }
 {
@@ -20,49 +26,40 @@ pub fn blank() -> Record
 }
 
 // Whether a control bit is set; there is none from 512 on.
+#[tactic(auto, unfolding(crate::specs::Bits::bit_at))]
 pub fn bit(bits: &[u64; 8], e: usize) -> bool
     ensures { result ≡ bit_at bits.now e }
 {
-    if 512 <= e {
+    if BITS <= e {
         return false;
     }
-    let w = bits[e / 64];
     let down = 63 - e % 64;
-    (w >> down) % 2 == 1
+    (bits[e / 64] >> down) % 2 == 1
 }
 
-// The number whose only bit is that of event e within its word.
-fn mask(e: usize) -> u64
-    ensures { result ≡ 2 ^ (63 - e % 64) }
+// The words with a change at one bit: `f` takes the word that holds it, and the number whose only bit it is. No bit from 512 on changes anything.
+fn change<F: Fn(u64, u64) -> u64>(bits: [u64; 8], e: usize, f: F) -> [u64; 8]
+    requires { F.IsAlwaysCallable f }
+    ensures { (by : ℕ → ℕ → ℕ) → ((w m r : ℕ) → F.post f w m r → r ≡ by w m) → result ≡ change by bits e }
 {
-    1u64 << (63 - e % 64)
+    let mut b = bits;
+    if e < BITS {
+        b[e / 64] = f(b[e / 64], 1 << (63 - e % 64));
+    }
+    b
 }
 
-// The words with one bit set; no bit from 512 on changes anything.
+// The words with one bit set.
 pub fn set(bits: [u64; 8], e: usize) -> [u64; 8]
     ensures { result ≡ set_bit bits e }
 {
-    let mut b = bits;
-    if 512 <= e {
-        return b;
-    }
-    let i = e / 64;
-    let m = mask(e);
-    b[i] = b[i] | m;
-    b
+    change(bits, e, |word, mask| word | mask)
 }
 
 fn clear_bit(bits: [u64; 8], e: usize) -> [u64; 8]
     ensures { result ≡ clear_bit bits e }
 {
-    let mut b = bits;
-    if 512 <= e {
-        return b;
-    }
-    let i = e / 64;
-    let m = mask(e);
-    b[i] = (b[i] | m) ^ m;
-    b
+    change(bits, e, |word, mask| (word | mask) ^ mask)
 }
 
 // The words with `count` bits cleared, from `first` on.
@@ -70,17 +67,9 @@ pub fn clear(bits: [u64; 8], first: usize, count: usize) -> [u64; 8]
     ensures { result ≡ clear_bits bits first count }
 {
     let mut b = bits;
-    if 512 <= first {
-        return b;
-    }
-    let mut i = 0;
-    while i < count {
-        if 512 <= first + i {
-            return b;
-        }
-        let c = clear_bit(b, first + i);
+    for e in first..first.saturating_add(count).min(BITS) {
+        let c = clear_bit(b, e);
         b = c;
-        i += 1;
     }
     b
 }
@@ -104,40 +93,27 @@ fn past(word: u64, start: usize, first: usize) -> u64
 pub fn set_past(bits: &[u64; 8], first: usize) -> bool
     ensures { result ≡ set_past bits.now first }
 {
-    let mut none = true;
-    let mut i = 0;
-    while i < 8 {
-        let p = past(bits[i], 64 * i, first);
-        none = none & (p == 0);
-        i += 1;
+    for (i, word) in bits.iter().enumerate() {
+        if past(*word, 64 * i, first) != 0 {
+            return true;
+        }
     }
-    !none
+    false
 }
 
 // The words of a record's bytes; bytes that are not there count as zero.
 pub fn load(bytes: &[u8]) -> [u64; 8]
     ensures { result ≡ words_of bytes.now }
 {
-    let a = base::number::<8>(bytes, 0) as u64;
-    let b = base::number::<8>(bytes, 8) as u64;
-    let c = base::number::<8>(bytes, 16) as u64;
-    let d = base::number::<8>(bytes, 24) as u64;
-    let e = base::number::<8>(bytes, 32) as u64;
-    let f = base::number::<8>(bytes, 40) as u64;
-    let g = base::number::<8>(bytes, 48) as u64;
-    let h = base::number::<8>(bytes, 56) as u64;
-    [a, b, c, d, e, f, g, h]
+    std::array::from_fn(|i| base::number::<8>(bytes, 8 * i) as u64)
 }
 
 // A record's 64 bytes over the front of `out`, as far as it goes.
 pub fn store(out: &mut [u8], bits: [u64; 8])
     ensures { out.new ≡ fill out.old (bytes_of bits) }
 {
-    let mut i = 0;
-    while i < 64 {
-        let w = bits[i / 8];
+    for i in 0..BYTES {
         let k = 56 - i % 8 * 8;
-        base::put(out, i, ((w >> k) % 256) as u8);
-        i += 1;
+        base::put(out, i, ((bits[i / 8] >> k) % 256) as u8);
     }
 }
