@@ -6,11 +6,11 @@ use mathlib.Core.Logic.{⊎_elim}
 use Prim.Native.Nat.{ℕ, ◌+◌, ◌<◌, ◌≤◌}
 use native.Mathlib.Numerals.{add-one}
 use native.Mathlib.Omega.{arith}
-use lib.Dec.{ltb, eqb}
+use lib.Dec.{ltb, leb, eqb}
 use lib.ListN.{length, take, set}
 use lib.Seq.{get_or-take, take-suc-set}
-use borrow.Author.Tests.{lt-ltb, ltb-true, eq-eqb, ne_eqb, eqb-true, eqb-false}
-use Rattle.base.proofs.Truth.{cases, agree, and_l, and_r}
+use borrow.Author.Tests.{lt-ltb, leb-true, leb-false, ltb-true, eq-eqb, ne_eqb, eqb-true, eqb-false}
+use Rattle.base.proofs.Truth.{cases, by_cases, agree, and_l, and_r}
 use Rattle.layout.specs.Fields.{events, row_word, kind_of, left_of, right_of}
 use Rattle.layout.specs.Sound.{row_sound}
 use Rattle.layout.specs.Values.{says, row_value, row_values}
@@ -42,6 +42,14 @@ module _ (w n i : ℕ) (ok : row_sound w n i ≡ true) where
 
   pub right_below : 2 ≤ kind_of w → right_of w < i
   right_below h = ltb-true _ _ (and_r (ltb (left_of w) i) _ (bounds_two w n i h ∙ ok))
+
+  -- So its right side stands on the sheet, whatever the kind.
+  pub right_within : (kind_of w ≡ 0 → ⊥) → i < 12288 → right_of w < 12288
+  right_within k I =
+      by_cases (leb 2 (kind_of w))
+      (λ q. let l = right_below (leb-true _ _ q) in omega arith)
+      (λ q. let one : kind_of w ≡ 1 = omega (arith, leb-false _ _ q, k) in
+      let l = ltb-true _ _ (and_r (ltb (left_of w) i) _ (bounds_not w n i one ∙ ok)) in omega arith)
 
   -- So it reads only the rows before it.
   pub value_before : (bits : List ℕ) (vs : List Bool) → row_value w bits vs ≡ row_value w bits (take i vs)
