@@ -1,5 +1,5 @@
 -- Property 1 for names, values and listings, and that a call has one answer.
-use mathlib.Core.Path.{◌≡◌, refl, sym, ap, ap₂, ◌∙◌}
+use mathlib.Core.Path.{◌≡◌, refl, sym, ap, ◌∙◌}
 use mathlib.Core.Logic.{◌⊎◌, inl, inr, ⊎_elim}
 use mathlib.Core.Bool.{Bool, true, false, cond}
 use mathlib.Core.List.{List, [], ◌∷◌}
@@ -10,9 +10,14 @@ use lib.Dec.{ltb}
 use lib.ListN.{length, get_or, take, drop, length-drop, length-take}
 use lib.Seq.{length-take-le}
 use borrow.Author.Tests.{ltb-true, ltb-false, lt-ltb, le-ltb}
+use Rattle.std.specs.Prelude.{Result, Ok, Err}
 use Rattle.base.specs.Fill.{fill}
-use Rattle.base.specs.Reports.{Report, result as result_report, refusal as refusal_report}
+use Rattle.base.specs.Refusals.{number, refusal as refusal_at}
+use Rattle.base.specs.declared.Reason.{Reason as Why}
+use Rattle.base.specs.declared.Refusal.{Refusal}
+use Rattle.base.specs.Reports.{result as result_report, refusal as refusal_report}
 use Rattle.base.proofs.Filled.{fill_length, fill_past}
+use Rattle.base.proofs.Reports.{refusal_told, result_told}
 use Rattle.base.proofs.Truth.{by_cases}
 use Rattle.diagram.specs.Count.{flow_events}
 use Rattle.process.specs.Process.{Event, event_of}
@@ -24,11 +29,12 @@ use Rattle.reading.specs.Reading.{Reading, drawing, no_drawing}
 use Rattle.events.specs.Labels.{label, label_of, Valued}
 use Rattle.events.specs.Names.{name_of, Placed, Named}
 use Rattle.events.specs.Listing.{listing, Listed}
-use Rattle.events.specs.Reports.{marked, event_marked, report}
+use Rattle.events.specs.Reports.{marked, event_marked, label_marked, report}
 use Rattle.events.specs.Bounds.{NameBounded, Within, Reason, unread, no_event, ValuesBounded, result, refusal, ListBounded}
 use Rattle.events.specs.declared.Label.{Label}
-use Rattle.events.specs.declared.Label.TheVariants.{Leaf, Reset, Refused}
+use Rattle.events.specs.declared.Label.TheVariants.{Leaf, Reset}
 use Rattle.reading.proofs.Bounds.{refused_at_near}
+use Rattle.reading.proofs.Exact.{refused_at_read}
 use Rattle.reading.proofs.Reading.{Same, same_drawing, same_no_drawing, one_reading}
 use Rattle.events.proofs.OneListing.{one_listing}
 use Rattle.events.proofs.Short.{Each, Small, Short}
@@ -69,20 +75,20 @@ packed_within l s = record {
   third_small = value_small l.values 2 s.small;
 }
 
-label_report : (l : Event) → report (label l) ≡ result_report (event_marked l)
+label_report : (l : Event) → report (Ok (label l)) ≡ result_report (event_marked l)
 label_report l = by_cases l.reset (λ t. rw t) (λ t. rw t)
 
-reading_bounded : {text : List ℕ} (w : Reading text) (e : ℕ) (r : Label) → r ≡ label_of w e → ValuesBounded text e r
+reading_bounded : {text : List ℕ} (w : Reading text) (e : ℕ) (r : Result Label Refusal) → r ≡ label_of w e → ValuesBounded text e r
 unfolding label_of
 reading_bounded {text} (drawing d a) e r q =
     by_cases (ltb e (flow_events d))
     (λ t.
     let h = ltb-true e (flow_events d) t in
     let l = event_of (expand d) e in
-    let its : r ≡ label l = q ∙ rw t in
+    let its : r ≡ Ok (label l) = q ∙ rw t in
     result record { tree = d; limits = a; below = h; reported = ap report its ∙ label_report l; within = packed_within l (short_at text d a e h) })
     (λ t.
-    let its : r ≡ Refused 14 0 = q ∙ rw t in
+    let its : r ≡ Err (refusal_at Why.Event 0) = q ∙ rw t in
     refusal
     record {
       number = 14;
@@ -92,11 +98,11 @@ reading_bounded {text} (drawing d a) e r q =
       one_of = inr refl;
       near = omega arith;
     })
-reading_bounded {text} (no_drawing number place h) e r q =
-    let n = refused_at_near text number place h in
+reading_bounded {text} (no_drawing reason place h) e r q =
+    let n = refused_at_near text (number reason) place h in
     refusal
     record {
-      number = number;
+      number = number reason;
       place = place;
       why = unread h;
       reported = ap report q;
@@ -104,7 +110,7 @@ reading_bounded {text} (no_drawing number place h) e r q =
       near = n.close;
     }
 
-pub values_bounded : (text : List ℕ) (e : ℕ) (r : Label) → Valued text e r → ValuesBounded text e r
+pub values_bounded : (text : List ℕ) (e : ℕ) (r : Result Label Refusal) → Valued text e r → ValuesBounded text e r
 values_bounded text e r v = reading_bounded v.reading e r v.its_label
 
 -- What an answer says tells the answer.
@@ -126,31 +132,30 @@ reset_reported : (v w : Values) (b : Bool) → marked 1 v ≡ marked (cond b 1 0
 reset_reported v w true e = ap Reset (same_values 1 1 v w e).1
 reset_reported v w false e = let n = (same_values 1 0 v w e).0 in let z : ⊥ = omega arith in absurd z
 
-event_reported : (r : Label) (l : Event) → report r ≡ result_report (event_marked l) → r ≡ label l
-event_reported (Leaf v) l e = leaf_reported v (packed l.values) l.reset (ap (λ (x : Report). x.values) e)
-event_reported (Reset v) l e = reset_reported v (packed l.values) l.reset (ap (λ (x : Report). x.values) e)
-event_reported (Refused c k) l e = let n = ap (λ (x : Report). length x.values) e in let z : ⊥ = omega arith in absurd z
+label_reported : (r : Label) (l : Event) → label_marked r ≡ event_marked l → r ≡ label l
+label_reported (Leaf v) l e = leaf_reported v (packed l.values) l.reset e
+label_reported (Reset v) l e = reset_reported v (packed l.values) l.reset e
 
-refusal_reported : (r : Label) (c k : ℕ) → report r ≡ refusal_report c k → r ≡ Refused c k
-refusal_reported (Leaf v) c k e = let n = ap (λ (x : Report). length x.values) e in let z : ⊥ = omega arith in absurd z
-refusal_reported (Reset v) c k e = let n = ap (λ (x : Report). length x.values) e in let z : ⊥ = omega arith in absurd z
-refusal_reported (Refused d j) c k e = ap₂ Refused (ap (λ (x : Report). x.number) e) (ap (λ (x : Report). x.place) e)
+event_reported : (r : Result Label Refusal) (l : Event) → report r ≡ result_report (event_marked l) → r ≡ Ok (label l)
+event_reported r l e = let (a, is, v) = result_told label_marked r (event_marked l) e in is ∙ ap Ok (label_reported a l v)
 
 -- And there is no other: the relation says all that the contract of `events::values` says.
-refusal_valued : (text : List ℕ) (e : ℕ) (r : Label) (c k : ℕ) → r ≡ Refused c k → Reason text e c k → Valued text e r
+refusal_valued : (text : List ℕ) (e : ℕ) (r : Result Label Refusal) (c k : ℕ) → report r ≡ refusal_report c k → Reason text e c k → Valued text e r
 unfolding label_of
-refusal_valued text e r c k q (unread t) = record { reading = no_drawing c k t; its_label = q }
+refusal_valued text e r c k q (unread t) =
+    let w = refused_at_read text c k t in
+    record { reading = no_drawing w.reason k (rw w.its_number t); its_label = refusal_told label_marked r w.reason k (rw w.its_number q) }
 refusal_valued text e r c k q (no_event d a h x y) =
-    record { reading = drawing d a; its_label = q ∙ (ap₂ Refused x y ∙ rw (le-ltb e (flow_events d) h)) }
+    record { reading = drawing d a; its_label = refusal_told label_marked r Why.Event 0 (rw (x, y) at q) ∙ rw (le-ltb e (flow_events d) h) }
 
-pub one_values : (text : List ℕ) (e : ℕ) (r : Label) → ValuesBounded text e r → Valued text e r
+pub one_values : (text : List ℕ) (e : ℕ) (r : Result Label Refusal) → ValuesBounded text e r → Valued text e r
 unfolding label_of
 one_values text e r (result v) =
     record {
       reading = drawing v.tree v.limits;
       its_label = event_reported r (event_of (expand v.tree) e) v.reported ∙ rw (lt-ltb e (flow_events v.tree) v.below);
     }
-one_values text e r (refusal v) = refusal_valued text e r v.number v.place (refusal_reported r v.number v.place v.reported) v.why
+one_values text e r (refusal v) = refusal_valued text e r v.number v.place v.reported v.why
 
 -- The name.
 name_short : {text : List ℕ} (w : Reading text) (e : ℕ) → length (name_of w e) ≤ 24
@@ -159,7 +164,7 @@ name_short {text} (drawing d a) e =
     by_cases (ltb e (flow_events d))
     (λ t. rw t (short_at text d a e (ltb-true e (flow_events d) t)).name)
     (λ t. rw t (omega arith))
-name_short {text} (no_drawing number place h) e = omega arith
+name_short {text} (no_drawing reason place h) e = omega arith
 
 -- It has a byte, or stands at the text's begin.
 name_near : {text : List ℕ} (w : Reading text) (e place : ℕ) → Placed w e place → (1 ≤ length (name_of w e)) ⊎ (place ≡ 0)
@@ -168,7 +173,7 @@ name_near {text} (drawing d a) e place p =
     by_cases (ltb e (flow_events d))
     (λ t. inl (rw t (short_at text d a e (ltb-true e (flow_events d) t)).some))
     (λ t. inr (p.1 (ltb-false e (flow_events d) t)))
-name_near {text} (no_drawing number at h) e place p = inr p
+name_near {text} (no_drawing reason at h) e place p = inr p
 
 pub name_bounded : (text : Bor (List ℕ)) (e : ℕ) (r : Bor (List ℕ)) → Named text e r → NameBounded text r
 name_bounded text e r n =
@@ -193,7 +198,7 @@ unfolding name_of
 same_name e (same_drawing d a b) = refl
 same_name e (same_no_drawing n p r s) = refl
 
-pub one_label : (text : List ℕ) (e : ℕ) (r s : Label) → Valued text e r → Valued text e s → r ≡ s
+pub one_label : (text : List ℕ) (e : ℕ) (r s : Result Label Refusal) → Valued text e r → Valued text e s → r ≡ s
 one_label text e r s v w = v.its_label ∙ (same_label e (one_reading v.reading w.reading) ∙ sym w.its_label)
 
 same_place : {text : List ℕ} {v w : Reading text} (e p q : ℕ) → Same v w → Placed v e p → Placed w e q → p ≡ q

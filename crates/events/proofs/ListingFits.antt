@@ -5,6 +5,7 @@ use Prim.Native.Nat.{ℕ, suc, ◌+◌, ◌*◌, ◌≤◌, ◌<◌}
 use native.Mathlib.Omega.{arith}
 use lib.ListN.{length, length-append}
 use Rattle.diagram.specs.Count.{flow_events, flow_copies}
+use Rattle.base.specs.Refusals.{number}
 use Rattle.base.specs.Text.{bytes}
 use Rattle.output.proofs.Decimals.{decimal_short}
 use Rattle.output.proofs.Lines.{two_numbers_short, refused_short}
@@ -49,4 +50,5 @@ listing_short {text} (drawing d a) =
     let c = events_counted d a.keeps.sizes in
     simp length-append
     (omega (arith, first_short (flow_events d) (flow_copies d) (omega arith) (omega arith), lines_short 0 (events (expand d)) (omega arith) (events_short text d a)))
-listing_short {text} (no_drawing n p r) = let h = refused_at_near text n p r in omega (arith, refused_short n p (omega arith) (omega arith))
+listing_short {text} (no_drawing reason p r) =
+    let h = refused_at_near text (number reason) p r in omega (arith, refused_short (number reason) p (omega arith) (omega arith))

@@ -1,8 +1,9 @@
 -- Property 1 for names, values and listings: "Every answer .. is a result within the limits or one numbered refusal with its place, which leaves lent memory
 -- untouched". The text is lent for reading only.
-use Rattle.std.specs.Prelude.{◌≡◌, ◌⊎◌, List, ℕ, ◌+◌, ◌≤◌, ◌<◌, length, drop}
+use Rattle.std.specs.Prelude.{◌≡◌, ◌⊎◌, List, ℕ, ◌+◌, ◌≤◌, ◌<◌, length, drop, Result}
 use Rattle.std.specs.Borrow.{Bor}
 use Rattle.base.specs.Reports.{result as result_report, refusal as refusal_report}
+use Rattle.base.specs.declared.Refusal.{Refusal}
 use Rattle.diagram.specs.Tree.{Flow}
 use Rattle.diagram.specs.Count.{flow_events}
 use Rattle.reading.specs.Accepted.{Accepted}
@@ -31,7 +32,7 @@ pub record Within (v : Values) : Type 0 where
   pub third_small : v.third < 16
 
 -- Event e of the drawing: the mark that tells a reset from a leaf, and its values.
-pub record ValuesResult (text : List ℕ) (e : ℕ) (r : Label) : Type 0 where
+pub record ValuesResult (text : List ℕ) (e : ℕ) (r : Result Label Refusal) : Type 0 where
   pub tree : Flow
   pub limits : Accepted text tree
   pub below : e < flow_events tree
@@ -44,7 +45,7 @@ pub data Reason (text : List ℕ) (e number place : ℕ) : Type 0 where
   no_event : (d : Flow) → Accepted text d → flow_events d ≤ e → number ≡ 14 → place ≡ 0 → Reason text e number place
 
 -- One of the numbers 2 to 11 and 14, with a place in a text within the limits or at its end.
-pub record ValuesRefusal (text : List ℕ) (e : ℕ) (r : Label) : Type 0 where
+pub record ValuesRefusal (text : List ℕ) (e : ℕ) (r : Result Label Refusal) : Type 0 where
   pub number : ℕ
   pub place : ℕ
   pub why : Reason text e number place
@@ -53,7 +54,7 @@ pub record ValuesRefusal (text : List ℕ) (e : ℕ) (r : Label) : Type 0 where
   pub near : place ≤ 16384
 
 -- There is one such answer for each text and event number: `events.proofs.Bounds.one_values`.
-pub data ValuesBounded (text : List ℕ) (e : ℕ) (r : Label) : Type 0 where
+pub data ValuesBounded (text : List ℕ) (e : ℕ) (r : Result Label Refusal) : Type 0 where
   -- "a result within the limits"
   result : ValuesResult text e r → ValuesBounded text e r
   -- "or one numbered refusal with its place"

@@ -2,6 +2,5 @@ pub mod Labels
 pub mod Names
 pub mod Listing
 pub mod Worked
-pub mod code
 pub mod Bounds
 pub mod Reports

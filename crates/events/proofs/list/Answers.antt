@@ -1,15 +1,12 @@
--- `events::list` meets its contract, by what the text is. Assumes nothing.
+-- By what the text is.
+use Rattle.std.proofs.Common.{sym}
 use Rattle.events.proofs.Answers.{listed_drawn, listed_refused}
 use Rattle.events.proofs.list.Goals as goal
-
-pub returns-in_default : goal.returns-in_default
-returns-in_default c =
-    let a = c.args in
-    let r = c.read-o in
-    listed_refused a.text.now a.out.now _ r.result c.in_default.field-0 c.in_default.field-1 c.write_refusal.result r.ensures c.in_default.is c.told-out c.write_refusal.ensures
+use Rattle.events.proofs.list.Goals.{in-Ok, in-Err}
 
 pub returns : goal.returns
 returns c =
-    let a = c.args in
-    let r = c.read-o in
-    listed_drawn a.text.now a.out.now _ r.result c.write.result r.ensures c.in-Done.is c.write.ensures.out_len c.write.ensures.out_after
+    elim c.match-read.branch [
+      | in-Ok w ↦ rw w.w-is (listed_drawn c.args.text.now c.args.out.now _ w.in-Ok.d _ (sym w.in-Ok.ensures) c.told-out (rw c.new-w.ensures.none at w.write.ensures.listing))
+      | in-Err w ↦ rw w.w-is (listed_refused c.args.text.now c.args.out.now _ w.in-Err.why _ (sym w.in-Err.ensures) c.told-out (rw c.new-w.ensures.none at w.refused.ensures.bytes))
+    ]
