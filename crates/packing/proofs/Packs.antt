@@ -1,28 +1,37 @@
--- Laws of packing.
-use mathlib.Core.Path.{◌≡◌, refl, sym, ap, ◌∙◌}
-use mathlib.Core.List.{[], ◌∷◌}
-use Prim.Native.Nat.{ℕ, ◌+◌, ◌*◌, ◌%◌, ◌^◌}
-use native.Mathlib.Omega.{arith}
-use Rattle.base.specs.Reports.{Report, result, refusal}
-use Rattle.packing.specs.Packed.{packed}
+-- Values that are put side by side, one after the other.
+use Rattle.std.proofs.Common.{◌≡◌, refl, ℕ, ◌+◌, ◌*◌, ◌%◌, ◌≤◌, ◌<◌, List, [], ◌∷◌, ◌++◌, length, take, get_or, add-one, arith}
+use Rattle.std.specs.Prelude.{◌^◌}
+use Rattle.std.proofs.Math.Nat.{pow-le-pow_right, mod-lt}
+use Rattle.std.proofs.Math.Seq.{take-suc}
+use Rattle.std.proofs.lemmas.Nat.{pow_pos, pow-add, mul-le, one_shl, mul-add-lt}
+use mathlib.Core.List.{foldl}
+use Rattle.packing.specs.Packed.{beside}
 
--- An answer is packed as the case that it is is packed.
-pub by_case : {A : Type 0} (w : ℕ) (report : A → Report) {a b : A} {r : ℕ} → a ≡ b → r ≡ packed w (report b) → r ≡ packed w (report a)
-by_case w report is e = e ∙ ap (λ x. packed w (report x)) (sym is)
+-- One value more.
+folded_more : {A B : Type 0} (f : B → A → B) (b : B) (xs : List A) (x : A) → foldl f b (xs ++ (x ∷ [])) ≡ f (foldl f b xs) x
+folded_more f b [] x = refl
+folded_more f b (y ∷ ys) x = folded_more f (f b y) ys x
 
-pub refused : (w number place : ℕ) {r : ℕ} → r ≡ number * 2 ^ 32 + place % 2 ^ 32 → r ≡ packed w (refusal number place)
-refused w number place e = omega (arith, e)
+pub beside_more : (w : ℕ) (vs : List ℕ) (i : ℕ) → i < length vs → beside w (take (i + 1) vs) ≡ beside w (take i vs) * 2 ^ w + get_or vs i 0 % 2 ^ w
+beside_more w vs i h = rw (add-one, take-suc vs i 0 h) (folded_more (λ n v. n * 2 ^ w + v % 2 ^ w) 0 (take i vs) (get_or vs i 0))
 
--- So many values, side by side.
-pub none : 0 ≡ packed 32 (result [])
-none = refl
+-- It fits: n has the bits of i values, and there are more than these.
+module _ (w i len : ℕ) (more : i < len) (fit : len * w ≤ 32) where
+  wider : (i + 1) * w ≡ w + i * w
+  wider = grind arith
 
-pub one : (n : ℕ) → n % 4294967296 ≡ packed 32 (result (n ∷ []))
-one n = omega arith
+  within : w + i * w ≤ 32
+  within = omega (arith, mul-le (i + 1) w len w (omega arith) (omega arith), wider)
 
-pub three : (a b c : ℕ) → (a % 1024 * 1024 + b % 1024) * 1024 + c % 1024 ≡ packed 10 (result (a ∷ b ∷ c ∷ []))
-three a b c = omega arith
+  -- The shift in the code is the base.
+  pub base_is : 1 * 2 ^ w % 18446744073709551616 ≡ 2 ^ w
+  base_is = one_shl w 64 (omega (arith, within))
 
-pub five : (a b c d e : ℕ) {x y z w : ℕ} → x ≡ a → y ≡ b → z ≡ c → w ≡ d
-    → (((x % 64 * 64 + y % 64) * 64 + z % 64) * 64 + w % 64) * 64 + e % 64 ≡ packed 6 (result (a ∷ b ∷ c ∷ d ∷ e ∷ []))
-five a b c d e p q s t = rw (p, q, s, t) (omega arith)
+  module _ (n v : ℕ) (below : n < 2 ^ (i * w)) where
+    pub next_below : n * 2 ^ w + v % 2 ^ w < 2 ^ ((i + 1) * w)
+    next_below = rw (wider, pow-add 2 w (i * w)) (mul-add-lt n (2 ^ w) (v % 2 ^ w) (2 ^ (i * w)) below (mod-lt v (pow_pos w)))
+
+    pub next_fits : n * 2 ^ w + v % 2 ^ w < 18446744073709551616
+    next_fits =
+        let most : 2 ^ ((i + 1) * w) ≤ 2 ^ 32 = pow-le-pow_right {n = 2} (omega arith) {i = (i + 1) * w} {j = 32} (omega (arith, within, wider)) in
+        omega (arith, next_below)
