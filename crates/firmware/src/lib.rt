@@ -10,7 +10,7 @@ use record::Record;
 fn is_record(bytes: &[u8]) -> bool
     ensures { result ≡ eqb (length bytes.now) 64 }
 {
-    bytes.len() == 64
+    bytes.len() == record::BYTES
 }
 
 // The number that stands for an answer.

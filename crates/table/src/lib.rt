@@ -114,7 +114,7 @@ pub fn offer(table: &[u8], before: Record, out: &mut [u8]) -> Result<(), Refusal
     ensures value { result ≡ offer_of table.now before out.old }
     ensures out_after { out.new ≡ offer_left table.now before out.old (offer_of table.now before out.old) }
 {
-    if out.len() < 64 {
+    if out.len() < record::BYTES {
         return Err(Reason::Buffer.at(0));
     }
     let mut values = [false; layout::ROWS];

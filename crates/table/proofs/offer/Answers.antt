@@ -8,4 +8,4 @@ gather-requires c = done_sound _ _ (sym c.in_ok-admit.ensures.value)
 
 pub returns-clause-out_after : goal.returns-clause-out_after
 returns-clause-out_after c =
-    looked_offer _ _ _ (sym c.in_ok-admit.ensures.value) c.in_ok-admit.ensures.values_after _ _ _ c.if-out-lt64.false c.gather.ensures c.store.ensures
+    looked_offer _ _ _ (sym c.in_ok-admit.ensures.value) c.in_ok-admit.ensures.values_after _ _ _ c.if-out-lt-BYTES.false c.gather.ensures c.store.ensures
