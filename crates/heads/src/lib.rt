@@ -1,95 +1,61 @@
 #![tactic(auto)]
 
-ghost use Rattle.std.specs.Prelude.{◌≡◌, false, [], ◌∷◌, ℕ, ◌+◌, ◌*◌, ◌<◌, ◌≤◌, length, Some, IfOk, IfErr};
+ghost use Rattle.std.specs.Prelude.{◌≡◌, false, [], ◌∷◌, ℕ, suc, ◌<◌, ◌≤◌, length, Some, IfOk, IfErr};
 ghost use Rattle.base.specs.declared.Reason.TheVariants.{Token, Text};
 ghost use Rattle.base.specs.Refusals.{refusal};
 ghost use Rattle.tokens.specs.Token.{key, opening, closing as closing_sign, colon};
 ghost use Rattle.tokens.specs.Kinds.{shown_sign, shown_key, shown, number_of};
 ghost use Rattle.grammar.specs.Machine.{sign as sign_of, named, number, params, counts};
 ghost use Rattle.grammar.specs.Places.{place_of};
-ghost use Rattle.walked.specs.Walk.{store, begun, row_code};
+ghost use Rattle.walked.specs.Walk.{row_at, change, marked, begun_kind};
 ghost use Rattle.walked.specs.code.Readers.{Closing, Reads, Fills, Marks, Begins};
 ghost use Rattle.heads.specs.code.Seen.{Seen};
 
 use base::{Reason, Refusal};
+use diagram::Kind;
 use grammar::Place;
 use lexer::Lexer;
 use tokens::{Keyword, Lexeme, Sign};
-use walked::Position;
+use walked::{Position, Row};
 
 // What the lines of the thesis's Figure 5.2 have in parentheses, and a node's keyword. The lines themselves are read in `walk`.
 
-// The numbers of a node's row, in their order: the place of its keyword, its solid mark, the place of its name or par, its keyword, its size, its depth,
-// its sw, the place past its name or par.
-pub const PLACE: usize = 0;
-
-pub const SOLID: usize = 1;
-
-pub const NAME: usize = 2;
-
-pub const KEYWORD: usize = 3;
-
-pub const SIZE: usize = 4;
-
-pub const DEPTH: usize = 5;
-
-pub const SWITCH: usize = 6;
-
-pub const PAST: usize = 7;
-
-// The numbers of the keywords in a row: they go in document 01's order.
-pub const FLOW: u16 = 7;
-
-pub const LEAF: u16 = 8;
-
-pub const XOR: u16 = 11;
-
-pub const ALL: u16 = 12;
-
-pub const ONE: u16 = 14;
-
-pub const LOOP: u16 = 15;
-
-// A store into the row n. Past the last row it does nothing.
-fn put(rows: &mut [u16; 2056], n: usize, column: usize, v: u16)
-    requires { column < 16 }
-    ensures { rows.new ≡ store rows.old (n * 8 + column) v }
-{
-    if n <= 256 {
-        base::put(rows, n * 8 + column, v);
-    }
-}
-
-// The number of a keyword in a row.
-fn code(keyword: Keyword) -> u16
-    ensures { result ≡ row_code (key (shown_key keyword)) }
+// The kind of the node that a keyword begins; a replicator has no size yet.
+fn kind(keyword: Keyword) -> Kind
+    ensures { result ≡ begun_kind (key (shown_key keyword)) }
 {
     match keyword {
-        Keyword::Flow => FLOW,
-        Keyword::Leaf => LEAF,
-        Keyword::And => 9,
-        Keyword::Or => 10,
-        Keyword::Xor => XOR,
-        Keyword::All => ALL,
-        Keyword::Some => 13,
-        Keyword::One => ONE,
-        Keyword::Loop => LOOP,
+        Keyword::Flow => Kind::Flow,
+        Keyword::Leaf => Kind::Leaf,
+        Keyword::And => Kind::And,
+        Keyword::Or => Kind::Or,
+        Keyword::Xor => Kind::Xor,
+        Keyword::All => Kind::All(0),
+        Keyword::Some => Kind::Some(0),
+        Keyword::One => Kind::One(0),
+        Keyword::Loop => Kind::Loop,
     }
 }
 
-// Begins the row of the node before which n nodes stand: the place of its keyword, the keyword's number, and its depth, by the depths left for it.
-fn begin_row(rows: &mut [u16; 2056], n: usize, keyword: Keyword, place: u16, left: usize)
-    requires { n < 256 }
-    ensures { rows.new ≡ begun rows.old n (row_code (key (shown_key keyword))) place left }
+// The row n. Past the last row there is none.
+fn row(rows: &[Row; 257], n: usize) -> Row
+    ensures { result ≡ row_at rows.now n }
 {
-    let row = n + 1;
-    put(rows, row, PLACE, place);
-    put(rows, row, KEYWORD, code(keyword));
-    put(rows, row, DEPTH, 13usize.saturating_sub(left) as u16);
+    base::at(rows, n, Row::blank())
+}
+
+// The solid mark of the node i. Past the last row there is none.
+fn mark(rows: &mut [Row; 257], i: usize, solid: bool)
+    ensures { rows.new ≡ change rows.old (suc i) (marked solid) }
+{
+    if i < 256 {
+        let row = row(rows, i + 1).marked(solid);
+        base::put(rows, i + 1, row);
+    }
 }
 
 // The number that a numeral from `least` to `most` stands for; number 5 for another token.
-fn value(t: Lexeme, least: u8, most: u8) -> Result<u16, Refusal>
+fn value(t: Lexeme, least: u8, most: u8) -> Result<u8, Refusal>
     ensures ok { IfOk result (λ v. (number_of t.kind ≡ Some v) × (least ≤ v) × (v ≤ most)) }
     ensures err { IfErr result (λ r. (r ≡ refusal Token t.start) × (counts least most (shown t.kind) ≡ false)) }
 {
@@ -99,7 +65,7 @@ fn value(t: Lexeme, least: u8, most: u8) -> Result<u16, Refusal>
     if n < least || most < n {
         return Err(Reason::Token.at(t.start));
     }
-    Ok(u16::from(n))
+    Ok(n)
 }
 
 // What reads a text token by token. A text has at most 16,384 bytes, so each place in it fits 16 bits.
@@ -130,7 +96,7 @@ impl<'a> Parser<'a> {
         p: Position,
         place: Place,
         left: usize,
-        rows: &mut [u16; 2056],
+        rows: &mut [Row; 257],
     ) -> Result<(Keyword, Position), Refusal>
         ensures { Begins self.now.lexer.text.now (place_of place) left p.nodes p.at rows.old result rows.new }
     {
@@ -144,7 +110,12 @@ impl<'a> Parser<'a> {
         if left == 0 || 256 <= p.nodes {
             return Err(Reason::Node.at(t.start));
         }
-        begin_row(rows, p.nodes, keyword, t.start as u16, left);
+        let depth = 13usize.saturating_sub(left) as u16;
+        base::put(
+            rows,
+            p.nodes + 1,
+            Row::begun(kind(keyword), t.start as u16, depth),
+        );
         let past = Position {
             at: t.end,
             nodes: p.nodes + 1,
@@ -184,15 +155,15 @@ impl<'a> Parser<'a> {
     }
 
     // The name of the last node, or its par: its place, and the place past it.
-    fn name(&self, p: Position, rows: &mut [u16; 2056]) -> Result<Position, Refusal>
+    fn name(&self, p: Position, rows: &mut [Row; 257]) -> Result<Position, Refusal>
         ensures { Fills self.now.lexer.text.now (named ∷ []) p.nodes p.at rows.old result rows.new }
     {
         let t = self.lexer.next(p.at);
         if !t.is_name() {
             return Err(Reason::Token.at(t.start));
         }
-        put(rows, p.nodes, NAME, t.start as u16);
-        put(rows, p.nodes, PAST, t.end as u16);
+        let row = row(rows, p.nodes).named(t.start as u16, t.end as u16);
+        base::put(rows, p.nodes, row);
         Ok(Position {
             at: t.end,
             nodes: p.nodes,
@@ -200,7 +171,7 @@ impl<'a> Parser<'a> {
     }
 
     // `(` and a name.
-    fn opened_name(&self, p: Position, rows: &mut [u16; 2056]) -> Result<Position, Refusal>
+    fn opened_name(&self, p: Position, rows: &mut [Row; 257]) -> Result<Position, Refusal>
         ensures { Fills self.now.lexer.text.now (sign_of opening ∷ named ∷ []) p.nodes p.at rows.old result rows.new }
     {
         let p = self.sign(p, Sign::Opening)?;
@@ -208,7 +179,7 @@ impl<'a> Parser<'a> {
     }
 
     // Figure 5.2, flow: the pars and the sw, each after a comma, and the `)`. What is no name after a comma has to be the sw.
-    fn params(&self, p: Position, rows: &mut [u16; 2056]) -> Result<Position, Refusal>
+    fn params(&self, p: Position, rows: &mut [Row; 257]) -> Result<Position, Refusal>
         ensures { Fills self.now.lexer.text.now (params ∷ []) p.nodes p.at rows.old result rows.new }
     {
         let mut at = p.at;
@@ -221,14 +192,15 @@ impl<'a> Parser<'a> {
             at = t.end;
             if !t.is_name() {
                 let switch = value(t, 0, 1)?;
-                put(rows, p.nodes, SWITCH, switch);
+                let row = row(rows, p.nodes).switched(switch == 1);
+                base::put(rows, p.nodes, row);
                 return self.sign(Position { at, nodes: p.nodes }, Sign::Closing);
             }
         }
     }
 
     // Figure 5.2, flow: what stands between the keyword and the children, which is the name, the pars and the sw, and a `(`.
-    pub fn flow_head(&self, p: Position, rows: &mut [u16; 2056]) -> Result<Position, Refusal>
+    pub fn flow_head(&self, p: Position, rows: &mut [Row; 257]) -> Result<Position, Refusal>
         ensures { Fills self.now.lexer.text.now (sign_of opening ∷ named ∷ params ∷ sign_of opening ∷ []) p.nodes p.at rows.old result rows.new }
     {
         let p = self.opened_name(p, rows)?;
@@ -237,12 +209,13 @@ impl<'a> Parser<'a> {
     }
 
     // Document 01's addition to the par of Figure 5.2, constructor: the size of the last node, from 1 to 16, and the `)`.
-    fn size(&self, p: Position, rows: &mut [u16; 2056]) -> Result<Position, Refusal>
+    fn size(&self, p: Position, rows: &mut [Row; 257]) -> Result<Position, Refusal>
         ensures { Fills self.now.lexer.text.now (number 1 16 ∷ sign_of closing_sign ∷ []) p.nodes p.at rows.old result rows.new }
     {
         let t = self.lexer.next(p.at);
         let size = value(t, 1, 16)?;
-        put(rows, p.nodes, SIZE, size);
+        let row = row(rows, p.nodes).sized(size);
+        base::put(rows, p.nodes, row);
         self.sign(
             Position {
                 at: t.end,
@@ -253,7 +226,7 @@ impl<'a> Parser<'a> {
     }
 
     // Figure 5.2, constructor: what stands between all, some, one and the member, which is a par with its size.
-    pub fn copies(&self, p: Position, rows: &mut [u16; 2056]) -> Result<Position, Refusal>
+    pub fn copies(&self, p: Position, rows: &mut [Row; 257]) -> Result<Position, Refusal>
         ensures { Fills self.now.lexer.text.now (sign_of opening ∷ named ∷ sign_of colon ∷ number 1 16 ∷ sign_of closing_sign ∷ []) p.nodes p.at rows.old result rows.new }
     {
         let p = self.opened_name(p, rows)?;
@@ -262,7 +235,7 @@ impl<'a> Parser<'a> {
     }
 
     // Figure 5.2, child and cons-child: what follows leaf, a name in parentheses.
-    pub fn leaf(&self, p: Position, rows: &mut [u16; 2056]) -> Result<Position, Refusal>
+    pub fn leaf(&self, p: Position, rows: &mut [Row; 257]) -> Result<Position, Refusal>
         ensures { Fills self.now.lexer.text.now (sign_of opening ∷ named ∷ sign_of closing_sign ∷ []) p.nodes p.at rows.old result rows.new }
     {
         let p = self.opened_name(p, rows)?;
@@ -274,14 +247,14 @@ impl<'a> Parser<'a> {
         &self,
         p: Position,
         i: usize,
-        rows: &mut [u16; 2056],
+        rows: &mut [Row; 257],
     ) -> Result<Position, Refusal>
         ensures { Marks self.now.lexer.text.now i p.nodes p.at rows.old result rows.new }
     {
         let p = self.sign(p, Sign::Opening)?;
         let t = self.lexer.next(p.at);
         let solid = value(t, 0, 1)?;
-        put(rows, i, 8 + SOLID, solid);
+        mark(rows, i, solid == 1);
         self.sign(
             Position {
                 at: t.end,

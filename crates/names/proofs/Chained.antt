@@ -2,7 +2,7 @@
 use mathlib.Core.Path.{◌≡◌, refl, sym, ap, ◌∙◌}
 use mathlib.Core.Bool.{Bool, true, false, not, ◌&&◌}
 use mathlib.Core.List.{List}
-use Prim.Native.Nat.{ℕ, zero, suc, ◌+◌, ◌-◌, ◌*◌, ◌≤◌, ◌<◌}
+use Prim.Native.Nat.{ℕ, zero, suc, ◌-◌, ◌≤◌, ◌<◌}
 use native.Mathlib.Omega.{arith}
 use lib.Dec.{eqb}
 use lib.ListN.{get_or}
@@ -12,9 +12,11 @@ use Rattle.base.proofs.Truth.{and_l, and_r, and_i, is_false, by_cases, clash}
 use Rattle.diagram.specs.Tree.{Name}
 use Rattle.diagram.specs.Names.{same}
 use Rattle.tokens.specs.Words.{word_at}
+use Rattle.walked.specs.Rows.{row_of}
+use Rattle.walked.specs.declared.Row.{Row}
 use Rattle.names.specs.code.Marks.{mark_of, titled_at, title_at, unused_at, latest, Linked}
 
-module _ (text rows : List ℕ) (s : ℕ) where
+module _ (text : List ℕ) (rows : List Row) (s : ℕ) where
   -- The node u is a leaf or a flow whose name has the mark s.
   abbrev marked : ℕ → Bool
   marked u = titled_at rows u && eqb (mark_of (title_at text rows u)) s
@@ -36,7 +38,7 @@ module _ (text rows : List ℕ) (s : ℕ) where
       let r = latest_marked u k (rw b at e) in
       (r.0, omega (arith, r.1)))
 
-module _ (text rows : List ℕ) (m : Name) where
+module _ (text : List ℕ) (rows : List Row) (m : Name) where
   -- A node that is not marked as the name is does not have it.
   other : (u : ℕ) → marked text rows (mark_of m) u ≡ false → (titled_at rows u && same m (title_at text rows u)) ≡ false
   other u e =
@@ -59,16 +61,16 @@ module _ (text rows : List ℕ) (m : Name) where
   unused_cons (suc j) h = let e : suc j - 1 ≡ j = omega arith in rw e
 
 -- The nodes passed do not have the name, and the next that may have it has the number j - 1.
-pub record Chain (text rows : List ℕ) (m : Name) (i j : ℕ) : Type 0 where
+pub record Chain (text : List ℕ) (rows : List Row) (m : Name) (i j : ℕ) : Type 0 where
   pub upto : ℕ
   pub within : upto ≤ i
   pub is : j ≡ latest text rows (mark_of m) upto
   pub left : unused_at text rows m i ≡ unused_at text rows m j
 
-pub chain_start : (text rows : List ℕ) (m : Name) (i j : ℕ) → j ≡ latest text rows (mark_of m) i → Chain text rows m i j
+pub chain_start : (text : List ℕ) (rows : List Row) (m : Name) (i j : ℕ) → j ≡ latest text rows (mark_of m) i → Chain text rows m i j
 chain_start text rows m i j e = record { upto = i; within = omega arith; is = e; left = unused_latest text rows m i ∙ ap (unused_at text rows m) (sym e) }
 
-module _ {text rows : List ℕ} {m : Name} {i j : ℕ} (s : Chain text rows m i j) where
+module _ {text : List ℕ} {rows : List Row} {m : Name} {i j : ℕ} (s : Chain text rows m i j) where
   pub chain_end : j ≤ 0 → false ≡ not (unused_at text rows m i)
   unfolding unused_at
   chain_end h = let e : j ≡ 0 = omega arith in rw (s.left, e)
@@ -80,10 +82,10 @@ module _ {text rows : List ℕ} {m : Name} {i j : ℕ} (s : Chain text rows m i 
     titled : titled_at rows (j - 1) ≡ true
     titled = and_l (titled_at rows (j - 1)) (eqb (mark_of (title_at text rows (j - 1))) (mark_of m)) its.0
 
-    pub chain_found : {x : ℕ} {b : Bool} → x ≡ get_or rows ((j - 1) * 8 + 10) 0 → b ≡ same m (word_at text x) → b ≡ true → true ≡ not (unused_at text rows m i)
+    pub chain_found : {x : ℕ} {b : Bool} → x ≡ (row_of rows (j - 1)).node.name → b ≡ same m (word_at text x) → b ≡ true → true ≡ not (unused_at text rows m i)
     chain_found q p e = rw (s.left, unused_cons text rows m j h, titled, ← q, ← p, e)
 
-    pub chain_next : {x : ℕ} {b : Bool} {links : List ℕ} {k : ℕ} → x ≡ get_or rows ((j - 1) * 8 + 10) 0 → b ≡ same m (word_at text x) → b ≡ false
+    pub chain_next : {x : ℕ} {b : Bool} {links : List ℕ} {k : ℕ} → x ≡ (row_of rows (j - 1)).node.name → b ≡ same m (word_at text x) → b ≡ false
         → Linked text rows links i → k ≡ get_or links (j - 1) 0 → Chain text rows m i k
     chain_next {x} {b} {links} {k} q p e l n =
         let mark : mark_of (title_at text rows (j - 1)) ≡ mark_of m =

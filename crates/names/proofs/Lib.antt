@@ -1,4 +1,5 @@
-pub mod Coded
+pub mod Titled
+pub mod Its
 pub mod Tables
 pub mod Numbered
 pub mod Searched

@@ -2,7 +2,7 @@
 use mathlib.Core.Path.{◌≡◌, refl, sym, ap, ◌∙◌}
 use mathlib.Core.Bool.{Bool, true, false, not}
 use mathlib.Core.List.{List, []}
-use Prim.Native.Nat.{ℕ, zero, suc, ◌+◌, ◌*◌, ◌≤◌, ◌<◌}
+use Prim.Native.Nat.{ℕ, zero, suc, ◌+◌, ◌≤◌, ◌<◌}
 use native.Mathlib.Numerals.{add-one}
 use native.Mathlib.Omega.{arith}
 use lib.Dec.{eqb}
@@ -16,17 +16,19 @@ use Rattle.tokens.specs.Words.{word_at}
 use Rattle.rules.specs.Kept.{unused, names_kept, fault}
 use Rattle.walked.specs.Rows.{past_word}
 use Rattle.std.specs.Prelude.{Some}
+use Rattle.walked.specs.Rows.{row_of}
+use Rattle.walked.specs.declared.Row.{Row}
 use Rattle.names.specs.code.Told.{node, earlier, Told}
 use Rattle.names.specs.code.Marks.{mark_of, titled_at, title_at, unused_at, latest, Linked, Falling}
-use Rattle.names.proofs.Coded.{titled_coded, titled_named}
+use Rattle.names.proofs.Titled.{titled_named}
 use Rattle.names.proofs.Tables.{zeros}
 use Rattle.names.proofs.Searched.{Searched, search_next, search_here}
 
 -- The names of the nodes are those of their rows.
-module _ {text rows : List ℕ} {count : ℕ} (t : Told text rows count) where
+module _ {text : List ℕ} {rows : List Row} {count : ℕ} (t : Told text rows count) where
   module _ (i : ℕ) (h : i < count) where
     its_title : titled (node t.hs i).kind ≡ titled_at rows i
-    its_title = rw (t.row i h).code (sym (titled_coded (node t.hs i).kind))
+    its_title = rw (t.row i h).kind
 
     named : titled_at rows i ≡ true → has_name (node t.hs i).kind ≡ true
     named e = titled_named (node t.hs i).kind (its_title ∙ e)
@@ -35,7 +37,7 @@ module _ {text rows : List ℕ} {count : ℕ} (t : Told text rows count) where
     its_name e = (t.row i h).word ∙ rw (named e)
 
     -- A mark by the places of the row is that of the name.
-    pub its_mark : titled_at rows i ≡ true → {at end s : ℕ} → at ≡ get_or rows (i * 8 + 10) 0 → end ≡ get_or rows (i * 8 + 15) 0
+    pub its_mark : titled_at rows i ≡ true → {at end s : ℕ} → at ≡ (row_of rows i).node.name → end ≡ (row_of rows i).past
         → (end ≡ past_word text at → s ≡ mark_of (word_at text at)) → s ≡ mark_of (title_at text rows i)
     its_mark e {at} {end} {s} p q mark = mark (q ∙ (t.row i h).past (named e) ∙ rw p) ∙ rw p
 
@@ -82,16 +84,16 @@ module _ {heads links : List ℕ} {i : ℕ} (r : Linkable heads links i) where
       }
 
 -- Of the nodes before the number i, one table has the last of each mark, and the other has the links.
-pub record Linking (text rows heads links : List ℕ) (i : ℕ) : Type 0 where
+pub record Linking (text : List ℕ) (rows : List Row) (heads links : List ℕ) (i : ℕ) : Type 0 where
   pub headed : (s : ℕ) → s < 512 → get_or heads s 0 ≡ latest text rows s i
   pub linked : Linked text rows links i
 
-pub linking_start : (text rows : List ℕ) → Linking text rows (replicate 512 0) (replicate 256 0) 0
+pub linking_start : (text : List ℕ) (rows : List Row) → Linking text rows (replicate 512 0) (replicate 256 0) 0
 unfolding latest
 linking_start text rows =
     record { headed = λ s h. zeros 512 s; linked = record { each = λ k h. let z : ⊥ = omega arith in absurd z } }
 
-module _ (text rows : List ℕ) (s i : ℕ) where
+module _ (text : List ℕ) (rows : List Row) (s i : ℕ) where
   latest_here : titled_at rows i ≡ true → mark_of (title_at text rows i) ≡ s → latest text rows s (i + 1) ≡ i + 1
   unfolding latest
   latest_here e q = rw (add-one i, e, eq-eqb (mark_of (title_at text rows i)) s q)
@@ -104,7 +106,7 @@ module _ (text rows : List ℕ) (s i : ℕ) where
   unfolding latest
   latest_none e = rw (add-one i, e)
 
-module _ {text rows heads links : List ℕ} {i : ℕ} (r : Linking text rows heads links i) where
+module _ {text : List ℕ} {rows : List Row} {heads links : List ℕ} {i : ℕ} (r : Linking text rows heads links i) where
   -- The node i has no name.
   pub linking_none : titled_at rows i ≡ false → Linking text rows heads links (i + 1)
   linking_none e =
@@ -138,13 +140,13 @@ module _ {text rows heads links : List ℕ} {i : ℕ} (r : Linking text rows hea
       }
 
   -- What a search along the links finds.
-  pub found_by_links : {at s w : ℕ} {b : Bool} → at ≡ get_or rows (i * 8 + 10) 0 → s ≡ mark_of (title_at text rows i) → s < 512 → w ≡ get_or heads s 0
+  pub found_by_links : {at s w : ℕ} {b : Bool} → at ≡ (row_of rows i).node.name → s ≡ mark_of (title_at text rows i) → s < 512 → w ≡ get_or heads s 0
       → ((j : ℕ) → Linked text rows links j → w ≡ latest text rows (mark_of (word_at text at)) j → b ≡ not (unused_at text rows (word_at text at) j))
       → b ≡ not (unused_at text rows (title_at text rows i) i)
   found_by_links {at} {s} {w} {b} p q l v search = search i r.linked (rw (p, ← q) (v ∙ r.headed s l)) ∙ rw p
 
 -- Whether the name that it has is used before it.
-module _ {text rows : List ℕ} {count i : ℕ} (t : Told text rows count) (h : i < count) (r : Searched names_kept t.hs i) (e : titled_at rows i ≡ true)
+module _ {text : List ℕ} {rows : List Row} {count i : ℕ} (t : Told text rows count) (h : i < count) (r : Searched names_kept t.hs i) (e : titled_at rows i ≡ true)
     {b : Bool}
     (p : b ≡ not (unused_at text rows (title_at text rows i) i)) where
   kept : names_kept (earlier t.hs i) (node t.hs i) (drop (i + 1) t.hs) ≡ unused_at text rows (title_at text rows i) i
@@ -157,6 +159,6 @@ module _ {text rows : List ℕ} {count i : ℕ} (t : Told text rows count) (h : 
   name_next q = search_next r (omega (arith, t.many)) (kept ∙ not-false (unused_at text rows (title_at text rows i) i) (sym p ∙ q))
 
 -- The node i has no name.
-pub name_none : {text rows : List ℕ} {count i : ℕ} (t : Told text rows count) → i < count → Searched names_kept t.hs i → titled_at rows i ≡ false
+pub name_none : {text : List ℕ} {rows : List Row} {count i : ℕ} (t : Told text rows count) → i < count → Searched names_kept t.hs i → titled_at rows i ≡ false
     → Searched names_kept t.hs (i + 1)
 name_none {text} {rows} {count} {i} t h r e = search_next r (omega (arith, t.many)) (rw (its_title t i h, e))

@@ -2,7 +2,7 @@
 use mathlib.Core.Path.{◌≡◌}
 use mathlib.Core.Bool.{true}
 use mathlib.Core.List.{List}
-use Prim.Native.Nat.{ℕ, ◌+◌, ◌*◌, ◌≤◌, ◌<◌}
+use Prim.Native.Nat.{ℕ, ◌+◌, ◌≤◌, ◌<◌}
 use native.Mathlib.Omega.{arith}
 use lib.Dec.{ltb}
 use lib.ListN.{length, get_or, get_or-eq_default}
@@ -12,6 +12,8 @@ use Rattle.diagram.specs.TreeNodes.{has_name}
 use Rattle.tokens.specs.Spans.{tokens, places}
 use Rattle.tokens.proofs.Spans.{tokens_length, places_length, places_below}
 use Rattle.grammar.specs.Keys.{name_at, key_token}
+use Rattle.walked.specs.Rows.{row_of}
+use Rattle.walked.specs.declared.Row.{Row}
 use Rattle.names.specs.code.Told.{node, Told}
 use Rattle.names.proofs.Marked.{word_ends}
 
@@ -25,9 +27,9 @@ name_inside : (text : List ℕ) (i : ℕ) → name_at text i ≤ length text
 unfolding name_at
 name_inside text i = place_inside text (key_token text i + 2)
 
-pub name_ends : {text rows : List ℕ} {count i : ℕ} (t : Told text rows count) → i < count → has_name (node t.hs i).kind ≡ true
-    → get_or rows (i * 8 + 15) 0 ≤ length text
+pub name_ends : {text : List ℕ} {rows : List Row} {count i : ℕ} (t : Told text rows count) → i < count → has_name (node t.hs i).kind ≡ true
+    → (row_of rows i).past ≤ length text
 name_ends {text} {rows} {count} {i} t h e =
     let row = t.row i h in
-    let l : get_or rows (i * 8 + 10) 0 ≤ length text = rw (row.name, e) (name_inside text i) in
-    rw (row.past e) (word_ends text (get_or rows (i * 8 + 10) 0) l)
+    let l : (row_of rows i).node.name ≤ length text = rw (row.name, e) (name_inside text i) in
+    rw (row.past e) (word_ends text ((row_of rows i).node.name) l)

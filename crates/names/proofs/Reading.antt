@@ -21,15 +21,16 @@ use Rattle.grammar.specs.Named.{all_named}
 use Rattle.walked.specs.Rows.{tokens_from, past_word, Listed}
 use Rattle.std.proofs.Common.{not, Option, Some, None}
 use Rattle.std.specs.Option.{is_some}
+use Rattle.walked.specs.declared.Row.{Row}
 use Rattle.names.specs.code.Pars.{par_start, pars_at, Around, ParNext}
 use Rattle.names.proofs.Fronts.{Front, inside, past_comma, name_word, name_letter, past_name, bit_digit}
 
 -- m pars around from the k-th on, outermost first.
-abbrev pub pars_on : List ℕ → List ℕ → List ℕ → ℕ → ℕ → List Name
+abbrev pub pars_on : List ℕ → List Row → List ℕ → ℕ → ℕ → List Name
 pars_on text rows pars k zero = []
 pars_on text rows pars k (suc m) = word_at text (par_start rows pars k) ∷ pars_on text rows pars (k + 1) m
 
-module _ (text rows pars : List ℕ) where
+module _ (text : List ℕ) (rows : List Row) (pars : List ℕ) where
   pars_last : (k m : ℕ) → pars_on text rows pars k (suc m) ≡ pars_on text rows pars k m ++ (word_at text (par_start rows pars (k + m)) ∷ [])
   pars_last k zero = rw (add-zero k)
   pars_last k (suc m) =
@@ -52,7 +53,7 @@ equal_turned l m =
     (all_same_decides (reverse l) (reverse m)).1 (ap reverse ((all_same_decides l m).0 e)))
 
 -- k pars are read and are the first k around; more are listed from p on.
-pub record Reading (text rows pars : List ℕ) (n : ℕ) (ps ns : List Name) (p k : ℕ) : Type 0 where
+pub record Reading (text : List ℕ) (rows : List Row) (pars : List ℕ) (n : ℕ) (ps ns : List Name) (p k : ℕ) : Type 0 where
   pub left : List Name
   pub sw : Bool
   pub others : List Token
@@ -60,7 +61,7 @@ pub record Reading (text rows pars : List ℕ) (n : ℕ) (ps ns : List Name) (p 
   pub tokens : tokens_from text p ≡ pars_tokens left (sign comma ∷ bit sw ∷ sign closing ∷ others)
   pub is : equal same (reverse ps) ns ≡ equal same left (pars_on text rows pars k (n - k))
 
-pub read_start : {text rows pars : List ℕ} {n at p : ℕ} {ps ns : List Name} → p ≡ past_word text at → Listed text at ps → Around text rows pars n ns
+pub read_start : {text : List ℕ} {rows : List Row} {pars : List ℕ} {n at p : ℕ} {ps ns : List Name} → p ≡ past_word text at → Listed text at ps → Around text rows pars n ns
     → Reading text rows pars n ps ns p 0
 read_start {text} {rows} {pars} {n} {at} {p} {ps} {ns} e l a =
     let all : n - 0 ≡ n = omega arith in
@@ -73,7 +74,7 @@ read_start {text} {rows} {pars} {n} {at} {p} {ps} {ns} e l a =
       is = rw (a.is, ← pars_turned text rows pars n, all) (equal_turned ps (pars_on text rows pars 0 n));
     }
 
-ends_at : (text rows pars : List ℕ) (k m : ℕ) → equal same [] (pars_on text rows pars k m) ≡ eqb m 0
+ends_at : (text : List ℕ) (rows : List Row) (pars : List ℕ) (k m : ℕ) → equal same [] (pars_on text rows pars k m) ≡ eqb m 0
 ends_at text rows pars k zero = refl
 ends_at text rows pars k (suc m) = sym (ne_eqb (suc m) 0 (λ e. omega arith))
 
@@ -83,7 +84,7 @@ all_read k n l =
     (λ e. let z = eqb-true k n e in eq-eqb (n - k) 0 (omega arith))
 
 -- Past the blanks there is a comma at i, and past those after it stands a byte of the class c at j.
-module _ {text rows pars : List ℕ} {n : ℕ} {ps ns : List Name} {p k : ℕ} (s : Reading text rows pars n ps ns p k) {i : ℕ}
+module _ {text : List ℕ} {rows : List Row} {pars : List ℕ} {n : ℕ} {ps ns : List Name} {p k : ℕ} (s : Reading text rows pars n ps ns p k) {i : ℕ}
     (I : i ≡ p + blanks (drop p text)) where
   abbrev end : List Token
   end = sign comma ∷ bit s.sw ∷ sign closing ∷ s.others
@@ -144,7 +145,7 @@ module _ {text rows pars : List ℕ} {n : ℕ} {ps ns : List Name} {p k : ℕ} (
             }
 
 -- All are read: no more may come.
-pub ends_here : {text rows pars : List ℕ} {n : ℕ} {ps ns : List Name} {p k : ℕ} → Reading text rows pars n ps ns p k → k ≡ n → (r : Option ℕ) → ParNext text p r
+pub ends_here : {text : List ℕ} {rows : List Row} {pars : List ℕ} {n : ℕ} {ps ns : List Name} {p k : ℕ} → Reading text rows pars n ps ns p k → k ≡ n → (r : Option ℕ) → ParNext text p r
     → {b : Bool} → is_some r ≡ not b → b ≡ equal same (reverse ps) ns
 ends_here {text} {rows} {pars} {n} {ps} {ns} {p} {k} s e None q {b} z =
     let t : b ≡ true = not-false b (sym z) in

@@ -2,7 +2,7 @@
 use mathlib.Core.Path.{◌≡◌, refl, sym, ap, ◌∙◌}
 use mathlib.Core.Bool.{Bool, true, false, cond}
 use mathlib.Core.List.{List, ◌∷◌}
-use Prim.Native.Nat.{ℕ, suc, ◌+◌, ◌*◌, ◌≤◌, ◌<◌}
+use Prim.Native.Nat.{ℕ, suc, ◌+◌, ◌≤◌, ◌<◌}
 use native.Mathlib.Nat.{add-zero}
 use native.Mathlib.Omega.{arith}
 use lib.Dec.{eqb}
@@ -13,10 +13,11 @@ use Rattle.base.proofs.Truth.{by_cases}
 use Rattle.diagram.specs.Tree.{Name}
 use Rattle.diagram.specs.TreeNodes.{TextNode, copying}
 use Rattle.rules.specs.Kept.{around}
-use Rattle.names.specs.code.Kinds.{copying_code}
+use Rattle.walked.specs.Rows.{row_of}
+use Rattle.walked.specs.declared.Row.{Row}
 use Rattle.names.specs.code.Told.{node, earlier, last_depth, Told}
 use Rattle.names.specs.code.Pars.{Around}
-use Rattle.names.proofs.Coded.{copying_coded, copying_named}
+use Rattle.names.proofs.Titled.{copying_named}
 use Rattle.names.proofs.Tables.{zeros}
 use Rattle.names.proofs.Numbered.{last_more}
 use Rattle.names.proofs.Stack.{Stacked, stack_start, stack_next}
@@ -48,11 +49,11 @@ roomy_next {pars} {many} s n x k v h l =
     }
 
 -- A deeper node has those around it too.
-pub record Surrounded (text rows pars many : List ℕ) (hs : List TextNode) (i : ℕ) : Type 0 where
+pub record Surrounded (text : List ℕ) (rows : List Row) (pars many : List ℕ) (hs : List TextNode) (i : ℕ) : Type 0 where
   pub stack : Stacked around (λ e ns. Around text rows pars (get_or many e 0) ns) hs i
   pub rising : (e f : ℕ) → 0 < e → e ≤ f → f ≤ suc (last_depth hs i) → get_or many e 0 ≤ get_or many f 0
 
-pub around_start : (text rows : List ℕ) (hs : List TextNode) → Surrounded text rows (replicate 4 0) (replicate 14 0) hs 0
+pub around_start : (text : List ℕ) (rows : List Row) (hs : List TextNode) → Surrounded text rows (replicate 4 0) (replicate 14 0) hs 0
 around_start text rows hs =
     record {
       stack =
@@ -65,15 +66,15 @@ around_start text rows hs =
 abbrev with_par : TextNode → List Name → List Name
 with_par h ns = cond (copying h.kind) (h.name ∷ ns) ns
 
-module _ {text rows : List ℕ} {count i : ℕ} (t : Told text rows count) (h : i < count) {pars many : List ℕ} (room : Roomy pars many)
-    (s : Surrounded text rows pars many t.hs i) {d n : ℕ} (D : get_or rows (i * 8 + 13) 0 ≤ 12 → d ≡ get_or rows (i * 8 + 13) 0) (p : n ≡ get_or many d 0) where
+module _ {text : List ℕ} {rows : List Row} {count i : ℕ} (t : Told text rows count) (h : i < count) {pars many : List ℕ} (room : Roomy pars many)
+    (s : Surrounded text rows pars many t.hs i) {d n : ℕ} (D : (row_of rows i).node.depth ≤ 12 → d ≡ (row_of rows i).node.depth) (p : n ≡ get_or many d 0) where
   depth : d ≡ (node t.hs i).depth
   depth = let e = (t.row i h).depth in let l = t.deep i h in D (rw e l.2) ∙ e
 
   pub around_here : Around text rows pars n (around (node t.hs i).depth (earlier t.hs i))
   around_here = let l = t.deep i h in rw (p, depth) (s.stack.each (node t.hs i).depth l.0 l.1)
 
-  module _ (few : n ≤ 3) {z : ℕ} (r : z ≡ cond (copying_code (get_or rows (i * 8 + 11) 0)) 1 0) where
+  module _ (few : n ≤ 3) {z : ℕ} (r : z ≡ cond (copying ((row_of rows i).node.kind)) 1 0) where
     grown : (b : Bool) → copying (node t.hs i).kind ≡ b → {ns : List Name} → Around text rows pars n ns
         → Around text rows (set pars n i) (n + cond b 1 0) (cond b ((node t.hs i).name ∷ ns) ns)
     grown true e a =
@@ -85,7 +86,7 @@ module _ {text rows : List ℕ} {count i : ℕ} (t : Told text rows count) (h : 
     left : Around text rows (set pars n i) (n + z) (with_par (node t.hs i) (around (node t.hs i).depth (earlier t.hs i)))
     left =
         let k = (node t.hs i).kind in
-        let e : z ≡ cond (copying k) 1 0 = r ∙ rw ((t.row i h).code, copying_coded k) in
+        let e : z ≡ cond (copying k) 1 0 = r ∙ rw (t.row i h).kind in
         rw e (grown (copying k) refl around_here)
 
     same_below : (e : ℕ) → e ≤ d → get_or (set many (d + 1) (n + z)) e 0 ≡ get_or many e 0

@@ -5,90 +5,26 @@ ghost use Rattle.diagram.specs.Tree.{Name};
 ghost use Rattle.diagram.specs.Names.{equal, same, new};
 ghost use Rattle.tokens.specs.Words.{word_at};
 ghost use Rattle.rules.specs.Kept.{fault, names_kept, around as around_node, parameters_kept};
-ghost use Rattle.walked.specs.Rows.{past_word, Listed};
-ghost use Rattle.names.specs.code.Kinds.{flow_code, leaf_code, loop_code, titled_code, copying_code, solid_code};
+ghost use Rattle.walked.specs.Rows.{row_of, past_word, Listed};
 ghost use Rattle.names.specs.code.Told.{node, earlier, Told};
 ghost use Rattle.names.specs.code.Marks.{mark_of, titled_at, unused_at, latest, Linked, Falling};
 ghost use Rattle.names.specs.code.Pars.{pars_at, Around, ParNext};
 
 use lexer::Lexer;
-
-// What the row of a node tells: the place of its keyword, its solid mark, the place of its name or par, its keyword, its size, its depth, its sw, the
-// place past its name or par.
-#[derive(Clone, Copy)]
-pub struct Row {
-    pub place: usize,
-    pub solid: usize,
-    pub name: usize,
-    pub keyword: usize,
-    pub size: usize,
-    pub depth: usize,
-    pub switch: usize,
-    pub past: usize,
-}
-
-impl Row {
-    pub fn is_flow(&self) -> bool
-        ensures { result ≡ flow_code self.now.keyword }
-    {
-        self.keyword == usize::from(heads::FLOW)
-    }
-
-    pub fn is_leaf(&self) -> bool
-        ensures { result ≡ leaf_code self.now.keyword }
-    {
-        self.keyword == usize::from(heads::LEAF)
-    }
-
-    pub fn is_loop(&self) -> bool
-        ensures { result ≡ loop_code self.now.keyword }
-    {
-        self.keyword == usize::from(heads::LOOP)
-    }
-
-    // A leaf or a flow, which have names that differ.
-    pub fn is_titled(&self) -> bool
-        ensures { result ≡ titled_code self.now.keyword }
-    {
-        self.is_flow() || self.is_leaf()
-    }
-
-    // A replicator: all, some or one.
-    pub fn is_replicator(&self) -> bool
-        ensures { result ≡ copying_code self.now.keyword }
-    {
-        (usize::from(heads::ALL)..=usize::from(heads::ONE)).contains(&self.keyword)
-    }
-
-    // "A leaf, flow, xor or one".
-    pub fn may_be_solid(&self) -> bool
-        ensures { result ≡ solid_code self.now.keyword }
-    {
-        self.is_titled()
-            || self.keyword == usize::from(heads::XOR)
-            || self.keyword == usize::from(heads::ONE)
-    }
-
-    // The depth, which is at most 12.
-    pub fn level(&self) -> usize
-        ensures { result ≡ min self.now.depth 12 }
-    {
-        self.depth.min(12)
-    }
-}
+use walked::Row;
 
 // The nodes of a text, by the rows that the walk left.
 #[derive(Drop)]
 pub struct Nodes<'a> {
     pub lexer: &'a Lexer<'a>,
-    pub rows: &'a [u16; 2056],
+    pub rows: &'a [Row; 257],
     pub count: usize,
     ghost few: { count ≤ 256 },
-    ghost whole: { length rows.now ≡ 2056 },
+    ghost whole: { length rows.now ≡ 257 },
 }
 
 impl<'a> Nodes<'a> {
-    pub fn new(lexer: &'a Lexer<'a>, rows: &'a [u16; 2056], count: usize) -> Self
+    pub fn new(lexer: &'a Lexer<'a>, rows: &'a [Row; 257], count: usize) -> Self
         ensures text { result.lexer.now.text.now ≡ lexer.now.text.now }
         ensures rows { result.rows.now ≡ rows.now }
         ensures count { result.count ≡ min count 256 }
@@ -100,41 +36,12 @@ impl<'a> Nodes<'a> {
         }
     }
 
-    // A number of the row of the node i; 0 past the last row.
-    fn cell(&self, i: usize, column: usize) -> usize
-        requires { column < 8 }
-        ensures value { result ≡ get_or self.now.rows.now (i * 8 + (8 + column)) 0 }
-        ensures fits { result < 65536 }
-    {
-        if i < 256 {
-            usize::from(self.rows[i * 8 + (8 + column)])
-        } else {
-            0
-        }
-    }
-
-    // The row of the node i, all of 0 past the last one.
+    // The row of the node i; past the last one a row that is not used.
     pub fn row(&self, i: usize) -> Row
-        ensures place { result.place ≡ get_or self.now.rows.now (i * 8 + 8) 0 }
-        ensures solid { result.solid ≡ get_or self.now.rows.now (i * 8 + 9) 0 }
-        ensures name { result.name ≡ get_or self.now.rows.now (i * 8 + 10) 0 }
-        ensures keyword { result.keyword ≡ get_or self.now.rows.now (i * 8 + 11) 0 }
-        ensures size { result.size ≡ get_or self.now.rows.now (i * 8 + 12) 0 }
-        ensures depth { result.depth ≡ get_or self.now.rows.now (i * 8 + 13) 0 }
-        ensures switch { result.switch ≡ get_or self.now.rows.now (i * 8 + 14) 0 }
-        ensures past { result.past ≡ get_or self.now.rows.now (i * 8 + 15) 0 }
-        ensures fits { (result.place < 65536) × (result.name < 65536) × (result.size < 65536) × (result.depth < 65536) × (result.past < 65536) }
+        ensures { result ≡ row_of self.now.rows.now i }
     {
-        Row {
-            place: self.cell(i, heads::PLACE),
-            solid: self.cell(i, heads::SOLID),
-            name: self.cell(i, heads::NAME),
-            keyword: self.cell(i, heads::KEYWORD),
-            size: self.cell(i, heads::SIZE),
-            depth: self.cell(i, heads::DEPTH),
-            switch: self.cell(i, heads::SWITCH),
-            past: self.cell(i, heads::PAST),
-        }
+        let rows = self.rows;
+        if i < 256 { rows[i + 1] } else { Row::blank() }
     }
 
     // Whether one of the nodes linked from a number on has the name that starts at `at`.
@@ -145,7 +52,7 @@ impl<'a> Nodes<'a> {
         let mut j = from;
         while 0 < j {
             let k = j - 1;
-            if lexer::same(self.lexer.text, at, self.row(k).name) {
+            if lexer::same(self.lexer.text, at, self.row(k).name()) {
                 return true;
             }
             j = usize::from(links[k]);
@@ -163,9 +70,9 @@ impl<'a> Nodes<'a> {
         for i in 0..self.count {
             let row = self.row(i);
             if row.is_titled() {
-                let s = mark(self.lexer.text, row.name, row.past);
+                let s = mark(self.lexer.text, row.name(), row.end());
                 let last = heads[s];
-                if self.is_taken(&links, usize::from(last), row.name) {
+                if self.is_taken(&links, usize::from(last), row.name()) {
                     return Some(i);
                 }
                 links[i] = last;
@@ -180,7 +87,7 @@ impl<'a> Nodes<'a> {
         ensures { result ≡ new (word_at self.now.lexer.now.text.now at) (pars_at self.now.lexer.now.text.now self.now.rows.now around.now (length around.now)) }
     {
         for k in (0..around.len()).rev() {
-            if lexer::same(self.lexer.text, at, self.row(around[k]).name) {
+            if lexer::same(self.lexer.text, at, self.row(around[k]).name()) {
                 return false;
             }
         }
@@ -214,7 +121,7 @@ impl<'a> Nodes<'a> {
                 return false;
             };
             let word = lexer::word(text, par);
-            if word != lexer::word(text, self.row(*k).name) {
+            if word != lexer::word(text, self.row(*k).name()) {
                 return false;
             }
             at = par + word.len();
@@ -232,10 +139,10 @@ impl<'a> Nodes<'a> {
         }
         let row = self.row(i);
         if row.is_flow() {
-            return self.is_listed(around, row.past);
+            return self.is_listed(around, row.end());
         }
         if row.is_replicator() {
-            return self.is_fresh(around, row.name);
+            return self.is_fresh(around, row.name());
         }
         true
     }

@@ -20,12 +20,12 @@ use Rattle.tokens.specs.Token.{text_tokens}
 use Rattle.tokens.specs.Scanned.{first_foreign, first_long, scan_of}
 use Rattle.grammar.specs.Machine as Machine
 use Rattle.grammar.specs.Machine.{Outcome, outcome}
-use Rattle.walked.specs.Walk.{State, state, whole, stop, ending, unwritten, placed_by}
+use Rattle.walked.specs.Walk.{State, state, blank_row, whole, stop, ending, unwritten, placed_by}
+use Rattle.walked.specs.declared.Row.{Row}
 use Rattle.walked.specs.code.Readers.{told as told_as}
 use Rattle.walked.proofs.Located.{ends_as}
 use Rattle.walked.proofs.Told.{told}
 use Rattle.walked.proofs.Deep.{nested}
-use Rattle.walked.proofs.Sized.{sized}
 use Rattle.rules.specs.Judged.{Verdict, verdict}
 use Rattle.rules.specs.declared.Counts.{Counts}
 use Rattle.reading.specs.Nodes.{stored}
@@ -39,17 +39,17 @@ pub long_text : (text : List ℕ) → 16384 < length text → {r : Refusal} → 
 unfolding read_of scan_of
 long_text text h e = rw (e, lt-ltb 16384 (length text) h)
 
-abbrev zeros : List ℕ
-zeros = replicate 2056 0
+abbrev blank_rows : List Row
+blank_rows = replicate 257 blank_row
 
 -- Where the walk stops, numbers 3 and 4 come first.
-by_scan : (text : List ℕ) (r : Refusal) → ending text zeros ≡ stop r.reason r.place → (a b : Bool) (f l n : ℕ)
+by_scan : (text : List ℕ) (r : Refusal) → ending text blank_rows ≡ stop r.reason r.place → (a b : Bool) (f l n : ℕ)
     → Err (cond a (refusal Byte f) (cond b (refusal Word l) r)) ≡ scanned text (cond a (Err (refusal Byte f)) (cond b (Err (refusal Word l)) (Ok n)))
 by_scan text r e true b f l n = refl
 by_scan text r e false true f l n = refl
 by_scan text r e false false f l n = sym (ap (parsed text) e)
 
-stopped : (text : List ℕ) (r : Refusal) → length text ≤ 16384 → ending text zeros ≡ stop r.reason r.place → Err (turned_away text r) ≡ read_of text
+stopped : (text : List ℕ) (r : Refusal) → length text ≤ 16384 → ending text blank_rows ≡ stop r.reason r.place → Err (turned_away text r) ≡ read_of text
 unfolding read_of scan_of turned_away
 stopped text r h e =
     let l = first_long (spans_of text) (length text) in
@@ -60,9 +60,9 @@ whole_outcome : (text : List ℕ) (n : ℕ) (o : Outcome) → Machine.whole n �
 whole_outcome text n (Machine.whole m) e = sym e
 whole_outcome text n (Machine.stop c j) e = let z : ◌≡◌ {A = ℕ} 0 1 = cc in let w : ⊥ = omega arith in absurd w
 
-pub walked : (text : List ℕ) (n : ℕ) (st : State) → length text ≤ 16384 → ending text zeros ≡ whole n st → Walked text n st.rows
+pub walked : (text : List ℕ) (n : ℕ) (st : State) → length text ≤ 16384 → ending text blank_rows ≡ whole n st → Walked text n st.rows
 walked text n st h e =
-    let o = whole_outcome text n (outcome (text_tokens keywords text)) (sym (ap unwritten e) ∙ ends_as text zeros) in
+    let o = whole_outcome text n (outcome (text_tokens keywords text)) (sym (ap unwritten e) ∙ ends_as text blank_rows) in
     let r = whole_derived text n h o in
     let d = r.0 in
     let t = told text d r.1.derives r.1.nodes r.1.depth n st e in
@@ -72,20 +72,19 @@ walked text n st h e =
       few = let c = t.count in let m = nodes_counted own d in omega (arith, r.1.nodes);
       told = t.nodes;
       deep = nested d r.1.depth;
-      small = sized d r.1.derives.proper.sizes;
       answer = derived_answer text d r.1 ∙ ap (judged text (nodes_by own d)) (sym (tree_judged text d));
     }
 
 -- By the answer of the walk.
-module _ (text rows : List ℕ) (h : length text ≤ 16384) where
-  pub walk_refused : {x y : Refusal} → ending text zeros ≡ told_as (Err x) rows → y ≡ turned_away text x → Err y ≡ read_of text
+module _ (text : List ℕ) (rows : List Row) (h : length text ≤ 16384) where
+  pub walk_refused : {x y : Refusal} → ending text blank_rows ≡ told_as (Err x) rows → y ≡ turned_away text x → Err y ≡ read_of text
   walk_refused {x} e q = ap (λ (z : Refusal). Err z) q ∙ stopped text x h e
 
-  pub walk_whole : {n : ℕ} → ending text zeros ≡ told_as (Ok n) rows → Walked text n rows
+  pub walk_whole : {n : ℕ} → ending text blank_rows ≡ told_as (Ok n) rows → Walked text n rows
   walk_whole {n} e = walked text n (state rows []) h e
 
 -- By the answer of the sweeps.
-module _ {text rows : List ℕ} {n : ℕ} (w : Walked text n rows) {v : Verdict} (q : v ≡ verdict text w.nodes) where
+module _ {text : List ℕ} {rows : List Row} {n : ℕ} (w : Walked text n rows) {v : Verdict} (q : v ≡ verdict text w.nodes) where
   pub judged_refused : {x : Refusal} {r : Read} → v ≡ Err x → r ≡ Err x → r ≡ read_of text
   judged_refused e p = p ∙ sym (w.answer ∙ ap (judged text w.nodes) (sym q ∙ e))
 

@@ -2,17 +2,18 @@
 
 ghost use Rattle.std.specs.Prelude.{◌≡◌, List, ℕ, length};
 ghost use Rattle.diagram.specs.TreeNodes.{TextNode};
-ghost use Rattle.walked.specs.Rows.{kind_of, Rowed, Sized};
+ghost use Rattle.walked.specs.Rows.{Rowed};
 ghost use Rattle.reading.specs.Nodes.{stored};
 ghost use Rattle.reading.specs.Answers.{read_of};
-ghost use Rattle.reader.specs.code.Stages.{turned_away, node_at, Walked};
+ghost use Rattle.reader.specs.code.Stages.{turned_away, Walked};
 
 use base::{Reason, Refusal};
-use diagram::{Diagram, Kind, Node};
+use diagram::Diagram;
 use heads::Parser;
 use lexer::Lexer;
 use names::Nodes;
 use rules::Counts;
+use walked::Row;
 
 // The refusal of a text that the walk refuses: numbers 3 and 4 come first, over the whole text.
 fn turned_away(lexer: &Lexer, refusal: Refusal) -> Refusal
@@ -29,46 +30,13 @@ fn turned_away(lexer: &Lexer, refusal: Refusal) -> Refusal
     refusal
 }
 
-// The kind for a keyword's number and a size.
-#[tactic(auto, unfolding(walked::specs::Rows::kind_of))]
-fn kind(keyword: usize, size: u8) -> Kind
-    ensures { result ≡ kind_of keyword size }
-{
-    match keyword {
-        7 => Kind::Flow,
-        8 => Kind::Leaf,
-        9 => Kind::And,
-        10 => Kind::Or,
-        11 => Kind::Xor,
-        12 => Kind::All(size),
-        13 => Kind::Some(size),
-        14 => Kind::One(size),
-        _ => Kind::Loop,
-    }
-}
-
-// The node that has the number i, by its row.
-fn node(nodes: &Nodes, i: usize) -> Node
-    ensures { result ≡ node_at nodes.now.rows.now i }
-{
-    let row = nodes.row(i);
-    Node {
-        kind: kind(row.keyword, (row.size % 256) as u8),
-        solid: row.solid == 1,
-        strong: row.switch == 1,
-        depth: row.depth as u16,
-        at: row.place as u16,
-        name: row.name as u16,
-    }
-}
-
 // The nodes of the rows, with the counts.
 fn store(nodes: &Nodes, counts: Counts) -> Diagram
-    ensures { (text : List ℕ) (hs : List TextNode) → length hs ≡ nodes.now.count → Sized hs → Rowed text nodes.now.rows.now 0 hs → result ≡ stored text hs counts.copies counts.events }
+    ensures { (text : List ℕ) (hs : List TextNode) → length hs ≡ nodes.now.count → Rowed text nodes.now.rows.now 0 hs → result ≡ stored text hs counts.copies counts.events }
 {
     let mut diagram = diagram::empty();
     for i in 0..nodes.count {
-        diagram.nodes[i] = node(nodes, i);
+        diagram.nodes[i] = nodes.row(i).node;
     }
     diagram.count = nodes.count;
     diagram.copies = counts.copies;
@@ -79,7 +47,7 @@ fn store(nodes: &Nodes, counts: Counts) -> Diagram
 // Numbers 7 to 11, and the diagram, of a text that was walked along to its end. It is kept out of line, or the diagrams that are handed on would lie in
 // the frame of `read`, one beside the other.
 #[inline(never)]
-fn judge(lexer: &Lexer, rows: &[u16; 2056], count: usize) -> Result<Diagram, Refusal>
+fn judge(lexer: &Lexer, rows: &[Row; 257], count: usize) -> Result<Diagram, Refusal>
     ensures { Walked lexer.now.text.now count rows.now → result ≡ read_of lexer.now.text.now }
 {
     let nodes = Nodes::new(lexer, rows, count);
@@ -92,7 +60,7 @@ pub fn read(text: &[u8]) -> Result<Diagram, Refusal>
     ensures { result ≡ read_of text.now }
 {
     let parser = Parser::new(text)?;
-    let mut rows = [0u16; 2056];
+    let mut rows = [Row::blank(); 257];
     match walk::parse(&parser, &mut rows) {
         Ok(count) => judge(&parser.lexer, &rows, count),
         Err(refusal) => Err(turned_away(&parser.lexer, refusal)),

@@ -18,6 +18,7 @@ use Rattle.grammar.proofs.Grammar.{read_derives}
 use Rattle.grammar.proofs.Limited.{whole_none_big}
 use Rattle.grammar.proofs.LimitedTrees.{none_big_fits}
 use Rattle.walked.specs.Rows.{Rowed, row_nodes}
+use Rattle.walked.specs.declared.Row.{Row}
 use Rattle.walked.proofs.Told.{read, told}
 use Rattle.walked.proofs.Rebuilt.{rebuilt}
 use Rattle.reading.specs.Answers.{judged, read_of}
@@ -42,7 +43,7 @@ module _ (text : List ℕ) (d : Flow) (g : Derived text d) where
   }
 
   -- The rows of its nodes.
-  pub derived_rows : (rows : List ℕ) × Rowed text rows 0 (nodes_by own d)
+  pub derived_rows : (rows : List Row) × Rowed text rows 0 (nodes_by own d)
   derived_rows =
       let r = read text d g.derives g.nodes g.depth in
       (r.0.rows, (told text d g.derives g.nodes g.depth (flow_nodes d) r.0 r.1).nodes)

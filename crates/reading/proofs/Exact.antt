@@ -33,7 +33,7 @@ use Rattle.grammar.proofs.Printing.{tokens_many}
 use Rattle.grammar.proofs.Grammar.{Answered, read, strayed, outgrown, answered, off_viable, off_token, off_end, off_only, big_viable, shorter, derived_once}
 use Rattle.grammar.proofs.LimitedFrom.{over_limit_begun}
 use Rattle.grammar.proofs.Limited.{big_over_limit, off_none_big, whole_none_big}
-use Rattle.walked.specs.Walk.{End, whole, stop, ending, unwritten, placed_by}
+use Rattle.walked.specs.Walk.{blank_row, End, whole, stop, ending, unwritten, placed_by}
 use Rattle.walked.proofs.Located.{ends_as}
 use Rattle.rules.specs.Broken.{too_big, first_broken}
 use Rattle.rules.specs.Judged.{Verdict}
@@ -48,7 +48,7 @@ use Rattle.reading.specs.Accepted.{Accepted}
 use Rattle.reading.specs.Refused.{place_of, Clean, Off, Big, Derived, Breaks, RefusedAt, by_size, by_byte, by_word, by_token, by_limit, by_name, by_parameter, by_solid, by_strong, by_count}
 use Rattle.diagram.specs.declared.Diagram.{Diagram}
 use Rattle.reading.specs.Reports.{report}
-use Rattle.reading.proofs.Numbers.{number_once}
+use Rattle.base.proofs.Reports.{number_once}
 use Rattle.reading.proofs.Scans.{scan_refused_at, scan_clean, long_scan, foreign_scan, wordy_scan, clean_scan}
 use Rattle.reading.proofs.Verdicts.{twice, misplaced, unsolid, weak, tree_verdict, kept, counted_few, counted_many, few_or_many}
 use Rattle.reading.proofs.Derived.{whole_derived, derived_answer}
@@ -90,7 +90,7 @@ pub stopped : (text : List ℕ) (c : Reason) (k : ℕ) → Clean text → outcom
     → read_of text ≡ Err (refusal c (place_of text k))
 stopped text c k h e =
     scanned_as text (Ok (length (spans_of text))) (clean_scan text h)
-    ∙ parsed_stop text (ending text (replicate 2056 0)) c (place_of text k) (ends_as text (replicate 2056 0) ∙ ap (placed_by (place_of text)) e)
+    ∙ parsed_stop text (ending text (replicate 257 blank_row)) c (place_of text k) (ends_as text (replicate 257 blank_row) ∙ ap (placed_by (place_of text)) e)
 
 -- Number 6 by the tokens and on a tree that derives the tokens before t with some rest.
 limits_alike : (ts rest : List Token) (d : Flow) (t j : ℕ) → Derives keywords (take t ts ++ rest) d → t ≤ length ts → j < t → over_limit ts j ≡ too_big d j

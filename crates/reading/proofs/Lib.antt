@@ -1,4 +1,3 @@
-pub mod Numbers
 pub mod Verdicts
 pub mod Scans
 pub mod Derived

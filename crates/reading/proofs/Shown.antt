@@ -11,7 +11,8 @@ use Rattle.diagram.specs.Stored.{blank_node}
 use Rattle.diagram.specs.TreeNodes.{TextNode, ShownNode, shown_as, own, shown, nodes_by}
 use Rattle.diagram.proofs.Mapped.{mapped, nodes_counted}
 use Rattle.diagram.proofs.OneTree.{one_tree}
-use Rattle.walked.specs.Rows.{Row, Rowed}
+use Rattle.walked.specs.Rows.{Tells, Rowed}
+use Rattle.walked.specs.declared.Row.{Row}
 use Rattle.reading.specs.Nodes.{name_place, node_of, stored}
 use Rattle.reading.specs.Answers.{read_of}
 use Rattle.reading.specs.Accepted.{Accepted}
@@ -28,11 +29,11 @@ pub tree_shown : (d : Flow) → map text_shown (nodes_by own d) ≡ nodes_by sho
 tree_shown d = mapped text_shown own d
 
 -- A node shows the name that stands at its place, which its row tells.
-row_shown : (text rows : List ℕ) (i : ℕ) (h : TextNode) → Row text rows i h → shown_node text (node_of text h) ≡ text_shown h
+row_shown : (text : List ℕ) (rows : List Row) (i : ℕ) (h : TextNode) → Tells text rows i h → shown_node text (node_of text h) ≡ text_shown h
 unfolding shown_node node_of name_place
 row_shown text rows i h r = ap (shown_as h.kind h.solid h.strong h.depth) (rw (r.number, ← r.name) (sym r.word))
 
-rows_shown : (text rows : List ℕ) (i : ℕ) (hs : List TextNode) → Rowed text rows i hs → map (shown_node text) (map (node_of text) hs) ≡ map text_shown hs
+rows_shown : (text : List ℕ) (rows : List Row) (i : ℕ) (hs : List TextNode) → Rowed text rows i hs → map (shown_node text) (map (node_of text) hs) ≡ map text_shown hs
 rows_shown text rows i [] r = refl
 rows_shown text rows i (h ∷ hs) r =
     ap₂ (λ (v : ShownNode) (vs : List ShownNode). v ∷ vs) (row_shown text rows i h r.0) (rows_shown text rows (suc i) hs r.1)

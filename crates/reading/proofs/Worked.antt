@@ -10,7 +10,7 @@ use Rattle.tokens.specs.Scanned.{foreign_in, first_long, scan_of}
 use Rattle.grammar.specs.Machine.{expand}
 use Rattle.grammar.specs.Keys.{keys_from, keyword_at, name_at}
 use Rattle.walked.specs.Walk.{begun, effect, walk, ending}
-use Rattle.walked.specs.Rows.{kind_of, pars_in, row_kind, row_node, row_nodes}
+use Rattle.walked.specs.Rows.{pars_in, row_node, row_nodes}
 use Rattle.rules.specs.Kept.{fault}
 use Rattle.rules.specs.Counted.{times, total}
 use Rattle.rules.specs.Judged.{verdict}
@@ -18,5 +18,5 @@ use Rattle.reading.specs.Answers.{read_of}
 use Rattle.reading.specs.Worked.{texts, Worked}
 
 pub worked : Worked texts
-unfolding class_of stretch front keywords width spans spans_of places rest named word_token token_of text_tokens foreign_in first_long scan_of expand keys_from keyword_at name_at begun effect walk ending kind_of pars_in row_kind row_node row_nodes fault times total verdict read_of
+unfolding class_of stretch front keywords width spans spans_of places rest named word_token token_of text_tokens foreign_in first_long scan_of expand keys_from keyword_at name_at begun effect walk ending pars_in row_node row_nodes fault times total verdict read_of
 worked = refl

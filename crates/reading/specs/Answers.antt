@@ -7,7 +7,7 @@ use Rattle.base.specs.Refusals.{refusal}
 use Rattle.base.specs.declared.Refusal.{Refusal}
 use Rattle.diagram.specs.TreeNodes.{TextNode}
 use Rattle.tokens.specs.Scanned.{scan_of}
-use Rattle.walked.specs.Walk.{End, whole, stop, ending}
+use Rattle.walked.specs.Walk.{blank_row, End, whole, stop, ending}
 use Rattle.walked.specs.Rows.{row_nodes}
 use Rattle.rules.specs.Judged.{Verdict, verdict}
 use Rattle.reading.specs.Nodes.{stored}
@@ -31,10 +31,10 @@ abbrev pub parsed : List ℕ → End → Read
 parsed text (stop reason place) = Err (refusal reason place)
 parsed text (whole n st) = judged_nodes text (row_nodes text st.rows 0 n)
 
--- Numbers 2 to 4, and those after them. The walk begins with rows that are all zero.
+-- Numbers 2 to 4, and those after them. The walk begins with rows that are not used yet.
 abbrev pub scanned : List ℕ → Result ℕ Refusal → Read
 scanned text (Err r) = Err r
-scanned text (Ok n) = parsed text (ending text (replicate 2056 0))
+scanned text (Ok n) = parsed text (ending text (replicate 257 blank_row))
 
 -- What reading a text answers.
 unfoldable pub read_of : List ℕ → Read

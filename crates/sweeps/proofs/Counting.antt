@@ -12,9 +12,9 @@ use borrow.Author.Tests.{eqb-true, eqb-false}
 use Rattle.base.proofs.Truth.{by_cases}
 use Rattle.diagram.specs.TreeNodes.{TextNode, copying, size_of}
 use Rattle.rules.specs.Counted.{times, total, capped, any_node, eventful}
-use Rattle.names.specs.code.Kinds.{copying_code}
+use Rattle.walked.specs.Rows.{row_of}
+use Rattle.walked.specs.declared.Row.{Row}
 use Rattle.names.specs.code.Told.{node, earlier, Told}
-use Rattle.names.proofs.Coded.{copying_coded}
 use Rattle.names.proofs.Tables.{ones_small}
 use Rattle.names.proofs.Stack.{Stacked, stack_start, stack_next}
 use Rattle.sweeps.proofs.Capped.{capped_product}
@@ -67,12 +67,7 @@ small_next {table} s k v h l =
           rw (get_or-set_other table k j v 0 (eqb-false j k q)) (s.each j));
     }
 
--- A size and 1 fit 16 bits.
-pub factor_small : (b : Bool) {z f : ℕ} → z < 65536 → f ≡ cond b z 1 → f < 65536
-factor_small true h e = omega (arith, e)
-factor_small false h e = omega (arith, e)
-
-module _ {text rows : List ℕ} {count : ℕ} (t : Told text rows count) {table : List ℕ} {copies events i : ℕ} (s : Counting t.hs table copies events i) where
+module _ {text : List ℕ} {rows : List Row} {count : ℕ} (t : Told text rows count) {table : List ℕ} {copies events i : ℕ} (s : Counting t.hs table copies events i) where
   pub copies_all : copies ≤ 769 → count ≤ i → copies ≡ capped (total any_node [] t.hs)
   copies_all l h = sum_end s.copied l (rw t.many h)
 
@@ -80,7 +75,7 @@ module _ {text rows : List ℕ} {count : ℕ} (t : Told text rows count) {table 
   events_all l h = sum_end s.happened l (rw t.many h)
 
   -- The node i has the depth d, n copies, y of which are events, and the size z.
-  module _ (h : i < count) {d n : ℕ} (D : get_or rows (i * 8 + 13) 0 ≤ 12 → d ≡ get_or rows (i * 8 + 13) 0) (p : n ≡ get_or table d 0) where
+  module _ (h : i < count) {d n : ℕ} (D : (row_of rows i).node.depth ≤ 12 → d ≡ (row_of rows i).node.depth) (p : n ≡ get_or table d 0) where
     depth : d ≡ (node t.hs i).depth
     depth = let e = (t.row i h).depth in let l = t.deep i h in D (rw e l.2) ∙ e
 
@@ -88,13 +83,13 @@ module _ {text rows : List ℕ} {count : ℕ} (t : Told text rows count) {table 
     many = let l = t.deep i h in p ∙ rw depth (s.stack.each (node t.hs i).depth l.0 l.1)
 
     module _ {y z : ℕ} (q : y ≡ cond (eventful (node t.hs i) (drop (i + 1) t.hs)) n 0)
-        (e : z ≡ cond (copying_code (get_or rows (i * 8 + 11) 0)) (get_or rows (i * 8 + 12) 0) 1) where
+        (e : z ≡ cond (copying (row_of rows i).node.kind) (size_of (row_of rows i).node.kind) 1) where
       left : (v : ℕ) → v ≡ capped (n * z) → v ≡ capped (grown (node t.hs i) (times (node t.hs i).depth (earlier t.hs i)))
       left v g =
           let r = t.row i h in
           let k = (node t.hs i).kind in
           let x = times (node t.hs i).depth (earlier t.hs i) in
-          g ∙ rw (many, capped_product x z, e, r.code, r.size, copying_coded k, grow_by (copying k) (size_of k) x)
+          g ∙ rw (many, capped_product x z, e, r.kind, grow_by (copying k) (size_of k) x)
 
       pub count_next : {m k v : ℕ} → length table ≡ 14 → m ≡ capped (copies + n) → k ≡ capped (events + y) → v ≡ capped (n * z)
           → Counting t.hs (set table (d + 1) v) m k (i + 1)

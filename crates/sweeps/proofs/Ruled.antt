@@ -1,11 +1,11 @@
 -- The rows of all nodes as those of each, and the rules one after the other. Assumes nothing.
-use mathlib.Core.Path.{◌≡◌, refl, sym, ◌∙◌}
+use mathlib.Core.Path.{◌≡◌, refl, ◌∙◌}
 use mathlib.Core.Bool.{true}
 use mathlib.Core.List.{List, [], ◌∷◌}
-use Prim.Native.Nat.{ℕ, zero, suc, ◌+◌, ◌*◌, ◌≤◌, ◌<◌}
+use Prim.Native.Nat.{ℕ, zero, suc, ◌+◌, ◌≤◌, ◌<◌}
 use native.Mathlib.Nat.{add-zero, zero-add}
 use native.Mathlib.Omega.{arith}
-use lib.ListN.{length, get_or}
+use lib.ListN.{length}
 use Rattle.std.specs.Prelude.{Option, Some, None, Err}
 use Rattle.base.specs.Refusals.{refusal}
 use Rattle.base.specs.declared.Reason.{Reason}
@@ -15,12 +15,13 @@ use Rattle.grammar.specs.Keys.{keyword_at, name_at}
 use Rattle.rules.specs.Kept.{names_kept, parameters_kept, solids_kept, strongs_kept, fault}
 use Rattle.rules.specs.Counted.{any_node, eventful, total, capped}
 use Rattle.rules.specs.Judged.{Verdict, refuse, counted, verdict}
-use Rattle.walked.specs.Rows.{Row, Rowed, Nested}
+use Rattle.walked.specs.Rows.{row_of, Tells, Rowed, Nested}
+use Rattle.walked.specs.declared.Row.{Row}
 use Rattle.names.specs.code.Told.{node, last_depth, Told}
 use Rattle.names.specs.code.Marks.{titled_at}
-use Rattle.names.proofs.Coded.{titled_coded, titled_named}
+use Rattle.names.proofs.Titled.{titled_named}
 
-row_at : (text rows : List ℕ) (k : ℕ) (hs : List TextNode) → Rowed text rows k hs → (i : ℕ) → i < length hs → Row text rows (k + i) (node hs i)
+row_at : (text : List ℕ) (rows : List Row) (k : ℕ) (hs : List TextNode) → Rowed text rows k hs → (i : ℕ) → i < length hs → Tells text rows (k + i) (node hs i)
 row_at text rows k [] r i h = let z : ⊥ = omega arith in absurd z
 row_at text rows k (g ∷ hs) r zero h = rw (add-zero k) r.0
 row_at text rows k (g ∷ hs) r (suc i) h =
@@ -51,7 +52,7 @@ deep_at d (g ∷ hs) n (suc i) h =
     let r = deep_at g.depth hs n.3 i (omega arith) in
     (r.0, rw (← last_later d g hs i) r.1, r.2)
 
-tell : {text rows : List ℕ} (hs : List TextNode) {count : ℕ} → length hs ≡ count → Rowed text rows 0 hs → Nested 0 hs → Told text rows count
+tell : {text : List ℕ} {rows : List Row} (hs : List TextNode) {count : ℕ} → length hs ≡ count → Rowed text rows 0 hs → Nested 0 hs → Told text rows count
 tell {text} {rows} hs {count} e r n = record {
   hs = hs;
   many = e;
@@ -59,22 +60,22 @@ tell {text} {rows} hs {count} e r n = record {
   deep = λ i h. rw (last_same hs i) at (deep_at 0 hs n i (omega arith));
 }
 
-pub as_told : {text rows : List ℕ} {count : ℕ} {v : Verdict} → ((t : Told text rows count) → v ≡ verdict text t.hs)
+pub as_told : {text : List ℕ} {rows : List Row} {count : ℕ} {v : Verdict} → ((t : Told text rows count) → v ≡ verdict text t.hs)
     → (hs : List TextNode) → length hs ≡ count → Rowed text rows 0 hs → Nested 0 hs → v ≡ verdict text hs
 unfolding tell
 as_told f hs e r n = f (tell hs e r n)
 
 -- The place x of a refusal is that of the keyword of the node k, or of its name.
-module _ {text rows : List ℕ} {count : ℕ} (t : Told text rows count) {f : Option ℕ} {k : ℕ} (e : f ≡ Some k) (h : k < count) (next : Verdict) {r : Refusal} where
-  pub refused_key : {x : ℕ} (reason : Reason) → r ≡ refusal reason x → x ≡ get_or rows (k * 8 + 8) 0 → Err r ≡ refuse reason (keyword_at text) f next
+module _ {text : List ℕ} {rows : List Row} {count : ℕ} (t : Told text rows count) {f : Option ℕ} {k : ℕ} (e : f ≡ Some k) (h : k < count) (next : Verdict) {r : Refusal} where
+  pub refused_key : {x : ℕ} (reason : Reason) → r ≡ refusal reason x → x ≡ (row_of rows k).node.at → Err r ≡ refuse reason (keyword_at text) f next
   refused_key reason q p = rw (q, e, p, (t.row k h).at) refl
 
-  pub refused_name : {x : ℕ} → r ≡ refusal Reason.Name x → x ≡ get_or rows (k * 8 + 10) 0 → titled_at rows k ≡ true
+  pub refused_name : {x : ℕ} → r ≡ refusal Reason.Name x → x ≡ (row_of rows k).node.name → titled_at rows k ≡ true
       → Err r ≡ refuse Reason.Name (name_at text) f next
   refused_name q p w =
       let row = t.row k h in
       let kind = (node t.hs k).kind in
-      let named = titled_named kind (sym (titled_coded kind) ∙ (rw row.code at w)) in
+      let named = titled_named kind (rw row.kind at w) in
       rw (q, e, p, row.name, named) refl
 
 -- The rules that are kept are passed.

@@ -2,7 +2,7 @@
 use mathlib.Core.Path.{◌≡◌, refl, sym, ap, ◌∙◌}
 use mathlib.Core.Bool.{Bool, true, false, ◌&&◌, cond}
 use mathlib.Core.List.{List, [], ◌∷◌}
-use Prim.Native.Nat.{ℕ, suc, ◌+◌, ◌*◌, ◌≤◌, ◌<◌}
+use Prim.Native.Nat.{ℕ, suc, ◌+◌, ◌≤◌, ◌<◌}
 use native.Mathlib.Omega.{arith}
 use lib.Dec.{eqb, ltb}
 use lib.ListN.{length, drop, get_or, set, replicate, length-set}
@@ -12,12 +12,11 @@ use Rattle.base.proofs.Truth.{by_cases}
 use Rattle.diagram.specs.TreeNodes.{TextNode, flowing, may_be_solid}
 use Rattle.diagram.specs.declared.Kind.{Kind}
 use Rattle.rules.specs.Kept.{solids, one_of, solids_kept, fault}
-use Rattle.walked.specs.Rows.{mark, kind_code}
-use Rattle.names.specs.code.Kinds.{flow_code, solid_code}
+use Rattle.walked.specs.Rows.{row_of}
+use Rattle.walked.specs.declared.Row.{Row}
 use Rattle.std.specs.Prelude.{Option, Some, None, IfSome}
 use Rattle.names.specs.code.Told.{node, Told}
 use Rattle.sweeps.specs.code.Weights.{heavier, weight}
-use Rattle.names.proofs.Coded.{flow_coded, solid_coded}
 use Rattle.names.proofs.Tables.{zeros}
 use Rattle.names.proofs.Numbered.{last_more, from_here, from_past}
 
@@ -32,8 +31,8 @@ light false = refl
 weight_one : (ks : List Kind) → one_of ks ≡ eqb (weight ks) 1
 unfolding weight
 weight_one [] = refl
-weight_one (k ∷ []) = rw (solid_coded k) (light (may_be_solid k))
-weight_one (k ∷ e ∷ ks) = rw (heavy (eqb (weight ks) 0 && solid_code (kind_code e)))
+weight_one (k ∷ []) = light (may_be_solid k)
+weight_one (k ∷ e ∷ ks) = rw (heavy (eqb (weight ks) 0 && may_be_solid e))
 
 -- The solid children of a flow of depth e, by the depth of the next node.
 module _ (h : TextNode) (after : List TextNode) (e : ℕ) where
@@ -50,7 +49,7 @@ weight_none : weight [] ≡ 0
 unfolding weight
 weight_none = refl
 
-weight_if : (b : Bool) (w : ℕ) (k : Kind) (ks : List Kind) → w ≡ weight ks → cond (eqb (mark b) 0) w (heavier w (kind_code k)) ≡ weight (cond b (k ∷ ks) ks)
+weight_if : (b : Bool) (w : ℕ) (k : Kind) (ks : List Kind) → w ≡ weight ks → cond b (heavier w k) w ≡ weight (cond b (k ∷ ks) ks)
 unfolding weight
 weight_if true w k ks e = rw e
 weight_if false w k ks e = e
@@ -63,7 +62,7 @@ pub record Weighed (hs : List TextNode) (table : List ℕ) (i : ℕ) : Type 0 wh
 pub record First (hs : List TextNode) (f : Option ℕ) (i : ℕ) : Type 0 where
   pub is : (before : List TextNode) → fault solids_kept before (drop i hs) ≡ f
 
-module _ {text rows : List ℕ} {count : ℕ} (t : Told text rows count) where
+module _ {text : List ℕ} {rows : List Row} {count : ℕ} (t : Told text rows count) where
   pub weigh_start : Weighed t.hs (replicate 14 0) count
   unfolding weight
   weigh_start = record { each = λ e l. rw (from_past t.hs count (omega (arith, t.many))) (zeros 14 (e + 1)) }
@@ -81,8 +80,8 @@ blame_within P i later true false p q = q
 blame_within P i later false e p q = p
 
 -- One node more, which has the number i and the depth d.
-module _ {text rows : List ℕ} {count : ℕ} (t : Told text rows count) {table : List ℕ} {i : ℕ} (s : Weighed t.hs table (i + 1)) (h : i < count)
-    {d : ℕ} (D : get_or rows (i * 8 + 13) 0 ≤ 12 → d ≡ get_or rows (i * 8 + 13) 0) where
+module _ {text : List ℕ} {rows : List Row} {count : ℕ} (t : Told text rows count) {table : List ℕ} {i : ℕ} (s : Weighed t.hs table (i + 1)) (h : i < count)
+    {d : ℕ} (D : (row_of rows i).node.depth ≤ 12 → d ≡ (row_of rows i).node.depth) where
   depth : d ≡ (node t.hs i).depth
   depth = let e = (t.row i h).depth in let l = t.deep i h in D (rw e l.2) ∙ e
 
@@ -103,20 +102,20 @@ module _ {text rows : List ℕ} {count : ℕ} (t : Told text rows count) {table 
       rw (from_past t.hs (i + 1) (omega (arith, t.many))))
 
   pub first_next : {f g : Option ℕ} {w : ℕ} → First t.hs f (i + 1) → w ≡ get_or table (d + 1) 0
-      → g ≡ cond (flow_code (get_or rows (i * 8 + 11) 0)) (cond (eqb w 1) f (Some i)) f → First t.hs g i
+      → g ≡ cond (flowing (row_of rows i).node.kind) (cond (eqb w 1) f (Some i)) f → First t.hs g i
   unfolding fault
   first_next {f} {g} {w} r p q =
       let ws : eqb w 1 ≡ one_of (solids (node t.hs i).depth (drop (i + 1) t.hs)) =
       rw (weight_one (solids (node t.hs i).depth (drop (i + 1) t.hs)), ← depth, ← s.each d small, p) in
       record {
         is = λ before.
-            rw (here, q, (t.row i h).code, flow_coded (node t.hs i).kind, ← ws)
+            rw (here, q, (t.row i h).kind, ← ws)
             (by_cases (flowing (node t.hs i).kind) (λ a. rw a (by_cases (eqb w 1) (λ b. rw b (r.is (node t.hs i ∷ before))) (λ b. rw (b, (t.row i h).number)))) (λ a. rw a (r.is (node t.hs i ∷ before))));
       }
 
   -- Its children are passed, and it is one of those of its depth: v is their weight.
   module _ (long : length table ≡ 14) {v w : ℕ} (p : w ≡ get_or (set table (d + 1) 0) d 0)
-      (q : v ≡ cond (eqb (get_or rows (i * 8 + 9) 0) 0) w (heavier w (get_or rows (i * 8 + 11) 0))) where
+      (q : v ≡ cond (row_of rows i).node.solid (heavier w (row_of rows i).node.kind) w) where
     abbrev left : List ℕ
     left = set (set table (d + 1) 0) d v
 
@@ -144,7 +143,7 @@ module _ {text rows : List ℕ} {count : ℕ} (t : Told text rows count) {table 
         ap (λ (k : ℕ). get_or left k 0) (sym z)
         ∙ taken
         ∙ q
-        ∙ rw ((t.row i h).solid, (t.row i h).code) (weight_if n.solid w n.kind (solids e after) wt)
+        ∙ rw ((t.row i h).solid, (t.row i h).kind) (weight_if n.solid w n.kind (solids e after) wt)
         ∙ ap weight (sym (solids_child n after e (omega arith)))) (λ b.
         let z = eqb-false d (e + 1) b in
         kept (e + 1) (λ g. z (sym g)) (λ g. omega arith)

@@ -1,41 +1,42 @@
 #![tactic(auto)]
 
-ghost use Rattle.std.specs.Prelude.{◌≡◌, ◌&&◌, cond, List, [], ℕ, ◌+◌, ◌*◌, ◌≤◌, ◌<◌, eqb, length, drop, Option, Some, IfSome};
+ghost use Rattle.std.specs.Prelude.{◌≡◌, not, ◌&&◌, cond, List, [], ℕ, ◌+◌, ◌*◌, ◌≤◌, ◌<◌, eqb, length, drop, Option, Some, IfSome};
 ghost use Rattle.base.specs.declared.Reason.TheVariants.{Weak};
-ghost use Rattle.diagram.specs.TreeNodes.{TextNode};
+ghost use Rattle.diagram.specs.TreeNodes.{TextNode, flowing, copying, size_of};
 ghost use Rattle.grammar.specs.Keys.{keyword_at};
 ghost use Rattle.rules.specs.Kept.{fault, solids_kept, strongs_kept};
 ghost use Rattle.rules.specs.Counted.{total, any_node, eventful, capped};
 ghost use Rattle.rules.specs.Judged.{refuse, counted, verdict as verdict_of};
 ghost use Rattle.walked.specs.Rows.{Rowed, Nested};
-ghost use Rattle.names.specs.code.Kinds.{flow_code, copying_code};
 ghost use Rattle.names.specs.code.Told.{node, Told};
 ghost use Rattle.sweeps.specs.code.Weights.{heavier as heavier_of};
 
 use base::{Reason, Refusal};
-use names::{Nodes, Row};
+use names::Nodes;
 use rules::Counts;
+use walked::Row;
 
 // The weight w of a flow's solid children, with one more: 0 none, 1 one that may be solid, 2 otherwise.
 fn heavier(w: usize, child: &Row) -> usize
-    ensures { result ≡ heavier_of w child.now.keyword }
+    ensures { result ≡ heavier_of w child.now.node.kind }
 {
     if w == 0 && child.may_be_solid() { 1 } else { 2 }
 }
 
 // The weight w of children, with this one among them if it is solid.
 fn borne(w: usize, child: &Row) -> usize
-    ensures { result ≡ cond (eqb child.now.solid 0) w (heavier_of w child.now.keyword) }
+    ensures { result ≡ cond child.now.node.solid (heavier_of w child.now.node.kind) w }
 {
-    if child.solid == 0 {
-        return w;
+    if child.node.solid {
+        heavier(w, child)
+    } else {
+        w
     }
-    heavier(w, child)
 }
 
 // The node i, if it is a flow whose children weigh w, which is not 1; else the one found so far.
 fn blamed(row: &Row, i: usize, w: usize, later: Option<usize>) -> Option<usize>
-    ensures { result ≡ cond (flow_code row.now.keyword) (cond (eqb w 1) later (Some i)) later }
+    ensures { result ≡ cond (flowing row.now.node.kind) (cond (eqb w 1) later (Some i)) later }
 {
     if row.is_flow() && w != 1 {
         return Some(i);
@@ -71,9 +72,10 @@ fn cap(n: usize) -> usize
 
 // The size of a replicator, else 1.
 fn factor(row: &Row) -> usize
-    ensures { result ≡ cond (copying_code row.now.keyword) row.now.size 1 }
+    ensures fits { result < 65536 }
+    ensures value { result ≡ cond (copying row.now.node.kind) (size_of row.now.node.kind) 1 }
 {
-    if row.is_replicator() { row.size } else { 1 }
+    if row.is_replicator() { row.size() } else { 1 }
 }
 
 // How many of the n copies of the node i are events, or resets of a loop over a flow: all or none.
@@ -105,9 +107,9 @@ fn limits(copies: usize, events: usize) -> Result<Counts, Refusal>
 
 // Whether the node is a flow whose sw is 0.
 fn is_weak(row: &Row) -> bool
-    ensures { result ≡ (flow_code row.now.keyword && eqb row.now.switch 0) }
+    ensures { result ≡ (flowing row.now.node.kind && not row.now.node.strong) }
 {
-    row.is_flow() && row.switch == 0
+    row.is_flow() && !row.node.strong
 }
 
 // Numbers 10 and 11, or the counts: the first flow whose sw is 0 ends the count. How many copies a node has is kept by its depth.
@@ -120,7 +122,7 @@ fn counts(nodes: &Nodes) -> Result<Counts, Refusal>
     for i in 0..nodes.count {
         let row = nodes.row(i);
         if is_weak(&row) {
-            return Err(Reason::Weak.at(row.place));
+            return Err(Reason::Weak.at(row.place()));
         }
         let depth = row.level();
         let n = around[depth];
@@ -136,13 +138,13 @@ pub fn verdict(nodes: &Nodes) -> Result<Counts, Refusal>
     ensures { (hs : List TextNode) → length hs ≡ nodes.now.count → Rowed nodes.now.lexer.now.text.now nodes.now.rows.now 0 hs → Nested 0 hs → result ≡ verdict_of nodes.now.lexer.now.text.now hs }
 {
     if let Some(i) = nodes.twice() {
-        return Err(Reason::Name.at(nodes.row(i).name));
+        return Err(Reason::Name.at(nodes.row(i).name()));
     }
     if let Some(i) = nodes.unlisted() {
-        return Err(Reason::Parameter.at(nodes.row(i).place));
+        return Err(Reason::Parameter.at(nodes.row(i).place()));
     }
     if let Some(i) = unsolid(nodes) {
-        return Err(Reason::Solid.at(nodes.row(i).place));
+        return Err(Reason::Solid.at(nodes.row(i).place()));
     }
     counts(nodes)
 }

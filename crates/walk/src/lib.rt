@@ -10,7 +10,7 @@ use base::{Reason, Refusal};
 use grammar::Place;
 use heads::Parser;
 use tokens::{Keyword, Sign};
-use walked::Position;
+use walked::{Position, Row};
 
 // Figure 5.2 of the thesis has four lines: flow, child, cons-child and constructor. Each has its reader here, in the figure's order, and each reader tries
 // what its line names in the line's order. By document 01 one flow stands where the figure has one or more, and a replicator's par has a size.
@@ -22,7 +22,7 @@ fn flow(
     parser: &Parser,
     p: Position,
     depth: usize,
-    rows: &mut [u16; 2056],
+    rows: &mut [Row; 257],
 ) -> Result<Position, Refusal>
     ensures { Fills parser.now.lexer.text.now (flow_parts depth) p.nodes p.at rows.old result rows.new }
 {
@@ -43,7 +43,7 @@ fn read_child(
     parser: &Parser,
     p: Position,
     depth: usize,
-    rows: &mut [u16; 2056],
+    rows: &mut [Row; 257],
 ) -> Result<Position, Refusal>
     ensures { Opens parser.now.lexer.text.now child depth p.nodes p.at rows.old result rows.new }
 {
@@ -57,7 +57,7 @@ fn read_member(
     parser: &Parser,
     p: Position,
     depth: usize,
-    rows: &mut [u16; 2056],
+    rows: &mut [Row; 257],
 ) -> Result<Position, Refusal>
     ensures { Opens parser.now.lexer.text.now member depth p.nodes p.at rows.old result rows.new }
 {
@@ -72,7 +72,7 @@ fn of_keyword(
     p: Position,
     keyword: Keyword,
     depth: usize,
-    rows: &mut [u16; 2056],
+    rows: &mut [Row; 257],
 ) -> Result<Position, Refusal>
     ensures { Fills parser.now.lexer.text.now (parts (shown_key keyword) depth) p.nodes p.at rows.old result rows.new }
 {
@@ -94,7 +94,7 @@ fn group(
     parser: &Parser,
     p: Position,
     depth: usize,
-    rows: &mut [u16; 2056],
+    rows: &mut [Row; 257],
 ) -> Result<Position, Refusal>
     ensures { Fills parser.now.lexer.text.now (group_parts depth) p.nodes p.at rows.old result rows.new }
 {
@@ -114,7 +114,7 @@ fn body(
     parser: &Parser,
     p: Position,
     depth: usize,
-    rows: &mut [u16; 2056],
+    rows: &mut [Row; 257],
 ) -> Result<Position, Refusal>
     ensures { Fills parser.now.lexer.text.now (loop_parts depth) p.nodes p.at rows.old result rows.new }
 {
@@ -124,7 +124,7 @@ fn body(
 }
 
 // Figure 5.2, flow, with the keyword: the root.
-fn read_root(parser: &Parser, rows: &mut [u16; 2056]) -> Result<Position, Refusal>
+fn read_root(parser: &Parser, rows: &mut [Row; 257]) -> Result<Position, Refusal>
     ensures { Opens parser.now.lexer.text.now root 12 0 0 rows.old result rows.new }
 {
     let start = Position { at: 0, nodes: 0 };
@@ -133,7 +133,7 @@ fn read_root(parser: &Parser, rows: &mut [u16; 2056]) -> Result<Position, Refusa
 }
 
 // The text is one flow, and nothing stands after it: its nodes are written over the rows, from the second on, and counted.
-pub fn parse(parser: &Parser, rows: &mut [u16; 2056]) -> Result<usize, Refusal>
+pub fn parse(parser: &Parser, rows: &mut [Row; 257]) -> Result<usize, Refusal>
     ensures { ending parser.now.lexer.text.now rows.old ≡ told result rows.new }
 {
     let p = read_root(parser, rows)?;

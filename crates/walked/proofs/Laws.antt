@@ -32,7 +32,8 @@ use Rattle.tokens.proofs.Shown.{key_back, name_shown, sign_shown}
 use Rattle.grammar.specs.Machine.{is_sign, is_name, counts, Place, root, member, child, allows, Want, sign, named, number, params, param, node, more, others, Move, off, big, push, ref, parts, full, depths, begin, expand}
 use Rattle.grammar.proofs.Shown.{expand_shown}
 use Rattle.walked.specs.declared.Position.{Position}
-use Rattle.walked.specs.Walk.{State, state, begun, waiting, beginning, marking, naming, sizing, switching, spelled, row_code, value, effect, End, stop, proceed, walk, from, ending}
+use Rattle.walked.specs.declared.Row.{Row}
+use Rattle.walked.specs.Walk.{State, state, begun, waiting, beginning, marking, naming, sizing, switching, spelled, begun_kind, value, effect, End, stop, proceed, walk, from, ending}
 use Rattle.walked.specs.code.Kinds.{kind_effect}
 use Rattle.walked.proofs.Past.{name_bytes}
 use Rattle.walked.specs.code.Readers.{Closing, Step, position, left_at, Turns, Writes, Fills, Opens, Begins, told}
@@ -101,7 +102,7 @@ name_whole b (numeral m) q e = absurd (false≢true e)
 name_whole b other q e = absurd (false≢true e)
 
 -- What a token writes where it is taken.
-row_shown : (t : Token) → row_code (shown (Some (kind t))) ≡ row_code t
+row_shown : (t : Token) → begun_kind (shown (Some (kind t))) ≡ begun_kind t
 row_shown (Token.sign s) = refl
 row_shown (key k) = rw (key_back k)
 row_shown (name w) = refl
@@ -422,11 +423,11 @@ same_node p d n other k after ws f = refl
 
 module _ {text : List ℕ} {ws : List Want} {n k m j : ℕ} {st st₁ : State} {vs : List Want} {t : Lexeme} (q : Next text j t) where
   another : {w : Want} (p : Place) (d : ℕ) (after : List Want) → expand w m (shown t.kind) ≡ begin p d m (shown t.kind) after
-      → written_by w m t st₁ ≡ beginning p d m (row_code (shown t.kind)) t.start st₁ → Leads text ws n k st (w ∷ vs) m j st₁
+      → written_by w m t st₁ ≡ beginning p d m (begun_kind (shown t.kind)) t.start st₁ → Leads text ws n k st (w ∷ vs) m j st₁
       → Leads text ws n k st (node p d ∷ after ++ vs) m j st₁
   unfolding expand kind_effect
   another {w} p d after e f l =
-      let b = beginning p d m (row_code (shown t.kind)) t.start st₁ in
+      let b = beginning p d m (begun_kind (shown t.kind)) t.start st₁ in
       record {
         machine = λ rest. l.machine rest ∙ at_token q w (vs ++ rest) m st₁
             ∙ rw (e, f) (same_node p d m (shown t.kind) t.start after (vs ++ rest) (λ u us. from text us (m + u) b t.end))
@@ -447,12 +448,12 @@ module _ {text : List ℕ} {ws : List Want} {n k m j : ℕ} {st st₁ : State} {
   another_member {d} l h = another member d (others d ∷ []) (rw h) (rw h) l
 
 -- A keyword that is taken leaves the parts of its node, with its row begun.
-pub opens : {text : List ℕ} {n k : ℕ} {rows rows₁ pending : List ℕ} {t : Lexeme} {w : KeyKind} (p : Place) (d : ℕ) → Next text k t
-    → rows₁ ≡ begun rows n (row_code (key (shown_key w))) t.start d → keyword_of t.kind ≡ Some w → allows p (shown_key w) ≡ true → (d ≡ 0 → ⊥) → n < 256
+pub opens : {text : List ℕ} {n k : ℕ} {rows rows₁ : List Row} {pending : List ℕ} {t : Lexeme} {w : KeyKind} (p : Place) (d : ℕ) → Next text k t
+    → rows₁ ≡ begun rows n (begun_kind (key (shown_key w))) t.start d → keyword_of t.kind ≡ Some w → allows p (shown_key w) ≡ true → (d ≡ 0 → ⊥) → n < 256
     → Turns text (node p d ∷ []) n k (state rows pending) (Ok (position t.end (n + 1))) (parts (shown_key w) (d - 1)) (state rows₁ (waiting p n pending))
 unfolding kind_effect
 opens {text} {n} {k} {rows} {rows₁} {pending} {t} {w} p d q r e a f g =
-    let b = beginning p d n (row_code (shown t.kind)) t.start (state rows pending) in
+    let b = beginning p d n (begun_kind (shown t.kind)) t.start (state rows pending) in
     let o : Leads text (node p d ∷ []) n k (state rows pending) ((parts (shown_key w) (d - 1) ++ []) ++ []) (n + 1) t.end b =
     counted starts q (node_opens n t.kind d p w e a f g) in
     let v : Leads text (node p d ∷ []) n k (state rows pending) (parts (shown_key w) (d - 1)) (n + 1) t.end b = simp append-nil at o in
@@ -460,8 +461,8 @@ opens {text} {n} {k} {rows} {rows₁} {pending} {t} {w} p d q r e a f g =
     rw r (rw (is_key_kind t.kind w e) at (arrives v s.0 s.1))
 
 -- A node of which the keyword was looked at: it is refused with it, or its parts are read after it.
-module _ {text : List ℕ} {p : Place} {d n k : ℕ} {rows : List ℕ} where
-  pub node_refused : {x : Refusal} {r : Step} {rows₁ rows₂ : List ℕ} → Begins text p d n k rows (Err x) rows₁ → r ≡ Err x → Opens text p d n k rows r rows₂
+module _ {text : List ℕ} {p : Place} {d n k : ℕ} {rows : List Row} where
+  pub node_refused : {x : Refusal} {r : Step} {rows₁ rows₂ : List Row} → Begins text p d n k rows (Err x) rows₁ → r ≡ Err x → Opens text p d n k rows r rows₂
   node_refused b g s = halts (b.refused _ refl s) g [] starts
 
   -- What is said of a keyword that is refused, and of one that is taken.
@@ -472,7 +473,7 @@ module _ {text : List ℕ} {p : Place} {d n k : ℕ} {rows : List ℕ} where
     turns = λ w o g. err_not_ok g;
   }
 
-  pub begins_one : {w : KeyKind} {o : Position} {rows₁ : List ℕ} → allows p (shown_key w) ≡ true → 0 < d
+  pub begins_one : {w : KeyKind} {o : Position} {rows₁ : List Row} → allows p (shown_key w) ≡ true → 0 < d
       → ((s : List ℕ) → Turns text (node p d ∷ []) n k (state rows s) (Ok o) (parts (shown_key w) (d - 1)) (state rows₁ (waiting p n s)))
       → Begins text p d n k rows (Ok (w, o)) rows₁
   begins_one {w} {o} a l f = record {
@@ -482,7 +483,7 @@ module _ {text : List ℕ} {p : Place} {d n k : ℕ} {rows : List ℕ} where
         let z : w ≡ v = ap (λ (x : KeyKind × Position). x.0) e in let y : o ≡ q = ap (λ (x : KeyKind × Position). x.1) e in rw (← z, ← y) (f s);
   }
 
-  pub node_read : {w : KeyKind} {o : Position} {r : Step} {rows₁ rows₂ : List ℕ} → Begins text p d n k rows (Ok (w, o)) rows₁
+  pub node_read : {w : KeyKind} {o : Position} {r : Step} {rows₁ rows₂ : List Row} → Begins text p d n k rows (Ok (w, o)) rows₁
       → Fills text (parts (shown_key w) (d - 1)) o.nodes o.at rows₁ r rows₂ → Opens text p d n k rows r rows₂
   node_read {w} {o} b h s =
       let u = b.turns w o refl s in
@@ -510,10 +511,10 @@ unfolding walk
 at_end n st e [] h = let z : ⊥ = omega arith in absurd z
 at_end n st e (s ∷ ss) h = refl
 
-abbrev Root : List ℕ → List ℕ → Step → List ℕ → Type 0
+abbrev Root : List ℕ → List Row → Step → List Row → Type 0
 Root text rows r rows' = Writes text (node root depths ∷ []) 0 0 (state rows []) r (state rows' [])
 
-module _ {text rows rows₁ : List ℕ} where
+module _ {text : List ℕ} {rows rows₁ : List Row} where
   pub refused : {x : Refusal} {r : Result ℕ Refusal} → Root text rows (Err x) rows₁ → r ≡ Err x → ending text rows ≡ told r rows₁
   unfolding ending
   refused q e = rw e (q.machine [])

@@ -2,11 +2,10 @@ pub mod Laws
 pub mod Rebuilt
 pub mod Located
 pub mod Deep
-pub mod Sized
 pub mod Filled
 pub mod Past
 pub mod Track
-pub mod Row
+pub mod RowTold
 pub mod Nodes
 pub mod Tree
 pub mod Told

@@ -12,6 +12,7 @@ use Rattle.tokens.specs.Rest.{rest}
 use Rattle.tokens.proofs.Steps as Steps
 use Rattle.grammar.specs.Machine as Machine
 use Rattle.grammar.specs.Machine.{Want, Move, off, big, push, node, root, depths, expand, run, outcome}
+use Rattle.walked.specs.declared.Row.{Row}
 use Rattle.walked.specs.Walk.{State, state, effect, End, proceed, walk, ending, unwritten, placed_by}
 
 -- The tokens of a text are those from its start on.
@@ -43,7 +44,7 @@ located f (w ∷ ws) n k st e (s ∷ ss) g =
     (λ u vs. located f (vs ++ ws) (n + u) (suc k) (effect w n (token s) s.place st) e ss (λ i. ap f (suc-add k i ∙ sym (add-suc k i)) ∙ g (suc i)))
 
 -- The whole text: the outcome of `grammar.specs.Machine`, unchanged, at the places of the tokens, and at the text's end past them.
-pub ends_as : (text rows : List ℕ) → unwritten (ending text rows) ≡ placed_by (λ j. get_or (places text) j (length text)) (outcome (text_tokens keywords text))
+pub ends_as : (text : List ℕ) (rows : List Row) → unwritten (ending text rows) ≡ placed_by (λ j. get_or (places text) j (length text)) (outcome (text_tokens keywords text))
 unfolding ending outcome text_tokens places
 ends_as text rows =
     let ps = map (λ (s : Span). s.place) (spans_of text) in

@@ -2,12 +2,12 @@
 use mathlib.Core.Path.{◌≡◌, refl, ap, ◌∙◌}
 use mathlib.Core.Bool.{Bool, true, false}
 use mathlib.Core.List.{List, [], ◌∷◌, ◌++◌}
-use Prim.Native.Nat.{ℕ, suc, ◌+◌, ◌*◌, ◌-◌, ◌≤◌, ◌<◌}
+use Prim.Native.Nat.{ℕ, suc, ◌+◌, ◌-◌, ◌≤◌, ◌<◌}
 use native.Mathlib.Omega.{arith}
 use lib.ListN.{length}
 use Rattle.diagram.specs.Tree.{Name, Way, all, some, one, flow, Children, none, next, Child, loop, group, replicator, Member, leaf, Members, end, also}
 use Rattle.diagram.specs.Count.{child_nodes, member_nodes}
-use Rattle.diagram.specs.TreeNodes.{TextNode, own, flowing, has_name, size_of, group_kind, replicator_kind, text_node, flow_text_node, flow_tree_nodes, children_tree_nodes, child_tree_nodes, member_tree_nodes, members_tree_nodes}
+use Rattle.diagram.specs.TreeNodes.{TextNode, own, flowing, has_name, group_kind, replicator_kind, text_node, flow_text_node, flow_tree_nodes, children_tree_nodes, child_tree_nodes, member_tree_nodes, members_tree_nodes}
 use Rattle.diagram.specs.declared.Kind.{Kind}
 use Rattle.diagram.specs.declared.Kind.TheVariants.{Flow as FlowNode, Leaf, Loop}
 use Rattle.tokens.specs.Classes.{between}
@@ -16,34 +16,30 @@ use Rattle.tokens.specs.Token.{opening, closing, comma, colon, Keyword, Token, k
 use Rattle.grammar.specs.Named.{all_named}
 use Rattle.grammar.specs.Tokens.{bit, pars_tokens, ref_tokens, flow_tokens, children_tokens, child_tokens, member_tokens, members_tokens}
 use Rattle.grammar.specs.Machine.{Place, member, child, allows, Want, sign, number, params, node, more, others, ref, parts}
-use Rattle.walked.specs.Walk.{State, state, store, begun, waiting, row_code}
-use Rattle.walked.specs.Rows.{mark, kind_code, Row}
-use Rattle.walked.proofs.Filled.{Room, Holds, Head, head_store, head_begun, Part, First, part_none, part_seq, part_plain, part_marked, first_node}
+use Rattle.walked.specs.Walk.{State, state, change, begun, begun_kind, marked, named_at, with_size, sized, switched, waiting}
+use Rattle.walked.specs.Rows.{row_of, Tells}
+use Rattle.walked.specs.declared.Row.{Row}
+use Rattle.walked.proofs.Filled.{Head, head_change, head_begun, Part, First, part_none, part_seq, part_plain, part_marked, first_node}
 use Rattle.walked.proofs.Past.{start_of, Here, past_key, past_token, past_bit, key_there}
-use Rattle.walked.proofs.Row.{no_name, one_name, with_pars, row_told}
+use Rattle.walked.proofs.RowTold.{no_name, one_name, with_pars, row_told}
 use Rattle.walked.proofs.Track.{past_pars, track, closes, ref_step, size_step, pars_step, open_step, name_step, more_closing, others_closing, more_node, others_node}
 
--- The keywords and the kinds of a way.
-group_code : (y : Way) → row_code (key (Keyword.group y)) ≡ kind_code (group_kind y)
-group_code all = refl
-group_code some = refl
-group_code one = refl
+-- The kinds of a way.
+group_unnamed : (y : Way) → has_name (group_kind y) ≡ false
+group_unnamed all = refl
+group_unnamed some = refl
+group_unnamed one = refl
 
-group_unnamed : (y : Way) → (has_name (group_kind y) ≡ false) × (size_of (group_kind y) ≡ 0)
-group_unnamed all = (refl, refl)
-group_unnamed some = (refl, refl)
-group_unnamed one = (refl, refl)
+replicator_named : (y : Way) (z : ℕ) → (has_name (replicator_kind y z) ≡ true) × (flowing (replicator_kind y z) ≡ false)
+replicator_named all z = (refl, refl)
+replicator_named some z = (refl, refl)
+replicator_named one z = (refl, refl)
 
-replicator_code : (y : Way) (z : ℕ) → row_code (key (Keyword.replicator y)) ≡ kind_code (replicator_kind y z)
-replicator_code all z = refl
-replicator_code some z = refl
-replicator_code one z = refl
-
-replicator_named : (y : Way) (z : ℕ)
-    → (has_name (replicator_kind y z) ≡ true) × (flowing (replicator_kind y z) ≡ false) × (size_of (replicator_kind y z) ≡ z)
-replicator_named all z = (refl, refl, refl)
-replicator_named some z = (refl, refl, refl)
-replicator_named one z = (refl, refl, refl)
+-- A replicator that is begun gets its size.
+replicator_sized : (y : Way) (z : ℕ) → with_size z (replicator_kind y 0) ≡ replicator_kind y z
+replicator_sized all z = refl
+replicator_sized some z = refl
+replicator_sized one z = refl
 
 module _ (text : List ℕ) where
   past_all : {n k : ℕ} (ps : List Name) (sw : Bool) (ts : List Token)
@@ -52,16 +48,16 @@ module _ (text : List ℕ) where
   past_all (p ∷ ps) sw ts h = past_all ps sw ts (past_token text refl (past_token text refl h))
 
   -- The node that stands from the tokens ts up to the tokens us, the nodes n to m - 1, is walked over; after it the children s wait as p says.
-  pub record Walked (w : Want) (p : List ℕ → List ℕ) (ts us : List Token) (g : Bool → List TextNode → List TextNode) (n m k : ℕ) (rows : List ℕ) : Type 0 where
-    pub after : List ℕ
+  pub record Walked (w : Want) (p : List ℕ → List ℕ) (ts us : List Token) (g : Bool → List TextNode → List TextNode) (n m k : ℕ) (rows : List Row) : Type 0 where
+    pub after : List Row
     pub next : ℕ
     pub goes : (s : List ℕ) (ws : List Want) → track text (w ∷ ws) n (state rows s) k ts ≡ track text ws m (state after (p s)) next us
     pub here : Here text m next us
     pub first : First text n m rows after g
 
   -- The same for what is listed up to a `)`, where vs is wanted.
-  pub record Passed (vs : List Want) (ts us : List Token) (g : List TextNode → List TextNode) (n m k : ℕ) (rows : List ℕ) : Type 0 where
-    pub after : List ℕ
+  pub record Passed (vs : List Want) (ts us : List Token) (g : List TextNode → List TextNode) (n m k : ℕ) (rows : List Row) : Type 0 where
+    pub after : List Row
     pub next : ℕ
     pub goes : (s : List ℕ) (ws : List Want) → track text (vs ++ ws) n (state rows s) k ts ≡ track text ws m (state after s) next us
     pub here : Here text m next us
@@ -69,10 +65,10 @@ module _ (text : List ℕ) where
 
   -- Whatever rows are lent, and wherever the tokens stand.
   abbrev pub Walks : Want → (List ℕ → List ℕ) → List Token → List Token → (Bool → List TextNode → List TextNode) → ℕ → ℕ → Type 0
-  Walks w p ts us g n m = (k : ℕ) (rows : List ℕ) → Room rows n → Here text n k ts → Walked w p ts us g n m k rows
+  Walks w p ts us g n m = (k : ℕ) (rows : List Row) → length rows ≡ 257 → Here text n k ts → Walked w p ts us g n m k rows
 
   abbrev pub Passes : List Want → List Token → List Token → (List TextNode → List TextNode) → ℕ → ℕ → Type 0
-  Passes vs ts us g n m = (k : ℕ) (rows : List ℕ) → Room rows n → Here text n k ts → Passed vs ts us g n m k rows
+  Passes vs ts us g n m = (k : ℕ) (rows : List Row) → length rows ≡ 257 → Here text n k ts → Passed vs ts us g n m k rows
 
   -- Where d depths are left, for nodes at depth x.
   module _ (around : List Name) (d x : ℕ) where
@@ -122,7 +118,7 @@ module _ (text : List ℕ) where
       unfolding members_tokens members_tree_nodes
       member_then vs a ms A M k rows room h =
           let u = A k rows room h in
-          let v = M u.next u.after u.first.kept.room u.here in
+          let v = M u.next u.after u.first.kept.sized u.here in
           record {
             after = v.after;
             next = v.next;
@@ -139,7 +135,7 @@ module _ (text : List ℕ) where
           let u = C k rows room h in
           let p = part_marked text u.first r U in
           let v =
-          K (suc (suc (suc u.next))) (store u.after (n * 8 + 9) (mark r)) p.kept.room
+          K (suc (suc (suc u.next))) (change u.after (suc n) (marked r)) p.kept.sized
           (past_token text refl (past_bit text r (past_token text refl u.here))) in
           record {
             after = v.after;
@@ -177,55 +173,60 @@ module _ (text : List ℕ) where
     few : n < 256
     few = omega arith
 
-    node_walked : {w : Want} {p : List ℕ → List ℕ} {us : List Want} {ts ts₁ rest : List Token} {g : List TextNode → List TextNode} {rows rows₁ : List ℕ}
-        (k i v : ℕ) (vs : List ℕ) (h : Bool → TextNode) → ((rs : List ℕ) (b : Bool) → Holds rs n (v ∷ mark b ∷ vs) → Row text rs n (h b))
-        → Head rows rows₁ n (v ∷ 0 ∷ vs)
+    node_walked : {w : Want} {p : List ℕ → List ℕ} {us : List Want} {ts ts₁ rest : List Token} {g : List TextNode → List TextNode} {rows rows₁ : List Row}
+        (k i : ℕ) (r : Row) (h : Bool → TextNode) → r.node.solid ≡ false → ((rs : List Row) (b : Bool) → row_of rs n ≡ marked b r → Tells text rs n (h b))
+        → Head rows rows₁ n r
         → ((s : List ℕ) (ws : List Want) → track text (w ∷ ws) n (state rows s) k ts ≡ track text (us ++ ws) (suc n) (state rows₁ (p s)) i ts₁)
         → Here text (suc n) i ts₁ → Passes us ts₁ rest g (suc n) m → Walked w p ts rest (λ b hs. h b ∷ g hs) n m k rows
-    node_walked {p = p} {rows₁ = rows₁} k i v vs h tell y front there parts =
-        let q = parts i rows₁ y.room there in
+    node_walked {p = p} {rows₁ = rows₁} k i r h z tell y front there parts =
+        let q = parts i rows₁ y.sized there in
         record {
           after = q.after;
           next = q.next;
           goes = λ s ws. front s ws ∙ q.goes (p s) ws;
           here = q.here;
-          first = first_node text v vs y h tell q.part;
+          first = first_node text r y z h tell q.part;
         }
 
-    -- The row with the name, which stands two tokens after the keyword.
-    named_rows : List ℕ → ℕ → ℕ → ℕ → List ℕ
-    named_rows rows k c e = store (store (begun rows n c (start_of text k) d) (suc n * 8 + 2) (start_of text (suc (suc k)))) (suc n * 8 + 7) e
+    -- The row that is begun, and the one with the name, which stands two tokens after the keyword.
+    begun_row : ℕ → Kind → Row
+    begun_row k kind = record {
+      node = record { kind = kind; solid = false; strong = false; depth = 13 - d; at = start_of text k; name = 0 };
+      past = 0;
+    }
 
-    head_named : (rows : List ℕ) (k c e : ℕ) → Room rows n
-        → Head rows (named_rows rows k c e) n (start_of text k ∷ 0 ∷ start_of text (suc (suc k)) ∷ c ∷ 0 ∷ (13 - d) ∷ 0 ∷ e ∷ [])
-    unfolding named_rows
-    head_named rows k c e r =
-        head_store few 7 (suc n * 8 + 7) e (omega arith) refl (omega arith)
-        (head_store few 2 (suc n * 8 + 2) (start_of text (suc (suc k))) (omega arith) refl (omega arith) (head_begun rows n c (start_of text k) d few r))
+    named_row : ℕ → Kind → ℕ → Row
+    named_row k kind e = named_at (start_of text (suc (suc k))) e (begun_row k kind)
+
+    named_rows : List Row → ℕ → Kind → ℕ → List Row
+    named_rows rows k kind e = change (begun rows n kind (start_of text k) d) (suc n) (named_at (start_of text (suc (suc k))) e)
+
+    head_named : (rows : List Row) (k : ℕ) (kind : Kind) (e : ℕ) → length rows ≡ 257 → Head rows (named_rows rows k kind e) n (named_row k kind e)
+    unfolding named_rows named_row begun_row
+    head_named rows k kind e z = head_change few (named_at (start_of text (suc (suc k))) e) (head_begun rows n kind (start_of text k) d few z)
 
     pub leaf_walks : (place : Place) (t : Name) (us : List Token) → allows place Keyword.leaf ≡ true
         → MembersPass around (d - 1) (suc x) (sign closing ∷ []) end us (suc n) m → MemberWalks around d x place (leaf t) us n m
-    unfolding member_tokens member_tree_nodes named_rows
-    leaf_walks place t us a E k rows r h =
+    unfolding member_tokens member_tree_nodes named_rows named_row begun_row
+    leaf_walks place t us a E k rows z h =
         let p = start_of text (suc (suc k)) in
-        node_walked k (suc (suc (suc k))) (start_of text k) (p ∷ 8 ∷ 0 ∷ (13 - d) ∷ 0 ∷ (p + length t) ∷ []) (λ b. text_node n Leaf b x t)
-        (λ rs b. rw depth
-        (row_told text n (start_of text k) p (p + length t) 0 (text_node n Leaf b x t) refl (key_there text h) refl
-        (one_name text n k Keyword.leaf t (Token.sign closing ∷ us) h Leaf refl refl) rs))
-        (head_named rows k 8 (p + length t) r)
+        node_walked k (suc (suc (suc k))) (named_row k Leaf (p + length t)) (λ b. text_node n Leaf b x t) refl
+        (λ rs b q. row_told text n (start_of text k) p (p + length t) (text_node n Leaf b x t) refl (key_there text h)
+        (one_name text n k Keyword.leaf t (Token.sign closing ∷ us) h Leaf refl refl) rs (rw depth at q))
+        (head_named rows k Leaf (p + length t) z)
         (λ s ws. name_step text place d n Keyword.leaf a H few (sign closing ∷ []) ws rows s k (Token.sign closing ∷ us) t refl)
         (past_token text refl (past_token text refl (past_key text h))) E
 
     -- A constructor with members but no name.
-    bare_walked : (w : Keyword) (kind : Kind) (vs : List Want) (ms : Members) (us : List Token) → row_code (key w) ≡ kind_code kind
-        → parts w (d - 1) ≡ sign opening ∷ vs → has_name kind ≡ false → size_of kind ≡ 0 → MembersPass around (d - 1) (suc x) vs ms us (suc n) m
+    bare_walked : (w : Keyword) (kind : Kind) (vs : List Want) (ms : Members) (us : List Token) → begun_kind (key w) ≡ kind
+        → parts w (d - 1) ≡ sign opening ∷ vs → has_name kind ≡ false → MembersPass around (d - 1) (suc x) vs ms us (suc n) m
         → Walks (node child d) (λ s. n ∷ s) (key w ∷ Token.sign opening ∷ members_tokens ms (Token.sign closing ∷ us)) us
         (λ b hs. text_node n kind b x [] ∷ members_tree_nodes own ms around (suc x) (suc n) hs) n m
-    bare_walked w kind vs ms us c p f z M k rows r h =
-        node_walked k (suc (suc k)) (start_of text k) (0 ∷ kind_code kind ∷ 0 ∷ (13 - d) ∷ 0 ∷ 0 ∷ []) (λ b. text_node n kind b x [])
-        (λ rs b. rw depth
-        (row_told text n (start_of text k) 0 0 0 (text_node n kind b x []) refl (key_there text h) z (no_name text n kind f) rs))
-        (head_begun rows n (kind_code kind) (start_of text k) d few r)
+    unfolding begun_row
+    bare_walked w kind vs ms us c p f M k rows z h =
+        node_walked k (suc (suc k)) (begun_row k kind) (λ b. text_node n kind b x []) refl
+        (λ rs b q. row_told text n (start_of text k) 0 0 (text_node n kind b x []) refl (key_there text h) (no_name text n kind f) rs (rw depth at q))
+        (head_begun rows n kind (start_of text k) d few z)
         (λ s ws. rw (← c)
         (open_step text child d n w refl H few vs ws rows s k (members_tokens ms (Token.sign closing ∷ us)) p))
         (past_token text refl (past_key text h)) M
@@ -233,7 +234,7 @@ module _ (text : List ℕ) where
     pub loop_walks : (a : Member) (us : List Token) → MembersPass around (d - 1) (suc x) (node member (d - 1) ∷ sign closing ∷ []) (also a end) us (suc n) m
         → ChildWalks around d x (loop a) us n m
     unfolding child_tokens child_tree_nodes
-    loop_walks a us A = bare_walked Keyword.loop Loop (node member (d - 1) ∷ sign closing ∷ []) (also a end) us refl refl refl refl A
+    loop_walks a us A = bare_walked Keyword.loop Loop (node member (d - 1) ∷ sign closing ∷ []) (also a end) us refl refl refl A
 
     pub group_walks : (y : Way) (a o : Member) (ms : Members) (us : List Token)
         → MembersPass around (d - 1) (suc x) (node member (d - 1) ∷ node member (d - 1) ∷ others (d - 1) ∷ []) (also a (also o ms)) us (suc n) m
@@ -241,12 +242,12 @@ module _ (text : List ℕ) where
     unfolding child_tokens child_tree_nodes
     group_walks y a o ms us A =
         bare_walked (Keyword.group y) (group_kind y) (node member (d - 1) ∷ node member (d - 1) ∷ others (d - 1) ∷ []) (also a (also o ms)) us
-        (group_code y) refl (group_unnamed y).0 (group_unnamed y).1 A
+        refl refl (group_unnamed y) A
 
     pub replicator_walks : (y : Way) (par : Name) (z : ℕ) (a : Member) (us : List Token) → between 1 16 z ≡ true
         → MembersPass (around ++ (par ∷ [])) (d - 1) (suc x) (node member (d - 1) ∷ sign closing ∷ []) (also a end) us (suc n) m
         → ChildWalks around d x (replicator y par z a) us n m
-    unfolding child_tokens child_tree_nodes named_rows
+    unfolding child_tokens child_tree_nodes named_rows named_row begun_row
     replicator_walks y par z a us g A k rows r h =
         let kind = replicator_kind y z in
         let f = replicator_named y z in
@@ -256,16 +257,14 @@ module _ (text : List ℕ) where
         let ts = member_tokens a (Token.sign closing ∷ us) in
         let ts₁ = Token.sign colon ∷ numeral z ∷ Token.sign closing ∷ Token.sign opening ∷ ts in
         let h₁ = past_token text refl (past_token text refl (past_key text h)) in
-        node_walked k (suc (suc (suc (suc (suc (suc (suc k))))))) (start_of text k) (p ∷ kind_code kind ∷ z ∷ (13 - d) ∷ 0 ∷ e ∷ [])
-        (λ b. text_node n kind b x par)
-        (λ rs b. rw depth
-        (row_told text n (start_of text k) p e z (text_node n kind b x par) refl (key_there text h) f.2
-        (one_name text n k (Keyword.replicator y) par ts₁ h kind f.0 f.1) rs))
-        (head_store few 4 (suc n * 8 + 4) z (omega arith) refl (omega arith) (head_named rows k (kind_code kind) e r))
-        (λ s ws. rw (← replicator_code y z)
-        (name_step text child d n (Keyword.replicator y) refl H few
+        node_walked k (suc (suc (suc (suc (suc (suc (suc k))))))) (sized z (named_row k (replicator_kind y 0) e)) (λ b. text_node n kind b x par) refl
+        (λ rs b q. row_told text n (start_of text k) p e (text_node n kind b x par) refl (key_there text h)
+        (one_name text n k (Keyword.replicator y) par ts₁ h kind f.0 f.1) rs (rw (replicator_sized y z, depth) at q))
+        (head_change few (sized z) (head_named rows k (replicator_kind y 0) e r))
+        (λ s ws.
+        name_step text child d n (Keyword.replicator y) refl H few
         (sign colon ∷ number 1 16 ∷ sign closing ∷ sign opening ∷ vs) ws rows s k ts₁ par refl
-        ∙ size_step text (vs ++ ws) (suc n) (named_rows rows k (row_code (key (Keyword.replicator y))) e) (n ∷ s) (suc (suc (suc k))) z ts g))
+        ∙ size_step text (vs ++ ws) (suc n) (named_rows rows k (replicator_kind y 0) e) (n ∷ s) (suc (suc (suc k))) z ts g)
         (past_token text refl (past_token text refl (past_token text refl (past_token text refl h₁)))) A
 
     pub flow_walks : (place : Place) (t : Name) (ps : List Name) (sw : Bool) (c : Child) (r : Bool) (cs : Children) (us : List Token)
@@ -273,20 +272,19 @@ module _ (text : List ℕ) where
         → ChildrenPass around (d - 1) (suc x) (node child (d - 1) ∷ ref ++ (more (d - 1) ∷ [])) (next c r cs) us (suc n) m
         → Walks (node place d) (λ s. waiting place n s) (flow_tokens (flow t ps sw c r cs) us) us
         (λ b hs. flow_tree_nodes own (flow t ps sw c r cs) around b x n hs) n m
-    unfolding flow_tokens flow_tree_nodes named_rows
-    flow_walks place t ps sw c r cs us a g K k rows room h =
+    unfolding flow_tokens flow_tree_nodes named_rows named_row begun_row
+    flow_walks place t ps sw c r cs us a g K k rows z h =
         let p = start_of text (suc (suc k)) in
         let e = p + length t in
         let vs = node child (d - 1) ∷ ref ++ (more (d - 1) ∷ []) in
         let ts = children_tokens (next c r cs) (Token.sign closing ∷ us) in
         let ts₁ = pars_tokens ps (Token.sign comma ∷ bit sw ∷ Token.sign closing ∷ Token.sign opening ∷ ts) in
         let k₁ = suc (suc (suc k)) in
-        node_walked k (past_pars k₁ ps) (start_of text k) (p ∷ 7 ∷ 0 ∷ (13 - d) ∷ mark sw ∷ e ∷ []) (λ b. flow_text_node n b sw x t ps)
-        (λ rs b. rw depth
-        (row_told text n (start_of text k) p e 0 (flow_text_node n b sw x t ps) refl (key_there text h) refl
-        (with_pars text n k Keyword.flow t ts₁ h FlowNode ps sw (Token.sign opening ∷ ts) refl g refl) rs))
-        (head_store few 6 (suc n * 8 + 6) (mark sw) (omega arith) refl (omega arith) (head_named rows k 7 e room))
+        node_walked k (past_pars k₁ ps) (switched sw (named_row k FlowNode e)) (λ b. flow_text_node n b sw x t ps) refl
+        (λ rs b q. row_told text n (start_of text k) p e (flow_text_node n b sw x t ps) refl (key_there text h)
+        (with_pars text n k Keyword.flow t ts₁ h FlowNode ps sw (Token.sign opening ∷ ts) refl g refl) rs (rw depth at q))
+        (head_change few (switched sw) (head_named rows k FlowNode e z))
         (λ s ws.
         name_step text place d n Keyword.flow a H few (params ∷ sign opening ∷ vs) ws rows s k ts₁ t refl
-        ∙ pars_step text ps (vs ++ ws) (suc n) (named_rows rows k 7 e) (waiting place n s) k₁ sw ts)
+        ∙ pars_step text ps (vs ++ ws) (suc n) (named_rows rows k FlowNode e) (waiting place n s) k₁ sw ts)
         (past_all ps sw ts (past_token text refl (past_token text refl (past_key text h)))) K

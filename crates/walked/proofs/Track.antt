@@ -2,7 +2,7 @@
 use mathlib.Core.Path.{◌≡◌, refl, sym, ap, ◌∙◌}
 use mathlib.Core.Bool.{Bool, true, false, cond}
 use mathlib.Core.List.{List, [], ◌∷◌, ◌++◌, map, append-nil, append_assoc}
-use Prim.Native.Nat.{ℕ, suc, ◌+◌, ◌*◌, ◌-◌, ◌<◌}
+use Prim.Native.Nat.{ℕ, suc, ◌+◌, ◌-◌, ◌<◌}
 use native.Mathlib.Nat.{add-zero, add-suc, suc-add}
 use native.Mathlib.Numerals.{add-one}
 use native.Mathlib.Omega.{arith}
@@ -16,8 +16,8 @@ use Rattle.tokens.specs.Classes.{between}
 use Rattle.tokens.specs.Token.{opening, closing, comma, colon, Keyword, Token, key, name, numeral, token_of}
 use Rattle.grammar.specs.Tokens.{bit, pars_tokens, ref_tokens}
 use Rattle.grammar.specs.Machine.{Place, member, child, allows, Want, sign, named, number, params, node, more, others, Move, off, big, push, ref, parts, full, expand}
-use Rattle.walked.specs.Walk.{State, state, store, begun, waiting, beginning, naming, effect, row_code, End, whole, stop, proceed, walk}
-use Rattle.walked.specs.Rows.{mark}
+use Rattle.walked.specs.Walk.{State, state, change, begun, begun_kind, marked, sized, switched, waiting, beginning, naming, effect, End, whole, stop, proceed, walk}
+use Rattle.walked.specs.declared.Row.{Row}
 use Rattle.walked.proofs.Past.{start_of}
 
 proceed_same : (v : Move) {p q : ℕ} → p ≡ q → (go on : ℕ → List Want → End) → ((u : ℕ) (vs : List Want) → go u vs ≡ on u vs) → proceed v p go ≡ proceed v q on
@@ -70,36 +70,36 @@ module _ (text : List ℕ) where
   closes ws n st k ts = ap (λ (m : ℕ). track ws m st (suc k) ts) (add-zero n)
 
   -- A ref, that of the child that has waited least.
-  pub ref_step : (ws : List Want) (n i : ℕ) (rows s : List ℕ) (k : ℕ) (r : Bool) (ts : List Token)
-      → track (ref ++ ws) n (state rows (i ∷ s)) k (ref_tokens r ts) ≡ track ws n (state (store rows (i * 8 + 9) (mark r)) s) (suc (suc (suc k))) ts
+  pub ref_step : (ws : List Want) (n i : ℕ) (rows : List Row) (s : List ℕ) (k : ℕ) (r : Bool) (ts : List Token)
+      → track (ref ++ ws) n (state rows (i ∷ s)) k (ref_tokens r ts) ≡ track ws n (state (change rows (suc i) (marked r)) s) (suc (suc (suc k))) ts
   unfolding track expand effect
   ref_step ws n i rows s k false ts = rw (add-zero n, add-zero n, add-zero n)
   ref_step ws n i rows s k true ts = rw (add-zero n, add-zero n, add-zero n)
 
   -- The size of the last node, with the `:` before it and the parentheses after it.
-  pub size_step : (ws : List Want) (n : ℕ) (rows s : List ℕ) (k z : ℕ) (ts : List Token) → between 1 16 z ≡ true
+  pub size_step : (ws : List Want) (n : ℕ) (rows : List Row) (s : List ℕ) (k z : ℕ) (ts : List Token) → between 1 16 z ≡ true
       → track (sign colon ∷ number 1 16 ∷ sign closing ∷ sign opening ∷ ws) n (state rows s) k
       (Token.sign colon ∷ numeral z ∷ Token.sign closing ∷ Token.sign opening ∷ ts)
-      ≡ track ws n (state (store rows (n * 8 + 4) z) s) (suc (suc (suc (suc k)))) ts
+      ≡ track ws n (state (change rows n (sized z)) s) (suc (suc (suc (suc k)))) ts
   unfolding track expand effect
   size_step ws n rows s k z ts b = rw (add-zero n, b, add-zero n, add-zero n, add-zero n)
 
   -- The pars and sw of the last node, with the `(` after them.
-  pub pars_step : (ps : List Name) (ws : List Want) (n : ℕ) (rows s : List ℕ) (k : ℕ) (sw : Bool) (ts : List Token)
+  pub pars_step : (ps : List Name) (ws : List Want) (n : ℕ) (rows : List Row) (s : List ℕ) (k : ℕ) (sw : Bool) (ts : List Token)
       → track (params ∷ sign opening ∷ ws) n (state rows s) k
       (pars_tokens ps (Token.sign comma ∷ bit sw ∷ Token.sign closing ∷ Token.sign opening ∷ ts))
-      ≡ track ws n (state (store rows (n * 8 + 6) (mark sw)) s) (past_pars k ps) ts
+      ≡ track ws n (state (change rows n (switched sw)) s) (past_pars k ps) ts
   unfolding track expand effect
   pars_step [] ws n rows s k false ts = rw (add-zero n, add-zero n, add-zero n, add-zero n)
   pars_step [] ws n rows s k true ts = rw (add-zero n, add-zero n, add-zero n, add-zero n)
   pars_step (p ∷ ps) ws n rows s k sw ts = rw (add-zero n, add-zero n) (pars_step ps ws n rows s (suc (suc k)) sw ts)
 
   -- A keyword and the `(` after it, after which its parts are wanted.
-  module _ (place : Place) (d n : ℕ) (w : Keyword) (allowed : allows place w ≡ true) (deep : 0 < d) (few : n < 256) (vs ws : List Want) (rows s : List ℕ)
+  module _ (place : Place) (d n : ℕ) (w : Keyword) (allowed : allows place w ≡ true) (deep : 0 < d) (few : n < 256) (vs ws : List Want) (rows : List Row) (s : List ℕ)
       (k : ℕ) (ts : List Token) where
     pub open_step : parts w (d - 1) ≡ sign opening ∷ vs
         → track (node place d ∷ ws) n (state rows s) k (key w ∷ Token.sign opening ∷ ts)
-        ≡ track (vs ++ ws) (suc n) (state (begun rows n (row_code (key w)) (pl k) d) (waiting place n s)) (suc (suc k)) ts
+        ≡ track (vs ++ ws) (suc n) (state (begun rows n (begun_kind (key w)) (pl k) d) (waiting place n s)) (suc (suc k)) ts
     unfolding track expand effect
     open_step p =
         rw (allowed, ne_eqb d 0 (λ z. omega arith), lt-leb 256 n few, p, append-nil vs, add-one n, add-zero (suc n))
@@ -108,7 +108,7 @@ module _ (text : List ℕ) where
     pub name_step : (t : Name) → parts w (d - 1) ≡ sign opening ∷ named ∷ vs
         → track (node place d ∷ ws) n (state rows s) k (key w ∷ Token.sign opening ∷ name t ∷ ts)
         ≡ track (vs ++ ws) (suc n)
-        (naming (suc n) (pl (suc (suc k))) (pl (suc (suc k)) + length t) (state (begun rows n (row_code (key w)) (pl k) d) (waiting place n s)))
+        (naming (suc n) (pl (suc (suc k))) (pl (suc (suc k)) + length t) (state (begun rows n (begun_kind (key w)) (pl k) d) (waiting place n s)))
         (suc (suc (suc k))) ts
     unfolding track expand effect
     name_step t p =
@@ -128,7 +128,7 @@ module _ (text : List ℕ) where
     unfolding track expand effect
     more_node w =
         begin_after (full d n) (parts w (d - 1)) (ref ++ (more d ∷ [])) ws (pl k)
-        (λ u vs. track vs (n + u) (beginning child d n (row_code (key w)) (pl k) st) (suc k) ts)
+        (λ u vs. track vs (n + u) (beginning child d n (begun_kind (key w)) (pl k) st) (suc k) ts)
 
     pub others_node : (w : Keyword) → allows member w ≡ true
         → track (others d ∷ ws) n st k (key w ∷ ts) ≡ track (node member d ∷ others d ∷ ws) n st k (key w ∷ ts)
@@ -136,4 +136,4 @@ module _ (text : List ℕ) where
     others_node w a =
         rw a
         (begin_after (full d n) (parts w (d - 1)) (others d ∷ []) ws (pl k)
-        (λ u vs. track vs (n + u) (beginning member d n (row_code (key w)) (pl k) st) (suc k) ts))
+        (λ u vs. track vs (n + u) (beginning member d n (begun_kind (key w)) (pl k) st) (suc k) ts))

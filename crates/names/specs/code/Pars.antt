@@ -1,25 +1,26 @@
 -- The pars of the replicators around a node, by the numbers of these, outermost first.
-use Rattle.std.specs.Prelude.{◌≡◌, List, [], ◌∷◌, ℕ, zero, suc, ◌+◌, ◌*◌, ◌≤◌, ◌<◌, length, get_or, drop, Option, MatchOption}
+use Rattle.std.specs.Prelude.{◌≡◌, List, [], ◌∷◌, ℕ, zero, suc, ◌+◌, ◌≤◌, ◌<◌, length, get_or, drop, Option, MatchOption}
 use Rattle.diagram.specs.Tree.{Name}
 use Rattle.tokens.specs.Classes.{class_of}
 use Rattle.tokens.specs.Remarks.{blanks}
 use Rattle.tokens.specs.Words.{word_at}
-use Rattle.walked.specs.Rows.{past_word}
+use Rattle.walked.specs.Rows.{row_of, past_word}
+use Rattle.walked.specs.declared.Row.{Row}
 
 -- Where the par of the k-th starts, and the place past it.
-abbrev pub par_start : List ℕ → List ℕ → ℕ → ℕ
-par_start rows pars k = get_or rows (get_or pars k 0 * 8 + 10) 0
+abbrev pub par_start : List Row → List ℕ → ℕ → ℕ
+par_start rows pars k = (row_of rows (get_or pars k 0)).node.name
 
-abbrev pub par_end : List ℕ → List ℕ → ℕ → ℕ
-par_end rows pars k = get_or rows (get_or pars k 0 * 8 + 15) 0
+abbrev pub par_end : List Row → List ℕ → ℕ → ℕ
+par_end rows pars k = (row_of rows (get_or pars k 0)).past
 
 -- The first n of them, the nearest first.
-unfoldable pub pars_at : List ℕ → List ℕ → List ℕ → ℕ → List Name
+unfoldable pub pars_at : List ℕ → List Row → List ℕ → ℕ → List Name
 pars_at text rows pars zero = []
 pars_at text rows pars (suc n) = word_at text (par_start rows pars n) ∷ pars_at text rows pars n
 
 -- The first n of them have these names, the nearest first, and the places past them are within the text.
-pub record Around (text rows pars : List ℕ) (n : ℕ) (names : List Name) : Type 0 where
+pub record Around (text : List ℕ) (rows : List Row) (pars : List ℕ) (n : ℕ) (names : List Name) : Type 0 where
   pub is : names ≡ pars_at text rows pars n
   pub ended : (k : ℕ) → k < n → (par_end rows pars k ≡ past_word text (par_start rows pars k)) × (par_end rows pars k ≤ length text)
 

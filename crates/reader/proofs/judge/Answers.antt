@@ -15,4 +15,4 @@ returns c w =
     let e = c.new-nodes.ensures in
     let many : length w.nodes ≡ c.new-nodes.result.count = omega (arith, w.count, w.few, e.count) in
     let q = c.in_ok-counts.ensures w.nodes many (rw (e.text, e.rows) w.told) w.deep in
-    judged_kept w (rw e.text at q) refl (c.store.ensures _ w.nodes many w.small (rw e.rows w.told))
+    judged_kept w (rw e.text at q) refl (c.store.ensures _ w.nodes many (rw e.rows w.told))

@@ -12,10 +12,10 @@ pub returns-in-Ok : goal.returns-in-Ok
 returns-in-Ok c =
     let o = c.in_ok-parser.ensures.ok in
     let l : length c.in_ok-parser.parser.lexer.text.now ≤ 16384 = rw o.0 o.1 in
-    c.judge.ensures (walk_whole _ _ l c.in-Ok.ensures) ∙ ap read_of o.0
+    c.judge.ensures (walk_whole _ _ l (rw c.blank-rows.ensures at c.in-Ok.ensures)) ∙ ap read_of o.0
 
 pub returns-in-Err : goal.returns-in-Err
 returns-in-Err c =
     let o = c.in_ok-parser.ensures.ok in
     let l : length c.in_ok-parser.parser.lexer.text.now ≤ 16384 = rw o.0 o.1 in
-    walk_refused _ c.parse.new.rows l c.in-Err.ensures c.turned_away.ensures ∙ ap read_of o.0
+    walk_refused _ c.parse.new.rows l (rw c.blank-rows.ensures at c.in-Err.ensures) c.turned_away.ensures ∙ ap read_of o.0

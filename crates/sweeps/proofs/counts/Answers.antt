@@ -1,12 +1,14 @@
 -- The nodes passed keep number 10; the counts so far, and the copies of a node at each depth at which the next one may be.
-use Rattle.std.proofs.Common.{◌≡◌, ◌+◌, ◌*◌, ◌≤◌, get_or, refl, ◌∙◌, arith}
+use Rattle.std.proofs.Common.{◌≡◌, ◌≤◌, refl, ◌∙◌, arith}
 use Rattle.base.specs.declared.Reason.TheVariants as Reason
 use Rattle.rules.specs.Kept.{strongs_kept}
 use Rattle.names.proofs.Searched.{search_start, search_end}
 use Rattle.sweeps.proofs.Capped.{small_product}
 use Rattle.sweeps.proofs.Switches.{strong_broken, strong_next}
-use Rattle.sweeps.proofs.Counting.{count_start, count_next, small_next, small_start, copies_all, events_all, factor_small}
+use Rattle.sweeps.proofs.Counting.{count_start, count_next, small_next, small_start, copies_all, events_all}
 use Rattle.sweeps.proofs.Ruled.{refused_key}
+use Rattle.walked.specs.Rows.{row_of}
+use Rattle.names.proofs.Its.{its_place, its_depth}
 use Rattle.sweeps.proofs.counts.Goals as goal
 
 pub loop-i-init : goal.loop-i-init
@@ -17,7 +19,7 @@ returns-then-is_weak c = λ t.
     let l = c.loop-i in
     let h = c.loop-i-test.true in
     let its = c.row-row.ensures in
-    refused_key t (strong_broken t (l.invariant.3 t).0 h (c.is_weak.ensures ∙ rw (its.keyword, its.switch) refl) c.if-is_weak.true) h _ Reason.Weak c.at.ensures its.place
+    refused_key t (strong_broken t (l.invariant.3 t).0 h (c.is_weak.ensures ∙ rw its refl) c.if-is_weak.true) h _ Reason.Weak c.at.ensures (c.place.ensures ∙ its_place its)
 
 pub overflow_add-copies : goal.overflow_add-copies
 overflow_add-copies c = omega (arith, c.loop-i.invariant.0, c.loop-i.invariant.2.each c.level-depth.result)
@@ -29,7 +31,7 @@ overflow_add-events c =
 pub overflow_mul-n : goal.overflow_mul-n
 overflow_mul-n c =
     record {
-      fits = small_product _ _ (c.loop-i.invariant.2.each c.level-depth.result) (factor_small _ c.row-row.ensures.fits.2 c.factor.ensures);
+      fits = small_product _ _ (c.loop-i.invariant.2.each c.level-depth.result) c.factor.ensures.fits;
     }
 
 pub loop-i-preserved : goal.loop-i-preserved
@@ -41,9 +43,9 @@ loop-i-preserved c =
       c.cap-events.ensures.upper_bound,
       small_next l.invariant.2 _ _ (omega (arith, c.level-depth.ensures)) c.cap.ensures.upper_bound,
       λ t.
-          let at : get_or c.args.nodes.now.rows.now (l.i * 8 + 13) 0 ≤ 12 → c.level-depth.result ≡ get_or c.args.nodes.now.rows.now (l.i * 8 + 13) 0 = λ z. omega (arith, c.level-depth.ensures, its.depth) in (
-            strong_next t (l.invariant.3 t).0 h (c.is_weak.ensures ∙ rw (its.keyword, its.switch) refl) c.if-is_weak.false,
-            count_next t (l.invariant.3 t).1 h at refl (c.happening.ensures.value t) (c.factor.ensures ∙ rw (its.keyword, its.size) refl)
+          let at : (row_of c.args.nodes.now.rows.now l.i).node.depth ≤ 12 → c.level-depth.result ≡ (row_of c.args.nodes.now.rows.now l.i).node.depth = λ z. omega (arith, c.level-depth.ensures, its_depth its) in (
+            strong_next t (l.invariant.3 t).0 h (c.is_weak.ensures ∙ rw its refl) c.if-is_weak.false,
+            count_next t (l.invariant.3 t).1 h at refl (c.happening.ensures.value t) (c.factor.ensures.value ∙ rw its refl)
                 l.invariant.2.long c.cap-copies.ensures.value c.cap-events.ensures.value c.cap.ensures.value,
           ),
     )

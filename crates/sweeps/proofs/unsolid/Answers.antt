@@ -1,7 +1,9 @@
 -- The weights of the solid children among the nodes from i on, and the first of these nodes that breaks the rule.
-use Rattle.std.proofs.Common.{◌≡◌, ◌+◌, ◌-◌, ◌*◌, ◌≤◌, ◌<◌, get_or, refl, ◌∙◌, arith}
+use Rattle.std.proofs.Common.{◌≡◌, ◌+◌, ◌-◌, ◌≤◌, ◌<◌, refl, ◌∙◌, arith}
 use lib.ListN.{length-set}
 use Rattle.sweeps.proofs.Weighed.{Weighed, First, weigh_start, first_start, weigh_next, first_next, first_all, blame_within}
+use Rattle.names.proofs.Its.{its_depth}
+use Rattle.walked.specs.Rows.{row_of}
 use Rattle.sweeps.proofs.unsolid.Goals as goal
 
 pub loop-i-init : goal.loop-i-init
@@ -19,8 +21,8 @@ loop-i-preserved c =
       λ t.
           let s : Weighed t.hs l.weights (l.i - 1 + 1) = rw back (l.invariant.2 t).0 in
           let f : First t.hs l.first (l.i - 1 + 1) = rw back (l.invariant.2 t).1 in
-          let at : get_or rows ((l.i - 1) * 8 + 13) 0 ≤ 12 → c.level-depth.result ≡ get_or rows ((l.i - 1) * 8 + 13) 0 = λ z. omega (arith, c.level-depth.ensures, its.depth) in
-          (weigh_next t s less at l.invariant.0 refl (c.borne.ensures ∙ rw (its.solid, its.keyword) refl), first_next t s less at f refl (c.blamed-first.ensures ∙ rw its.keyword refl)),
+          let at : (row_of rows (l.i - 1)).node.depth ≤ 12 → c.level-depth.result ≡ (row_of rows (l.i - 1)).node.depth = λ z. omega (arith, c.level-depth.ensures, its_depth its) in
+          (weigh_next t s less at l.invariant.0 refl (c.borne.ensures ∙ rw its refl), first_next t s less at f refl (c.blamed-first.ensures ∙ rw its refl)),
     )
 
 pub returns-clause-within : goal.returns-clause-within

@@ -11,6 +11,7 @@ use Rattle.tokens.specs.declared.Lexeme.{Lexeme}
 use Rattle.grammar.specs.Machine.{is_sign, Place, allows, Want, node, ref, parts}
 use Rattle.walked.specs.Walk.{State, state, waiting, End, whole, stop, from}
 use Rattle.walked.specs.declared.Position.{Position}
+use Rattle.walked.specs.declared.Row.{Row}
 
 -- Whether a `)` comes next: the position past it.
 pub record Closing (text : List ℕ) (at : ℕ) (r : Option ℕ) : Type 0 where
@@ -44,23 +45,23 @@ abbrev pub Reads : List ℕ → List Want → ℕ → ℕ → Step → Type 0
 Reads text ws n at r = (st : State) → Writes text ws n at st r st
 
 -- One that writes rows, whatever children wait for their refs: after it the same do; after a child it waits too; a ref is the last one's.
-abbrev pub Fills : List ℕ → List Want → ℕ → ℕ → List ℕ → Step → List ℕ → Type 0
+abbrev pub Fills : List ℕ → List Want → ℕ → ℕ → List Row → Step → List Row → Type 0
 Fills text ws n at rows r rows' = (s : List ℕ) → Writes text ws n at (state rows s) r (state rows' s)
 
-abbrev pub Opens : List ℕ → Place → ℕ → ℕ → ℕ → List ℕ → Step → List ℕ → Type 0
+abbrev pub Opens : List ℕ → Place → ℕ → ℕ → ℕ → List Row → Step → List Row → Type 0
 Opens text place d n at rows r rows' = (s : List ℕ) → Writes text (node place d ∷ []) n at (state rows s) r (state rows' (waiting place n s))
 
-abbrev pub Marks : List ℕ → ℕ → ℕ → ℕ → List ℕ → Step → List ℕ → Type 0
+abbrev pub Marks : List ℕ → ℕ → ℕ → ℕ → List Row → Step → List Row → Type 0
 Marks text i n at rows r rows' = (s : List ℕ) → Writes text ref n at (state rows (i ∷ s)) r (state rows' s)
 
 -- The keyword of a node, where d depths are left for the node and n nodes stand before it: it is refused, or its row is begun and its parts are wanted.
-pub record Begins (text : List ℕ) (place : Place) (d n at : ℕ) (rows : List ℕ) (r : Result (Keyword × Position) Refusal) (rows' : List ℕ) : Type 0 where
+pub record Begins (text : List ℕ) (place : Place) (d n at : ℕ) (rows : List Row) (r : Result (Keyword × Position) Refusal) (rows' : List Row) : Type 0 where
   pub refused : (x : Refusal) → r ≡ Err x → (s : List ℕ) → Writes text (node place d ∷ []) n at (state rows s) (Err x) (state rows' s)
   pub taken : (k : Keyword) (p : Position) → r ≡ Ok (k, p) → (allows place (shown_key k) ≡ true) × (0 < d)
   pub turns : (k : Keyword) (p : Position) → r ≡ Ok (k, p) → (s : List ℕ)
       → Turns text (node place d ∷ []) n at (state rows s) (Ok p) (parts (shown_key k) (d - 1)) (state rows' (waiting place n s))
 
 -- What the answer for a whole text and the rows after it say of the end.
-abbrev pub told : Result ℕ Refusal → List ℕ → End
+abbrev pub told : Result ℕ Refusal → List Row → End
 told (Ok n) rows = whole n (state rows [])
 told (Err r) rows = stop r.reason r.place

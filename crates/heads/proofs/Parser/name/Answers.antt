@@ -10,4 +10,4 @@ returns-then-not-is_name c s = off_grammar starts c.next-t.ensures c.at.ensures 
 pub returns : goal.returns
 unfolding kind_effect
 returns c s =
-    rw (c.put-2.ensures, c.put.ensures) (closes starts c.next-t.ensures (name_takes _ _ (sym c.if-not-is_name.ensures)))
+    rw (c.put.ensures, c.named-row.ensures, c.row.ensures) (closes starts c.next-t.ensures (name_takes _ _ (sym c.if-not-is_name.ensures)))

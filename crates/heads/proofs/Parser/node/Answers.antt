@@ -1,5 +1,6 @@
 -- `heads::Parser::node` meets its contract: the tests of the machine at a node's keyword, and its row.
-use Rattle.std.proofs.Common.{sym, arith}
+use Rattle.std.proofs.Common.{refl, sym, add-one, arith}
+use Rattle.walked.specs.Walk.{begun}
 use Rattle.walked.proofs.Laws.{starts, off_grammar, over_limit, opens, begins_none, begins_one, node_no_key, node_barred, node_deep, node_many}
 use Rattle.heads.proofs.Parser.node.Goals as goal
 use Rattle.heads.proofs.Parser.node.Goals.{then-left-eq0-via-then-left-eq0, then-left-eq0-via-else-left-eq0+then-p-ge256}
@@ -24,8 +25,10 @@ returns-then-left-eq0 c =
     ]))
 
 pub returns : goal.returns
+unfolding begun
 returns c =
     let k = sym c.in-Some.ensures in
     let a = sym c.if-not-allows.ensures in
     begins_one a (omega (arith, c.if-left-eq0.false))
-    (λ s. opens _ _ c.next-t.ensures c.begin_row.ensures k a c.if-left-eq0.false (omega arith))
+    (λ s. opens _ _ c.next-t.ensures (rw (c.put.ensures, add-one c.args.p.nodes, c.begun.ensures, c.kind.ensures, c.saturating_sub-depth.ensures) refl) k a
+    c.if-left-eq0.false (omega arith))

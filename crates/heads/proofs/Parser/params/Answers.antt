@@ -17,7 +17,7 @@ pub returns-then-not-is_name : goal.returns-then-not-is_name
 returns-then-not-is_name c s =
     let v = c.in_ok-switch.ensures.ok in
     let l = comma_taken c.next-comma.ensures (sym c.if-not-is_sign.ensures) (c.loop-p.invariant s) in
-    rw c.put.ensures (ends (c.sign.ensures _) (sw_taken c.next-t.ensures _ v.0 v.2 l))
+    rw (c.put.ensures, c.switched-row.ensures, c.row.ensures) (ends (c.sign.ensures _) (sw_taken c.next-t.ensures _ v.0 v.2 l))
 
 pub loop-p-smaller : goal.loop-p-smaller
 loop-p-smaller c =

@@ -14,4 +14,4 @@ returns-in_err-solid c s =
 pub returns : goal.returns
 returns c s =
     let v = c.in_ok-solid.ensures.ok in
-    rw c.put.ensures (ends (c.sign-2.ensures _) (ref_taken c.next-t.ensures _ v.0 v.2 (goes (c.in_ok-p.ensures _) _ starts)))
+    rw c.mark.ensures (ends (c.sign-2.ensures _) (ref_taken c.next-t.ensures _ v.0 v.2 (goes (c.in_ok-p.ensures _) _ starts)))

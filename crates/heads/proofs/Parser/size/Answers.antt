@@ -10,4 +10,4 @@ returns-in_err-size c s =
 pub returns : goal.returns
 returns c s =
     let v = c.in_ok-size.ensures.ok in
-    rw c.put.ensures (ends (c.sign.ensures _) (size_taken c.next-t.ensures _ v.0 v.1 v.2 starts))
+    rw (c.put.ensures, c.sized-row.ensures, c.row.ensures) (ends (c.sign.ensures _) (size_taken c.next-t.ensures _ v.0 v.1 v.2 starts))

@@ -11,6 +11,7 @@ use Rattle.tokens.specs.Classes.{class_of}
 use Rattle.lexer.proofs.Keywords.{pointwise_same}
 use Rattle.names.proofs.Marked.{word_ends}
 use Rattle.names.proofs.Reading.{read_start, read_end, read_inside, read_other, read_next, ends_here}
+use Rattle.names.proofs.Its.{its_name}
 use Rattle.names.proofs.Nodes.is_listed.Goals as goal
 
 pub loop-k-init : goal.loop-k-init
@@ -36,7 +37,7 @@ returns-then-ne c = λ at ps ns e l a.
     let s = c.loop-k.invariant at ps ns e l a in
     let p = c.in-Some.ensures in
     let o = other c.word-word.ensures.its_word c.word.ensures.its_word c.ne.ensures in
-    read_other s refl p.1 refl p.2 c.loop-k-test.true c.row.ensures.name refl (not-true _ (sym o ∙ c.if-ne.true))
+    read_other s refl p.1 refl p.2 c.loop-k-test.true (c.name.ensures ∙ its_name c.row.ensures) refl (not-true _ (sym o ∙ c.if-ne.true))
 
 pub overflow_add-at : goal.overflow_add-at
 overflow_add-at c =
@@ -49,7 +50,7 @@ loop-k-preserved c = λ at ps ns e l a.
     let s = c.loop-k.invariant at ps ns e l a in
     let p = c.in-Some.ensures in
     let o = other c.word-word.ensures.its_word c.word.ensures.its_word c.ne.ensures in
-    read_next s refl p.1 refl p.2 c.loop-k-test.true c.row.ensures.name refl (not-false _ (sym o ∙ c.if-ne.false)) (rw c.word-word.ensures.its_word refl)
+    read_next s refl p.1 refl p.2 c.loop-k-test.true (c.name.ensures ∙ its_name c.row.ensures) refl (not-false _ (sym o ∙ c.if-ne.false)) (rw c.word-word.ensures.its_word refl)
 
 pub returns : goal.returns
 returns c = λ at ps ns e l a.

@@ -1,21 +1,20 @@
 -- The row of a node, from the tokens that the walk has come to and from the numbers that are written.
-use mathlib.Core.Path.{◌≡◌, refl, sym, ◌∙◌}
+use mathlib.Core.Path.{◌≡◌, refl, sym, ap, ◌∙◌}
 use mathlib.Core.Bool.{Bool, true, false, ◌||◌, cond, false≢true}
 use mathlib.Core.List.{List, [], ◌∷◌}
-use Prim.Native.Nat.{ℕ, suc, ◌+◌, ◌*◌, ◌<◌}
-use native.Mathlib.Omega.{arith}
-use lib.ListN.{length, get_or}
+use Prim.Native.Nat.{ℕ, suc, ◌+◌}
+use lib.ListN.{length}
 use Rattle.base.proofs.Truth.{or_l}
 use Rattle.diagram.specs.Tree.{Name}
-use Rattle.diagram.specs.TreeNodes.{TextNode, flowing, leafy, copying, has_name, size_of}
+use Rattle.diagram.specs.TreeNodes.{TextNode, flowing, leafy, copying, has_name}
 use Rattle.diagram.specs.declared.Kind.{Kind}
 use Rattle.tokens.specs.Words.{keywords, word_at}
 use Rattle.tokens.specs.Token.{opening, closing, comma, Keyword, Token, sign, key, name}
 use Rattle.grammar.specs.Named.{all_named}
 use Rattle.grammar.specs.Tokens.{bit, pars_tokens}
 use Rattle.grammar.specs.Keys.{keyword_at, name_at}
-use Rattle.walked.specs.Rows.{mark, kind_code, past_word, Listed, Row}
-use Rattle.walked.proofs.Filled.{Holds}
+use Rattle.walked.specs.Rows.{row_of, past_word, Listed, Tells}
+use Rattle.walked.specs.declared.Row.{Row as DeclaredRow}
 use Rattle.walked.proofs.Past.{start_of, word_there, rest_there, Here, past_key, past_token, name_there}
 
 module _ (text : List ℕ) where
@@ -57,27 +56,26 @@ module _ (text : List ℕ) where
         (λ z. record { sw = sw; others = us; names = g; tokens = rest_there text (suc (suc k)) t ts there.left ∙ q })
         (λ z. absurd (false≢true (sym z ∙ f)))
 
-  -- Rows that hold its numbers tell it.
-  module _ (n v p e z : ℕ) (h : TextNode) (numbered : h.number ≡ n) (begun : keyword_at text n ≡ v) (sized : size_of h.kind ≡ z)
-      (s : Spelled n h.kind h.name h.pars p e) (rows : List ℕ) where
-    abbrev numbers : List ℕ
-    numbers = v ∷ mark h.solid ∷ p ∷ kind_code h.kind ∷ z ∷ h.depth ∷ mark h.strong ∷ e ∷ []
+  -- The row that tells a node whose keyword stands at v, and whose name or par from p up to e.
+  abbrev pub its_row : TextNode → ℕ → ℕ → ℕ → DeclaredRow
+  its_row h v p e = record {
+    node = record { kind = h.kind; solid = h.solid; strong = h.strong; depth = h.depth; at = v; name = p };
+    past = e;
+  }
 
-    pub row_told : Holds rows n numbers → Row text rows n h
+  module _ (n v p e : ℕ) (h : TextNode) (numbered : h.number ≡ n) (begun : keyword_at text n ≡ v) (s : Spelled n h.kind h.name h.pars p e) (rows : List DeclaredRow) where
+    pub row_told : row_of rows n ≡ its_row h v p e → Tells text rows n h
     row_told r =
-        let entry : (j i : ℕ) → j < 8 → i ≡ n * 8 + 8 + j → get_or rows i 0 ≡ get_or numbers j 0 = λ j i l q. rw q (r j l) in
-        let q = entry 2 (n * 8 + 10) (omega arith) (omega arith) in
         record {
           number = numbered;
-          at = entry 0 (n * 8 + 8) (omega arith) (omega arith) ∙ sym begun;
-          solid = entry 1 (n * 8 + 9) (omega arith) (omega arith);
-          name = q ∙ s.place;
-          code = entry 3 (n * 8 + 11) (omega arith) (omega arith);
-          size = entry 4 (n * 8 + 12) (omega arith) (omega arith) ∙ sym sized;
-          depth = entry 5 (n * 8 + 13) (omega arith) (omega arith);
-          strong = entry 6 (n * 8 + 14) (omega arith) (omega arith);
-          word = rw q s.word;
-          past = λ t. rw q (entry 7 (n * 8 + 15) (omega arith) (omega arith) ∙ s.past t);
-          listed = λ t. rw q (s.listed t);
+          at = ap (λ (x : DeclaredRow). x.node.at) r ∙ sym begun;
+          solid = ap (λ (x : DeclaredRow). x.node.solid) r;
+          name = ap (λ (x : DeclaredRow). x.node.name) r ∙ s.place;
+          kind = ap (λ (x : DeclaredRow). x.node.kind) r;
+          depth = ap (λ (x : DeclaredRow). x.node.depth) r;
+          strong = ap (λ (x : DeclaredRow). x.node.strong) r;
+          word = rw r s.word;
+          past = λ t. rw r (s.past t);
+          listed = λ t. rw r (s.listed t);
           unlisted = s.unlisted;
         }
