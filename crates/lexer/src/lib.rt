@@ -44,13 +44,12 @@ fn past<F: Fn(u8) -> bool>(text: &[u8], at: usize, passes: F) -> usize
     ensures forward { at ≤ result }
     ensures run { (test : ℕ → Bool) → ((b : ℕ) (r : Bool) → b < 256 → F.post passes b r → r ≡ test b) → result ≡ at + front test (drop at text.now) }
 {
-    let rest = &text[at.min(text.len())..];
-    for (i, b) in rest.iter().enumerate() {
-        if !passes(*b) {
-            return at + i;
+    for i in at..text.len() {
+        if !passes(text[i]) {
+            return i;
         }
     }
-    at + rest.len()
+    at.max(text.len())
 }
 
 // What reads a text: the text, and the table of classes. The table is made once for a text, since a constant table is put on the stack again at every use.
