@@ -4,10 +4,10 @@ use mathlib.Core.List.{List}
 use Prim.Native.Nat.{ℕ, ◌≤◌}
 use lib.ListN.{length, take}
 use Rattle.std.specs.Prelude.{Ok, Err, IsErr, IsErrAnd}
-use Rattle.std.proofs.lemmas.Result.{err_from_is_err_and}
 use Rattle.base.specs.Refusals.{number}
 use Rattle.base.specs.Reports.{Written as Answer}
 use Rattle.base.specs.declared.Refusal.{Refusal}
+use Rattle.base.proofs.Reports.{passed}
 use Rattle.diagram.specs.Tree.{Flow}
 use Rattle.diagram.specs.declared.Diagram.{Diagram}
 use Rattle.reading.specs.Answers.{read_of}
@@ -43,8 +43,7 @@ module _ (text : List ℕ) (g : Diagram) (read : Ok g ≡ read_of text) where
 pub refused_answer : (text : List ℕ) (x : Refusal) → Err x ≡ read_of text → (r : Answer) → IsErr r × IsErrAnd r (λ y. y ≡ x) → (lent : List ℕ)
     → 51204 ≤ length lent → Translation text lent r lent
 refused_answer text x e r h lent long =
-    let k = err_from_is_err_and {Q = λ (y : Refusal). y ≡ x} r h.1 in
-    refused (number x.reason) x.place long ((turned_away_exactly text x.reason x.place).0 (sym e)) (ap report k.1 ∙ ap (λ (y : Refusal). report (Err y)) k.2) refl
+    refused (number x.reason) x.place long ((turned_away_exactly text x.reason x.place).0 (sym e)) (ap report (passed h)) refl
 
 -- The table that is written over the lent bytes is the diagram's.
 module _ (g : Diagram) (lent : List ℕ) (long : 51204 ≤ length lent) where
