@@ -1,12 +1,12 @@
 -- A text that was read and has a machine: the code's test of the profile, and what the columns of its names spell.
-use mathlib.Core.Path.{◌≡◌, refl, sym, ap, ◌∙◌, subst}
-use mathlib.Core.Bool.{Bool, true, false, ◌||◌, cond}
+use mathlib.Core.Path.{◌≡◌, refl, sym, ap, ◌∙◌}
+use mathlib.Core.Bool.{Bool, true, false, ◌||◌}
 use mathlib.Core.List.{List, [], ◌∷◌, map}
 use Prim.Native.Nat.{ℕ, ◌≤◌, ◌<◌}
 use native.Mathlib.Omega.{arith}
 use lib.ListN.{take}
 use borrow.Author.Tests.{le-leb, lt-leb, ltb-true, ltb-false}
-use Rattle.base.specs.Text.{bytes}
+use Rattle.std.specs.List.{list_any}
 use Rattle.base.proofs.Truth.{by_cases, clash}
 use Rattle.diagram.specs.Tree.{Flow}
 use Rattle.diagram.specs.Count.{flow_events}
@@ -16,26 +16,24 @@ use Rattle.diagram.specs.declared.Diagram.{Diagram}
 use Rattle.diagram.specs.declared.Node.{Node}
 use Rattle.reading.specs.Shows.{shown_node, shown_nodes, Shows}
 use Rattle.reading.proofs.Shown.{accepted_shown}
-use Rattle.process.specs.Process.{event_of}
-use Rattle.process.specs.Expand.{expand}
 use Rattle.labels.proofs.SearchByText.{labelled}
 use Rattle.translator.specs.Translates.{Read}
-use Rattle.variables.specs.code.Spelled.{mark, spelled}
-use Rattle.variables.specs.declared.Variables.{Variables}
-use Rattle.profile.specs.code.Profiles.{some_copies, outside_of, Names}
+use Rattle.variables.specs.code.Spelled.{spelled}
+use Rattle.variables.specs.declared.Variable.{Variable}
+use Rattle.profile.specs.code.Profiles.{copies, outside_of, Names}
 use Rattle.modelling.specs.Profile.{in_profile}
 use Rattle.modelling.specs.Texts.{naming}
 use Rattle.modelling.proofs.Profile.{few_events}
 use Rattle.machines.specs.code.Drawn.{Drawn}
 
 -- ---- the profile
-copies_shown : (text : List ℕ) (ns : List Node) → some_copies ns ≡ some_replicates (map (shown_node text) ns)
-unfolding some_copies some_replicates shown_node
+copies_shown : (text : List ℕ) (ns : List Node) → list_any (λ n. copying n.kind) ns ≡ some_replicates (map (shown_node text) ns)
+unfolding some_replicates shown_node
 copies_shown text [] = refl
 copies_shown text (n ∷ ns) = ap (λ (b : Bool). copying n.kind || b) (copies_shown text ns)
 
 module _ (text : List ℕ) (d : Flow) (g : Diagram) (s : Shows text d g) where
-  replicators_shown : some_replicates (nodes_by shown d) ≡ some_copies (take g.count g.nodes)
+  replicators_shown : some_replicates (nodes_by shown d) ≡ copies g
   unfolding shown_nodes
   replicators_shown = sym (copies_shown text (take g.count g.nodes) ∙ ap some_replicates s.nodes)
 
@@ -44,7 +42,7 @@ module _ (text : List ℕ) (d : Flow) (g : Diagram) (s : Shows text d g) where
   unfolding in_profile
   outside_profile h =
       rw replicators_shown
-      (by_cases (some_copies (take g.count g.nodes))
+      (by_cases (copies g)
       (λ t. rw t)
       (λ t. let m = ltb-true 32 g.events (rw t at h) in rw (t, lt-leb (flow_events d) 32 (omega (arith, s.events, m)))))
 
@@ -52,19 +50,14 @@ module _ (text : List ℕ) (d : Flow) (g : Diagram) (s : Shows text d g) where
   unfolding in_profile
   inside_profile h =
       rw replicators_shown
-      (by_cases (some_copies (take g.count g.nodes))
+      (by_cases (copies g)
       (λ t. let z : true ≡ false = rw t at h in absurd (clash refl z))
       (λ t. let m = ltb-false 32 g.events (rw t at h) in rw (t, le-leb (flow_events d) 32 (omega (arith, s.events, m)))))
 
 -- ---- the names
--- The mark of a reset, by its number.
-marked : (b : Bool) → mark (cond b 1 0) ≡ cond b (bytes "r_") (bytes "v_")
-marked true = refl
-marked false = refl
-
 module _ (text : List ℕ) (g : Diagram) (k : Drawn text g) where
   pub its_shown : Shows text k.tree g
-  its_shown = subst (Shows text k.tree) (sym k.its_diagram) (accepted_shown text k.tree k.accepted)
+  its_shown = accepted_shown text k.tree k.accepted k.its_diagram
 
   -- As translation takes it.
   pub as_read : Read g
@@ -74,9 +67,8 @@ module _ (text : List ℕ) (g : Diagram) (k : Drawn text g) where
   few = few_events k.tree k.profile
 
   -- The columns spell the variables of the diagram.
-  pub spelled_names : (v : Variables) → Names g v → (n : ℕ) → n < flow_events k.tree → spelled text v n ≡ naming k.tree n
+  pub spelled_names : (v : List Variable) → Names g v → (n : ℕ) → n < flow_events k.tree → spelled text v n ≡ naming k.tree n
   unfolding spelled
   spelled_names v w n h =
-      let l = labelled text k.tree k.accepted n h in
-      let q = w n (omega (arith, few)) (omega (arith, its_shown.events)) in
-      rw (q.0, q.1, k.its_diagram, l.mark, l.named.its_name, marked (event_of (expand k.tree) n).reset)
+      let (s, is, l) = labelled text k.tree k.accepted k.its_diagram n h in
+      rw (w n (omega (arith, few)), is, l.mark, l.named.its_name)

@@ -6,8 +6,10 @@ use Prim.Native.Nat.{ℕ, ◌≤◌}
 use native.Mathlib.Omega.{arith}
 use lib.ListN.{length, take}
 use lib.Seq.{length-take-le}
-use Rattle.base.specs.Reports.{Report}
+use Rattle.std.specs.Prelude.{Ok}
+use Rattle.base.specs.Reports.{Report, Written}
 use Rattle.base.proofs.Filled.{fill_length, fill_past}
+use Rattle.base.proofs.Reports.{written_told}
 use Rattle.base.proofs.Truth.{clash}
 use Rattle.diagram.specs.Tree.{Flow}
 use Rattle.reading.proofs.Bounds.{refused_at_near}
@@ -17,22 +19,10 @@ use Rattle.modelling.specs.Texts.{event_text, opening_text}
 use Rattle.modelling.specs.Reports.{report}
 use Rattle.modelling.specs.Answers.{Answered, short, refused, outside, inside, Filled, EventOf, no_event, event, EventAnswer, OpeningAnswer}
 use Rattle.modelling.specs.Bounds.{Bounded, its_result, its_refusal}
-use Rattle.modelling.specs.declared.Written.{Written}
-use Rattle.modelling.specs.declared.Written.TheVariants.{Bytes, Refused}
 
--- ---- reports
 -- Two answers that report the same are the same.
-report_once : (r q : Written) → report r ≡ report q → r ≡ q
-report_once (Bytes m) (Bytes n) e = ap Bytes (head-eq_of_cons-eq (ap (λ (x : Report). x.values) e))
-report_once (Bytes m) (Refused c p) e = absurd (cons≢nil (ap (λ (x : Report). x.values) e))
-report_once (Refused c p) (Bytes n) e = absurd (cons≢nil (sym (ap (λ (x : Report). x.values) e)))
-report_once (Refused c p) (Refused b q) e =
-    let x : c ≡ b = ap (λ (x : Report). x.number) e in
-    let y : p ≡ q = ap (λ (x : Report). x.place) e in
-    cc
-
 same_report : (r q : Written) {x : Report} → report r ≡ x → report q ≡ x → r ≡ q
-same_report r q a b = report_once r q (a ∙ sym b)
+same_report r q a b = written_told r q (a ∙ sym b)
 
 -- ---- one answer
 abbrev Same : Written → List ℕ → Written → List ℕ → Type 0
@@ -120,17 +110,16 @@ module _ (lent : List ℕ) (r : Written) (left : List ℕ) where
   pub opening_bounded : (text : List ℕ) → OpeningAnswer text lent r left → Bounded lent r left
   opening_bounded text = answered_bounded text (λ d. Filled (opening_text d) lent r left) (λ d. filled_bounded (opening_text d))
 
-  room : Bounded lent r left → (n : ℕ) → r ≡ Bytes n → (n ≤ length left) × (n ≡ length (take n left))
+  room : Bounded lent r left → (n : ℕ) → r ≡ Ok n → (n ≤ length left) × (n ≡ length (take n left))
   room (its_result k) n t =
-      let same : Bytes n ≡ Bytes k.count = sym t ∙ same_report r (Bytes k.count) k.reported refl in
-      let x : n ≡ k.count = cc in
+      let x : n ≡ k.count = head-eq_of_cons-eq (ap (λ (x : Report). x.values) (sym (ap report t) ∙ k.reported)) in
       let l : n ≤ length left = omega (arith, x, k.room, k.length_stays) in
       (l, sym (length-take-le n left l))
   room (its_refusal k) n t = absurd (cons≢nil (ap (λ (x : Report). x.values) (sym (ap report t) ∙ k.reported)))
 
   -- As a caller takes the bytes that were written.
-  pub event_room : (text : List ℕ) (e : ℕ) → EventAnswer text e lent r left → (n : ℕ) → r ≡ Bytes n → (n ≤ length left) × (n ≡ length (take n left))
+  pub event_room : (text : List ℕ) (e : ℕ) → EventAnswer text e lent r left → (n : ℕ) → r ≡ Ok n → (n ≤ length left) × (n ≡ length (take n left))
   event_room text e w = room (event_bounded text e w)
 
-  pub opening_room : (text : List ℕ) → OpeningAnswer text lent r left → (n : ℕ) → r ≡ Bytes n → (n ≤ length left) × (n ≡ length (take n left))
+  pub opening_room : (text : List ℕ) → OpeningAnswer text lent r left → (n : ℕ) → r ≡ Ok n → (n ≤ length left) × (n ≡ length (take n left))
   opening_room text w = room (opening_bounded text w)

@@ -1,7 +1,7 @@
 -- What the calls answer and leave in the lent buffer. Card 2 has number 1 for a shorter buffer, and number 16 for a diagram "outside this profile", after 11.
 use Rattle.std.specs.Prelude.{◌≡◌, true, false, List, [], ◌∷◌, ℕ, ◌≤◌, ◌<◌, length}
 use Rattle.base.specs.Fill.{fill}
-use Rattle.base.specs.Reports.{result, refusal}
+use Rattle.base.specs.Reports.{result, refusal, Written}
 use Rattle.diagram.specs.Tree.{Flow}
 use Rattle.diagram.specs.Count.{flow_events}
 use Rattle.reading.specs.Accepted.{Accepted}
@@ -10,7 +10,6 @@ use Rattle.modelling.specs.Profile.{in_profile}
 use Rattle.modelling.specs.Texts.{guards_of, event_text, opening_text}
 use Rattle.modelling.specs.Guards.{Guards}
 use Rattle.modelling.specs.Reports.{report}
-use Rattle.modelling.specs.declared.Written.{Written}
 
 -- The answer to a text, and the lent bytes after it, whatever it is that is written of a diagram: number 1 for under 65,536 bytes, before all others; reading's refusal; number 16
 -- for a diagram outside the profile; or what is answered of the diagram. What is refused changes no lent byte.

@@ -1,9 +1,8 @@
 -- Property 1, for the calls that write machines: an answer is so many bytes within the limits, or one refusal, "which leaves lent memory untouched". Which bytes, and which
 -- refusal by which condition, `modelling.specs.Answers.EventAnswer` and `OpeningAnswer` say, each of one answer alone: `modelling.proofs.Bounds.one_event`, `one_opening`.
 use Rattle.std.specs.Prelude.{◌≡◌, ◌⊎◌, List, [], ◌∷◌, ℕ, ◌≤◌, length, drop}
-use Rattle.base.specs.Reports.{result, refusal}
+use Rattle.base.specs.Reports.{result, refusal, Written}
 use Rattle.modelling.specs.Reports.{report}
-use Rattle.modelling.specs.declared.Written.{Written}
 
 -- At most 65,536 bytes at the front of what was lent, whose length stays, as do the bytes past them.
 pub record Result (lent : List ℕ) (r : Written) (left : List ℕ) : Type 0 where

@@ -5,6 +5,7 @@ use mathlib.Core.List.{List}
 use Prim.Native.Nat.{ℕ, ◌≤◌, ◌<◌}
 use native.Mathlib.Omega.{arith}
 use lib.ListN.{length}
+use Rattle.base.specs.Reports.{Written}
 use Rattle.base.proofs.Truth.{clash}
 use Rattle.diagram.specs.Tree.{Flow}
 use Rattle.diagram.specs.Count.{flow_events}
@@ -16,7 +17,6 @@ use Rattle.modelling.specs.Texts.{guards_of, actions_of, event_text}
 use Rattle.modelling.specs.Guards.{Guards}
 use Rattle.modelling.proofs.Machines.{machine_right, actions_set}
 use Rattle.modelling.specs.Answers.{short, refused, outside, inside, Filled, EventOf, no_event, event, EventAnswer}
-use Rattle.modelling.specs.declared.Written.{Written}
 use Rattle.properties.specs.Modelled.{Modelled, EventsModelled}
 use Rattle.properties.proofs.Kept.{steps_met, translates_met, writes_event_met}
 

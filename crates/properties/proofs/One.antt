@@ -1,9 +1,10 @@
 -- Property 1, from the contracts of the calls.
 use mathlib.Core.List.{List, []}
 use Prim.Native.Nat.{ℕ}
+use Rattle.std.specs.Prelude.{Result, ⊤}
+use Rattle.base.specs.declared.Refusal.{Refusal}
 use Rattle.record.specs.declared.Record.{Record}
 use Rattle.table.specs.Bounds.{StepAnswer}
-use Rattle.table.specs.declared.Answer.{Answer}
 use Rattle.table.proofs.Bounds.{check_answered, step_answered, finished_answered, offer_answered}
 use Rattle.firmware.proofs.Bounds.{calls_bounded}
 use Rattle.reading.proofs.Bounds.{read_bounded}
@@ -36,7 +37,7 @@ nothing_asked = record {
   c_offer = λ κs a. tt;
 }
 
-updated : (t : List ℕ) (lent : Record) (e : ℕ) (a : Answer) (left : Record) → Updates t lent e a left → StepAnswer t lent e (record { answer = a; after = left })
+updated : (t : List ℕ) (lent : Record) (e : ℕ) (a : Result ⊤ Refusal) (left : Record) → Updates t lent e a left → StepAnswer t lent e (record { answer = a; after = left })
 updated t lent e a left m = let (x, y) = updates_met t lent e a left m in rw (x, y) (step_answered t lent e)
 
 pub property_1 : Property1

@@ -4,10 +4,10 @@ use mathlib.Core.Logic.{inl, inr}
 use mathlib.Core.List.{List}
 use Prim.Native.Nat.{ℕ}
 use lib.ListN.{take}
+use Rattle.std.specs.Prelude.{Bool, Result, ⊤}
+use Rattle.base.specs.declared.Refusal.{Refusal}
 use Rattle.record.specs.Blank.{blank_record}
 use Rattle.record.specs.declared.Record.{Record}
-use Rattle.table.specs.declared.Answer.{Answer}
-use Rattle.table.specs.declared.Finish.{Finish}
 use Rattle.table.specs.declared.Stepped.{Stepped}
 use Rattle.plays.specs.Plays.{Line, play}
 use Rattle.plays.proofs.Played.{made_is_play}
@@ -23,8 +23,8 @@ use Rattle.properties.proofs.Kept.{steps_met, finishes_met, updates_met, c_steps
 made_call : (t : List ℕ) (before : Record) (c : Call) (l : Line Reply Record) → Makes t before c l → l ≡ call t before c
 made_call t before (step e) l (inl (r, m, q)) = q ∙ ap (λ (s : Stepped). record { reply = stepped s.answer; after = s.after }) (steps_met t before e r m)
 made_call t before (step e) l (inr (a, r, m, q)) =
-    let (x, y) = updates_met t before e a r m in q ∙ ap₂ (λ (a : Answer) (r : Record). record { reply = stepped a; after = r }) x y
-made_call t before finished l (f, m, q) = q ∙ ap (λ (f : Finish). record { reply = reported f; after = before }) (finishes_met t before f m)
+    let (x, y) = updates_met t before e a r m in q ∙ ap₂ (λ (a : Result ⊤ Refusal) (r : Record). record { reply = stepped a; after = r }) x y
+made_call t before finished l (f, m, q) = q ∙ ap (λ (f : Result Bool Refusal). record { reply = reported f; after = before }) (finishes_met t before f m)
 
 made_c_call : (t bytes : List ℕ) (c : Call) (l : Line ℕ (List ℕ)) → CMakes t bytes c l → l ≡ c_call t bytes c
 made_c_call t bytes (step e) l m = let (x, y) = c_steps_met t bytes e l.reply l.after m in rw (← x, ← y)

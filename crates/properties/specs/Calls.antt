@@ -1,16 +1,13 @@
 -- The calls that the properties speak of, each by the contract that the code is proved to meet: no definition stands here in a contract's place. `Post` of a
 -- function's `Reads` is what its `ensures` says, made from the source by the checker.
-use Rattle.std.specs.Prelude.{◌≡◌, List, ℕ}
+use Rattle.std.specs.Prelude.{◌≡◌, Bool, List, ℕ, Result as Answer, ⊤}
 use Rattle.std.specs.Borrow.{Bor}
+use Rattle.base.specs.Reports.{Written}
+use Rattle.base.specs.declared.Refusal.{Refusal}
 use Rattle.record.specs.declared.Record.{Record}
-use Rattle.table.specs.declared.Answer.{Answer}
-use Rattle.table.specs.declared.Finish.{Finish}
 use Rattle.table.specs.declared.Stepped.{Stepped}
-use Rattle.reading.specs.declared.ReadResult.{ReadResult}
-use Rattle.printer.specs.declared.Printed.{Printed}
-use Rattle.translator.specs.declared.Translated.{Translated}
+use Rattle.reading.specs.Answers.{Read}
 use Rattle.events.specs.declared.Label.{Label}
-use Rattle.modelling.specs.declared.Written.{Written}
 use Rattle.reader.proofs.read.Reads as read_reads
 use Rattle.printer.proofs.print.Reads as print_reads
 use Rattle.translator.proofs.translate.Reads as translate_reads
@@ -41,15 +38,15 @@ pub record Made {Lifetimes : Type 0} {Args Result Exit : Lifetimes → Type 0}
   pub promised : contract lifetimes args result exit
 
 -- `reader::read`, of a text: what it answers.
-abbrev pub Reads : List ℕ → ReadResult → Type 0
+abbrev pub Reads : List ℕ → Read → Type 0
 Reads text o = Made read_reads.Post (λ κs a r s. (a.0.now ≡ text) × (r ≡ o))
 
 -- `printer::print`, of a text and a lent buffer: what it answers, and the buffer after it. So with `translator::translate`.
-abbrev pub Prints : List ℕ → List ℕ → Printed → List ℕ → Type 0
+abbrev pub Prints : List ℕ → List ℕ → Written → List ℕ → Type 0
 Prints text lent p left =
     Made print_reads.Post (λ κs a r s. (a.0.now ≡ text) × (a.1.0.now ≡ lent) × (r ≡ p) × (s.1.0.now ≡ left))
 
-abbrev pub Translates : List ℕ → List ℕ → Translated → List ℕ → Type 0
+abbrev pub Translates : List ℕ → List ℕ → Written → List ℕ → Type 0
 Translates text lent t left =
     Made translate_reads.Post (λ κs a r s. (a.0.now ≡ text) × (a.1.0.now ≡ lent) × (r ≡ t) × (s.1.0.now ≡ left))
 
@@ -58,7 +55,7 @@ abbrev pub Names : Bor (List ℕ) → ℕ → Bor (List ℕ) → Type 0
 Names text e part = Made name_reads.Post (λ κs a r s. (a.0 ≡ text) × (a.1.0 ≡ e) × (r ≡ part))
 
 -- `events::values`, of a text and an event number.
-abbrev pub Values : List ℕ → ℕ → Label → Type 0
+abbrev pub Values : List ℕ → ℕ → Answer Label Refusal → Type 0
 Values text e l = Made values_reads.Post (λ κs a r s. (a.0.now ≡ text) × (a.1.0 ≡ e) × (r ≡ l))
 
 -- `events::list`, of a text and a lent buffer: how many bytes it wrote, and the buffer after it.
@@ -75,22 +72,22 @@ WritesOpening text lent w left =
     Made opening_reads.Post (λ κs a r s. (a.0.now ≡ text) × (a.1.0.now ≡ lent) × (r ≡ w) × (s.1.0.now ≡ left))
 
 -- `table::check`, `table::step`, `table::finished` and `table::offer`: a table, a record by value, an event number, a lent buffer.
-abbrev pub Checks : List ℕ → Answer → Type 0
+abbrev pub Checks : List ℕ → Answer ⊤ Refusal → Type 0
 Checks t answer = Made check_reads.Post (λ κs a r s. (a.0.now ≡ t) × (r ≡ answer))
 
 abbrev pub Steps : List ℕ → Record → ℕ → Stepped → Type 0
 Steps t before e stepped = Made step_reads.Post (λ κs a r s. (a.0.now ≡ t) × (a.1.0 ≡ before) × (a.1.1.0 ≡ e) × (r ≡ stepped))
 
-abbrev pub Finishes : List ℕ → Record → Finish → Type 0
+abbrev pub Finishes : List ℕ → Record → Answer Bool Refusal → Type 0
 Finishes t before f = Made finished_reads.Post (λ κs a r s. (a.0.now ≡ t) × (a.1.0 ≡ before) × (r ≡ f))
 
-abbrev pub Offers : List ℕ → Record → List ℕ → Answer → List ℕ → Type 0
+abbrev pub Offers : List ℕ → Record → List ℕ → Answer ⊤ Refusal → List ℕ → Type 0
 Offers t before lent answer left =
     Made offer_reads.Post
     (λ κs a r s. (a.0.now ≡ t) × (a.1.0 ≡ before) × (a.1.1.0.now ≡ lent) × (r ≡ answer) × (s.1.1.0.now ≡ left))
 
 -- `inplace::step`, the thin call: a table, a lent record and an event number; what it answers, and the record after it.
-abbrev pub Updates : List ℕ → Record → ℕ → Answer → Record → Type 0
+abbrev pub Updates : List ℕ → Record → ℕ → Answer ⊤ Refusal → Record → Type 0
 Updates t lent e answer left =
     Made thin_reads.Post (λ κs a r s. (a.0.now ≡ t) × (a.1.0.now ≡ lent) × (a.1.1.0 ≡ e) × (r ≡ answer) × (s.1.0.now ≡ left))
 

@@ -1,26 +1,23 @@
 -- Property 1, over every public call: "Every answer, to any text, table, record or event number, is a result within the limits or one numbered refusal with its
 -- place, which leaves lent memory untouched. The caller checks nothing beforehand: a public call has no `requires`."
-use Rattle.std.specs.Prelude.{List, ℕ}
+use Rattle.std.specs.Prelude.{Bool, List, ℕ, Result, ⊤}
 use Rattle.std.specs.Borrow.{Bor}
+use Rattle.base.specs.Reports.{Written}
+use Rattle.base.specs.declared.Refusal.{Refusal}
 use Rattle.record.specs.declared.Record.{Record}
 use Rattle.table.specs.Bounds.{CheckAnswer, StepAnswer, FinishAnswer, OfferAnswer}
-use Rattle.table.specs.declared.Answer.{Answer}
-use Rattle.table.specs.declared.Finish.{Finish}
 use Rattle.table.specs.declared.Stepped.{Stepped}
 use Rattle.firmware.specs.Bounds.{CheckBounded, StepBounded, FinishBounded, OfferBounded}
 use Rattle.reading.specs.Bounds as reader
-use Rattle.reading.specs.declared.ReadResult.{ReadResult}
+use Rattle.reading.specs.Answers.{Read}
 use Rattle.printer.specs.Bounds as printer
-use Rattle.printer.specs.declared.Printed.{Printed}
 use Rattle.translator.specs.Bounds as translator
-use Rattle.translator.specs.declared.Translated.{Translated}
 use Rattle.events.specs.Names.{Named}
 use Rattle.events.specs.Listing.{Listed}
 use Rattle.events.specs.Bounds.{NameBounded, ValuesBounded, ListBounded}
 use Rattle.events.specs.declared.Label.{Label}
 use Rattle.modelling.specs.Answers.{EventAnswer, OpeningAnswer}
 use Rattle.modelling.specs.Bounds as machines
-use Rattle.modelling.specs.declared.Written.{Written}
 use Rattle.reader.proofs.read.Reads as read_reads
 use Rattle.printer.proofs.print.Reads as print_reads
 use Rattle.translator.proofs.translate.Reads as translate_reads
@@ -67,21 +64,21 @@ pub record NothingAsked : Type 0 where
 -- Each relation on the right gives the result, or the refusal by its own condition with every lent byte as it was, and admits one answer only.
 pub record Property1 : Type 0 where
   pub nothing_asked : NothingAsked
-  pub read : (text : List ℕ) (o : ReadResult) → Reads text o → reader.Bounded text o
-  pub print : (text lent : List ℕ) (p : Printed) (left : List ℕ) → Prints text lent p left → printer.Bounded text lent p left
-  pub translate : (text lent : List ℕ) (r : Translated) (left : List ℕ) → Translates text lent r left → translator.Bounded text lent r left
+  pub read : (text : List ℕ) (o : Read) → Reads text o → reader.Bounded text o
+  pub print : (text lent : List ℕ) (p : Written) (left : List ℕ) → Prints text lent p left → printer.Bounded text lent p left
+  pub translate : (text lent : List ℕ) (r : Written) (left : List ℕ) → Translates text lent r left → translator.Bounded text lent r left
   pub name : (text : Bor (List ℕ)) (e : ℕ) (part : Bor (List ℕ)) → Names text e part → Named text e part × NameBounded text part
-  pub values : (text : List ℕ) (e : ℕ) (l : Label) → Values text e l → ValuesBounded text e l
+  pub values : (text : List ℕ) (e : ℕ) (l : Result Label Refusal) → Values text e l → ValuesBounded text e l
   pub list : (text lent : List ℕ) (n : ℕ) (left : List ℕ) → Lists text lent n left → Listed text lent n left × ListBounded lent n left
   pub event : (text : List ℕ) (e : ℕ) (lent : List ℕ) (w : Written) (left : List ℕ) → WritesEvent text e lent w left
       → EventAnswer text e lent w left × machines.Bounded lent w left
   pub opening : (text lent : List ℕ) (w : Written) (left : List ℕ) → WritesOpening text lent w left → OpeningAnswer text lent w left × machines.Bounded lent w left
-  pub check : (t : List ℕ) (a : Answer) → Checks t a → CheckAnswer t a
+  pub check : (t : List ℕ) (a : Result ⊤ Refusal) → Checks t a → CheckAnswer t a
   pub step : (t : List ℕ) (before : Record) (e : ℕ) (s : Stepped) → Steps t before e s → StepAnswer t before e s
-  pub finished : (t : List ℕ) (before : Record) (f : Finish) → Finishes t before f → FinishAnswer t before f
-  pub offer : (t : List ℕ) (before : Record) (lent : List ℕ) (a : Answer) (left : List ℕ) → Offers t before lent a left → OfferAnswer t before lent a left
+  pub finished : (t : List ℕ) (before : Record) (f : Result Bool Refusal) → Finishes t before f → FinishAnswer t before f
+  pub offer : (t : List ℕ) (before : Record) (lent : List ℕ) (a : Result ⊤ Refusal) (left : List ℕ) → Offers t before lent a left → OfferAnswer t before lent a left
   -- the record that is lent to the thin call is then what the step by value would have returned
-  pub update : (t : List ℕ) (lent : Record) (e : ℕ) (a : Answer) (left : Record) → Updates t lent e a left → StepAnswer t lent e (record { answer = a; after = left })
+  pub update : (t : List ℕ) (lent : Record) (e : ℕ) (a : Result ⊤ Refusal) (left : Record) → Updates t lent e a left → StepAnswer t lent e (record { answer = a; after = left })
   pub c_check : (t : List ℕ) (n : ℕ) → CChecks t n → CheckBounded t n
   pub c_step : (t bytes : List ℕ) (e n : ℕ) (left : List ℕ) → CSteps t bytes e n left → StepBounded t bytes e n left
   pub c_finished : (t bytes : List ℕ) (n : ℕ) → CFinishes t bytes n → FinishBounded t bytes n

@@ -1,19 +1,14 @@
 -- By what reading answers, and the profile.
-use mathlib.Core.Path.{refl, sym, ◌∙◌}
+use Rattle.std.proofs.Common.{sym, ◌∙◌}
+use Rattle.base.proofs.Reports.{passed}
 use Rattle.machines.proofs.Answers.{unread_admission, outside_admission, inside_admission}
 use Rattle.machines.proofs.eventb.admit.Goals as goal
 
-pub returns-in_default : goal.returns-in_default
-returns-in_default c =
-    let r = c.read-o in
-    unread_admission _ r.result r.ensures _ c.in_default.field-0 c.in_default.field-1 c.in_default.is c.passed_on.ensures
+pub returns-in_err-d : goal.returns-in_err-d
+returns-in_err-d c = rw (passed c.from_residual.ensures) (unread_admission _ _ (sym c.in_err-d.ensures))
 
 pub returns-then-outside : goal.returns-then-outside
-returns-then-outside c =
-    let r = c.read-o in
-    outside_admission _ r.result r.ensures _ c.in-Done.is (sym c.if-outside.true ∙ c.outside.ensures) refl
+returns-then-outside c = rw c.at.ensures (outside_admission _ _ (sym c.in_ok-d.ensures) (sym c.outside.ensures ∙ c.if-outside.true))
 
 pub returns : goal.returns
-returns c =
-    let r = c.read-o in
-    inside_admission _ r.result r.ensures _ c.in-Done.is (sym c.if-outside.false ∙ c.outside.ensures) refl refl
+returns c = inside_admission _ _ (sym c.in_ok-d.ensures) (sym c.outside.ensures ∙ c.if-outside.false)
