@@ -5,14 +5,14 @@ use mathlib.Core.List.{List}
 use Prim.Native.Nat.{ℕ, zero, suc, ◌+◌, ◌-◌, ◌≤◌, ◌<◌}
 use native.Mathlib.Omega.{arith}
 use native.Mathlib.Numerals.{add-one}
-use lib.ListN.{length, get_or, take}
+use lib.ListN.{get_or, take}
 use borrow.Author.Tests.{le-leb, lt-leb}
-use Rattle.std.proofs.lemmas.List.{get_or_default}
 use Rattle.std.specs.Prelude.{Some, None}
 use Rattle.diagram.specs.declared.Diagram.{Diagram}
 use Rattle.diagram.specs.declared.Node.{Node}
 use Rattle.diagram.specs.Stored.{blank_node}
 use Rattle.postfix.specs.declared.Code.{Code}
+use Rattle.nodes.specs.declared.Form.{Form}
 use Rattle.nodes.specs.declared.Form.TheVariants.{Leaf, Loop, Joined}
 use Rattle.nodes.specs.Nodes.{form_of, depth_at}
 use Rattle.labels.specs.declared.Values.{Values}
@@ -27,40 +27,38 @@ module _ (text : List ℕ) (ns : List Node) (vs : Values) (p : Place) where
   unfolding part
   part_none h = rw h
 
-  pub part_past : (left : ℕ) → length ns ≤ p.node → p ≡ part text left ns vs p
+  pub part_past : (left : ℕ) → 256 ≤ p.node → p ≡ part text left ns vs p
   unfolding part
   part_past zero h = refl
-  part_past (suc left) h = rw (le-leb (length ns) p.node h)
+  part_past (suc left) h = rw (le-leb 256 p.node h)
 
-  part_node : (left : ℕ) (d : Node) → (left ≡ 0 → ⊥) → p.node < length ns
-      → part text left ns vs p ≡ by_form (form_of (get_or ns p.node d).kind) text (part text (left - 1) ns) ns p.node vs p.so_far
-  unfolding part
-  part_node zero d n h = absurd (n refl)
-  part_node (suc left) d n h =
-      let e : suc left - 1 ≡ left = omega arith in
-      rw (get_or_default ns p.node d blank_node h, lt-leb (length ns) p.node h, e)
+  module _ {left : ℕ} {node : Node} (n : left ≡ 0 → ⊥) (h : p.node < 256) (q : node ≡ get_or ns p.node blank_node) where
+    part_node : {form : Form} → form_of node.kind ≡ form → part text left ns vs p ≡ by_form form text (part text (left - 1) ns) ns p.node vs p.so_far
+    unfolding part
+    part_node e =
+        let more : left ≡ suc (left - 1) = omega arith in
+        ap (λ (m : ℕ). part text m ns vs p) more
+        ∙ rw (lt-leb 256 p.node h) (ap (λ (form : Form). by_form form text (part text (left - 1) ns) ns p.node vs p.so_far) (rw q at e))
 
-  module _ {left : ℕ} (d : Node) (n : left ≡ 0 → ⊥) (h : p.node < length ns) where
-    pub part_leaf : form_of (get_or ns p.node d).kind ≡ Leaf
-        → place (p.node + 1) (tell text false (get_or ns p.node d).name vs p.so_far) ≡ part text left ns vs p
-    part_leaf e = rw (part_node left d n h, e, get_or_default ns p.node d blank_node h)
+    pub part_leaf : form_of node.kind ≡ Leaf → place (p.node + 1) (tell text false node.name vs p.so_far) ≡ part text left ns vs p
+    part_leaf e = rw (part_node e, q)
 
     -- The copies that a replicator makes.
-    pub part_copies : {code : Code} {m size : ℕ} → form_of (get_or ns p.node d).kind ≡ Joined code (Some m) → m ≡ size → {u : Place}
+    pub part_copies : {code : Code} {m size : ℕ} → form_of node.kind ≡ Joined code (Some m) → m ≡ size → {u : Place}
         → u ≡ copies (part text (left - 1) ns) (p.node + 1) vs 0 size (place (p.node + 1) p.so_far) → u ≡ part text left ns vs p
-    part_copies e q g = rw (part_node left d n h, e, q) g
+    part_copies e k g = rw (part_node e, k) g
 
     -- The parts, and for a loop a reset or none.
-    pub part_parts : {code : Code} → form_of (get_or ns p.node d).kind ≡ Joined code None
+    pub part_parts : {code : Code} → form_of node.kind ≡ Joined code None
         → parts (part text (left - 1) ns vs) ns p.node 255 (place (p.node + 1) p.so_far) ≡ part text left ns vs p
-    part_parts e = rw (part_node left d n h, e)
+    part_parts e = rw (part_node e)
 
-    module _ (e : form_of (get_or ns p.node d).kind ≡ Loop) {u : Place} (g : u ≡ parts (part text (left - 1) ns vs) ns p.node 255 (place (p.node + 1) p.so_far)) where
+    module _ (e : form_of node.kind ≡ Loop) {u : Place} (g : u ≡ parts (part text (left - 1) ns vs) ns p.node 255 (place (p.node + 1) p.so_far)) where
       pub part_reset : {name : ℕ} → flow_name ns (p.node + 1) ≡ Some name → place u.node (tell text true name vs u.so_far) ≡ part text left ns vs p
-      part_reset f = rw (part_node left d n h, e, f, g)
+      part_reset f = rw (part_node e, f, g)
 
       pub part_ends : flow_name ns (p.node + 1) ≡ None → u ≡ part text left ns vs p
-      part_ends f = rw (part_node left d n h, e, f) g
+      part_ends f = rw (part_node e, f) g
 
 -- Where the loop over the parts has got to: the parts left from here are those left from the start.
 pub record PartsLeft (f : Place → Place) (ns : List Node) (i : ℕ) (p₀ : Place) (turn : ℕ) (p : Place) : Type 0 where

@@ -10,6 +10,16 @@ use labels::Values;
 use nodes::Form;
 use output::Writer;
 
+// What stands after the nodes that count.
+const BLANK: Node = Node {
+    kind: Kind::Leaf,
+    solid: false,
+    strong: false,
+    depth: 0,
+    at: 0,
+    name: 0,
+};
+
 // Where the walk over the nodes stands: the number of the next event, and the next node.
 #[derive(Clone, Copy)]
 struct Walk {
@@ -87,16 +97,16 @@ struct Drawing<'a> {
 }
 
 impl<'a> Drawing<'a> {
-    // The node that the walk stands at, with those below it.
+    // The node that the walk stands at, with those below it. A diagram holds 256 nodes, and after those that count the walk reads blank leaves.
     #[cycle(walk)]
     fn part(&self, left: usize, values: Values, s: Walk, w: &mut Writer) -> Walk
         ensures { Walks w.old w.new s result (part_of self.now.text.now left self.now.nodes.now values) }
     {
         let nodes = self.nodes;
-        if left == 0 || nodes.len() <= s.node {
+        if left == 0 || 256 <= s.node {
             return s;
         }
-        let node = nodes[s.node];
+        let node = base::at(nodes, s.node, BLANK);
         let inside = Walk {
             node: s.node + 1,
             ..s

@@ -38,17 +38,6 @@ pub joined_to : {text : List ℕ} {ns : List Node} {left i n at l m : ℕ} {vs :
 joined_to e h = rw (← e) h
 
 module _ (text : List ℕ) (ns : List Node) (left i : ℕ) where
-  -- Entering node i.
-  enter : {kind : Kind} {depth : ℕ} → Here ns i kind depth → (vs : List ℕ) (t : Told)
-      → part text (suc left) ns (packed vs) (place i t) ≡ by_form (form_of kind) text (part text left ns) ns i (packed vs) t
-  unfolding part
-  enter h vs t = rw (lt-leb (length ns) i h.inside, h.kind_is)
-
-  pub leaf_walked : {depth : ℕ} (e : ℕ) (name vs : List ℕ) → Here ns i Leaf depth → word_at text (name_at ns i) ≡ name → length vs ≤ 3
-      → Walked text ns (suc left) i (i + 1) vs (event e (leaf_copy name vs))
-  unfolding events
-  leaf_walked e name vs h g l = record { law = λ t. enter h vs t ∙ ap (place (i + 1)) (tell_event text false (name_at ns i) name vs t g l) }
-
   -- One part.
   one_part : (at n : ℕ) (vs : List ℕ) {kind : Kind} {depth mid : ℕ} {q : Process} → Here ns i kind depth → depth < depth_at ns at → Walked text ns left at mid vs q → (t : Told)
       → parts (part text left ns (packed vs)) ns i (suc n) (place at t) ≡ parts (part text left ns (packed vs)) ns i n (place mid (all_told t q))
@@ -82,51 +71,64 @@ module _ (text : List ℕ) (ns : List Node) (left i : ℕ) where
       → Walked text ns left (i + 1) mid vs p → Joined text ns left i 254 mid end vs p r → Parted end vs r
   first_part {vs = vs} h d w rest = record { law = λ t. one_part (i + 1) 254 vs h d w t ∙ rest.law t }
 
-  -- A node whose parts are joined.
-  pub parts_walked : {kind : Kind} {code : Code} {depth end : ℕ} {vs : List ℕ} {p : Process} → Here ns i kind depth → form_of kind ≡ JoinedForm code None
-      → Parted end vs p → Walked text ns (suc left) i end vs p
-  parts_walked {vs = vs} h f w = record { law = λ t. enter h vs t ∙ rw f (w.law t) }
+  -- What is walked over from node i on, where there are at most 256 nodes.
+  module _ (few : length ns ≤ 256) where
+    -- Entering node i.
+    enter : {kind : Kind} {depth : ℕ} → Here ns i kind depth → (vs : List ℕ) (t : Told)
+        → part text (suc left) ns (packed vs) (place i t) ≡ by_form (form_of kind) text (part text left ns) ns i (packed vs) t
+    unfolding part
+    enter h vs t = let inside = h.inside in rw (lt-leb 256 i (omega arith), h.kind_is)
 
-  -- A loop over a leaf, and over a flow.
-  pub again_walked : {depth d end : ℕ} {vs : List ℕ} (e x : ℕ) (l : Event) → Here ns i Loop depth → Here ns (i + 1) Leaf d → Parted end vs (event x l)
-      → Walked text ns (suc left) i end vs (again e l)
-  unfolding events
-  again_walked {vs = vs} e x l h k w = record { law = λ t. enter h vs t ∙ rw k.kind_is (w.law t) }
+    pub leaf_walked : {depth : ℕ} (e : ℕ) (name vs : List ℕ) → Here ns i Leaf depth → word_at text (name_at ns i) ≡ name → length vs ≤ 3
+        → Walked text ns (suc left) i (i + 1) vs (event e (leaf_copy name vs))
+    unfolding events
+    leaf_walked e name vs h g l = record { law = λ t. enter h vs t ∙ ap (place (i + 1)) (tell_event text false (name_at ns i) name vs t g l) }
 
-  pub rounds_walked : {depth d end : ℕ} {p : Process} (name vs : List ℕ) (r : ℕ) → Here ns i Loop depth → Here ns (i + 1) Flow d
-      → word_at text (name_at ns (i + 1)) ≡ name → length vs ≤ 3 → Parted end vs p → Walked text ns (suc left) i end vs (rounds p r (told_event true name vs))
-  unfolding events
-  rounds_walked {end = end} {p = p} name vs r h k g l w = record {
-    law = λ t.
-        enter h vs t
-        ∙ rw k.kind_is
-        (ap (closed (Some (name_at ns (i + 1))) text (packed vs)) (w.law t)
-        ∙ ap (place end)
-        (tell_event text true (name_at ns (i + 1)) name vs (all_told t p) g l ∙ sym (foldl-append telling t (events p) (told_event true name vs ∷ []))));
-  }
+    -- A node whose parts are joined.
+    pub parts_walked : {kind : Kind} {code : Code} {depth end : ℕ} {vs : List ℕ} {p : Process} → Here ns i kind depth → form_of kind ≡ JoinedForm code None
+        → Parted end vs p → Walked text ns (suc left) i end vs p
+    parts_walked {vs = vs} h f w = record { law = λ t. enter h vs t ∙ rw f (w.law t) }
 
-  -- The copies of a replicator's member, each after those for the values below its own.
-  module _ (j : Joint) (copy : ℕ → Process) (vs : List ℕ) (mid : ℕ) (room : length vs < 3) (each : (v : ℕ) → Walked text ns left (i + 1) mid (vs ++ (v ∷ [])) (copy v)) where
-    one_copy : (at n v : ℕ) (t : Told) → copies (part text left ns) (i + 1) (packed vs) v (suc n) (place at t) ≡ copies (part text left ns) (i + 1) (packed vs) (suc v) n (place mid (all_told t (copy v)))
-    unfolding copies
-    one_copy at n v t = rw (← (packed_more vs v room)) (ap (copies (part text left ns) (i + 1) (packed vs) (suc v) n) ((each v).law t))
+    -- A loop over a leaf, and over a flow.
+    pub again_walked : {depth d end : ℕ} {vs : List ℕ} (e x : ℕ) (l : Event) → Here ns i Loop depth → Here ns (i + 1) Leaf d → Parted end vs (event x l)
+        → Walked text ns (suc left) i end vs (again e l)
+    unfolding events
+    again_walked {vs = vs} e x l h k w = record { law = λ t. enter h vs t ∙ rw k.kind_is (w.law t) }
 
-    more_copies : (n v last : ℕ) → v + n ≡ last → (t : Told)
-        → copies (part text left ns) (i + 1) (packed vs) (suc v) n (place mid (all_told t (copied j copy v))) ≡ place mid (all_told t (copied j copy last))
-    unfolding copies
-    more_copies zero v last e t = let same : v ≡ last = omega arith in rw same
-    more_copies (suc n) v last e t =
-        one_copy mid n (suc v) (all_told t (copied j copy v))
-        ∙ (ap (λ (u : Told). copies (part text left ns) (i + 1) (packed vs) (suc (suc v)) n (place mid u)) (sym (told_join j (copied j copy v) (copy (suc v)) t))
-        ∙ more_copies n (suc v) last (omega arith) t)
-
-    pub copies_walked : {kind : Kind} {code : Code} {size depth : ℕ} → Here ns i kind depth → form_of kind ≡ JoinedForm code (Some size) → 1 ≤ size
-        → Walked text ns (suc left) i mid vs (copied j copy (size - 1))
-    copies_walked {size = size} h g s = record {
+    pub rounds_walked : {depth d end : ℕ} {p : Process} (name vs : List ℕ) (r : ℕ) → Here ns i Loop depth → Here ns (i + 1) Flow d
+        → word_at text (name_at ns (i + 1)) ≡ name → length vs ≤ 3 → Parted end vs p → Walked text ns (suc left) i end vs (rounds p r (told_event true name vs))
+    unfolding events
+    rounds_walked {end = end} {p = p} name vs r h k g l w = record {
       law = λ t.
-          let many : size ≡ suc (size - 1) = omega arith in
           enter h vs t
-          ∙ rw g
-          (ap (λ (n : ℕ). copies (part text left ns) (i + 1) (packed vs) 0 n (place (i + 1) t)) many
-          ∙ (one_copy (i + 1) (size - 1) 0 t ∙ more_copies (size - 1) 0 (size - 1) (omega arith) t));
+          ∙ rw k.kind_is
+          (ap (closed (Some (name_at ns (i + 1))) text (packed vs)) (w.law t)
+          ∙ ap (place end)
+          (tell_event text true (name_at ns (i + 1)) name vs (all_told t p) g l ∙ sym (foldl-append telling t (events p) (told_event true name vs ∷ []))));
     }
+
+    -- The copies of a replicator's member, each after those for the values below its own.
+    module _ (j : Joint) (copy : ℕ → Process) (vs : List ℕ) (mid : ℕ) (room : length vs < 3) (each : (v : ℕ) → Walked text ns left (i + 1) mid (vs ++ (v ∷ [])) (copy v)) where
+      one_copy : (at n v : ℕ) (t : Told) → copies (part text left ns) (i + 1) (packed vs) v (suc n) (place at t) ≡ copies (part text left ns) (i + 1) (packed vs) (suc v) n (place mid (all_told t (copy v)))
+      unfolding copies
+      one_copy at n v t = rw (← (packed_more vs v room)) (ap (copies (part text left ns) (i + 1) (packed vs) (suc v) n) ((each v).law t))
+
+      more_copies : (n v last : ℕ) → v + n ≡ last → (t : Told)
+          → copies (part text left ns) (i + 1) (packed vs) (suc v) n (place mid (all_told t (copied j copy v))) ≡ place mid (all_told t (copied j copy last))
+      unfolding copies
+      more_copies zero v last e t = let same : v ≡ last = omega arith in rw same
+      more_copies (suc n) v last e t =
+          one_copy mid n (suc v) (all_told t (copied j copy v))
+          ∙ (ap (λ (u : Told). copies (part text left ns) (i + 1) (packed vs) (suc (suc v)) n (place mid u)) (sym (told_join j (copied j copy v) (copy (suc v)) t))
+          ∙ more_copies n (suc v) last (omega arith) t)
+
+      pub copies_walked : {kind : Kind} {code : Code} {size depth : ℕ} → Here ns i kind depth → form_of kind ≡ JoinedForm code (Some size) → 1 ≤ size
+          → Walked text ns (suc left) i mid vs (copied j copy (size - 1))
+      copies_walked {size = size} h g s = record {
+        law = λ t.
+            let many : size ≡ suc (size - 1) = omega arith in
+            enter h vs t
+            ∙ rw g
+            (ap (λ (n : ℕ). copies (part text left ns) (i + 1) (packed vs) 0 n (place (i + 1) t)) many
+            ∙ (one_copy (i + 1) (size - 1) 0 t ∙ more_copies (size - 1) 0 (size - 1) (omega arith) t));
+      }

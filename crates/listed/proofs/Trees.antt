@@ -16,6 +16,7 @@ use Rattle.diagram.specs.Sizes.{flow_sized, children_sized, child_sized, member_
 use Rattle.diagram.specs.Parameters.{surrounded, flow_parameters, children_parameters, child_parameters, member_parameters, members_parameters}
 use Rattle.diagram.specs.declared.Diagram.{Diagram}
 use Rattle.diagram.specs.TreeNodes.{ShownNode, shown, nodes_by, flow_tree_nodes, children_tree_nodes, child_tree_nodes, member_tree_nodes, members_tree_nodes}
+use Rattle.diagram.proofs.Mapped.{nodes_counted}
 use Rattle.tokens.specs.Words.{word_at}
 use Rattle.reading.specs.Shows.{Shows}
 use Rattle.output.specs.Buffer.{Buffer, put_all}
@@ -77,7 +78,7 @@ module _ {text : List ℕ} {ns : List Node} {vs : List ShownNode} (held : Named 
         let deeper = depth_is (i + 1) (suc d) _ inside (child_first a around r (suc d) _ rest) in
         let kepts = and_r (surrounded around && equal same ps around) (child_parameters a around && children_parameters cs around) kept in
         let some = child_some a in
-        parts_walked text ns left i h refl
+        parts_walked text ns left i held.few h refl
         (first_part text ns left i h (omega arith)
         (child_walked a around left r (suc d) (i + 1) _ rest (omega arith) (and_l (child_sized a) (children_sized cs) sized)
         (omega arith) (children_first cs around (suc d) _ more (omega arith)) inside vals long (and_l (child_parameters a around) (children_parameters cs around) kepts) e)
@@ -130,7 +131,7 @@ module _ {text : List ℕ} {ns : List Node} {vs : List ShownNode} (held : Named 
         let kept2 = and_r (member_parameters m around) (member_parameters k around && members_parameters ms around) kepts in
         let p = member_process m vals e in
         let q = member_process k vals (e + member_events m) in
-        parts_walked text ns left i h (group_form y)
+        parts_walked text ns left i held.few h (group_form y)
         (first_part text ns left i h (omega arith)
         (member_walked m around left false (suc d) (i + 1) _ _ (omega arith) (and_l (member_sized m) (member_sized k && members_sized ms) sized) (omega arith)
         (omega (arith, member_first k around false (suc d) number rest)) inside vals long
@@ -150,7 +151,7 @@ module _ {text : List ℕ} {ns : List Node} {vs : List ShownNode} (held : Named 
         let kept1 = and_r (surrounded around && new par around) (member_parameters m (around ++ (par ∷ []))) kept in
         let room : length vals < 3 = omega (arith, member_surrounded m (around ++ (par ∷ [])) kept1, length-append around (par ∷ [])) in
         walked_to (omega arith)
-        (copies_walked text ns left i (joint y) (λ v. member_process m (vals ++ (v ∷ [])) (e + v * member_events m)) vals (i + 1 + member_nodes m) room
+        (copies_walked text ns left i held.few (joint y) (λ v. member_process m (vals ++ (v ∷ [])) (e + v * member_events m)) vals (i + 1 + member_nodes m) room
         (λ v. member_walked m (around ++ (par ∷ [])) left false (suc d) (i + 1) _ more (omega arith) (and_r (leb 1 size && leb size 16) (member_sized m) sized)
         (omega arith) (omega arith) inside (vals ++ (v ∷ [])) (simp length-append (omega arith)) kept1 (e + v * member_events m))
         h (replicator_form y size some) some)
@@ -164,13 +165,13 @@ module _ {text : List ℕ} {ns : List Node} {vs : List ShownNode} (held : Named 
         let deeper = depth_is (i + 1) (suc d) _ pos refl in
         let k = here held.nodes (i + 1) _ _ pos in
         walked_to (omega arith)
-        (again_walked text ns (suc left) i e e (leaf_copy n vals) h k
-        (first_part text ns (suc left) i h (omega arith) (leaf_walked text ns left (i + 1) e n vals k (held.name_here (i + 1) _ _ pos refl) (omega arith))
+        (again_walked text ns (suc left) i held.few e e (leaf_copy n vals) h k
+        (first_part text ns (suc left) i h (omega arith) (leaf_walked text ns left (i + 1) held.few e n vals k (held.name_here (i + 1) _ _ pos refl) (omega arith))
         (stops more h (drop_both vs (i + 1) 1 pos refl) after (suc left) 254 (event e (leaf_copy n vals)))))
     loop_walked (inner f) around left d i l more deep sized few after h pos vals long room kept e =
         let deeper = depth_is (i + 1) (suc d) _ pos (member_first (inner f) around false (suc d) l more) in
         walked_to (omega arith)
-        (rounds_walked text ns left i (flow_name f) vals (e + flow_events f) h (flow_here f around false (suc d) (i + 1) l more pos) (flow_named f around false (suc d) (i + 1) l more pos) (omega arith)
+        (rounds_walked text ns left i held.few (flow_name f) vals (e + flow_events f) h (flow_here f around false (suc d) (i + 1) l more pos) (flow_named f around false (suc d) (i + 1) l more pos) (omega arith)
         (first_part text ns left i h (omega arith) (flow_walked f around left false (suc d) (i + 1) l more deep sized (omega arith) (omega arith) pos vals long kept e)
         (stops more h (drop_both vs (i + 1) (flow_nodes f) pos (member_past (inner f) around false (suc d) l more)) after left 254 (flow_process f vals e))))
 
@@ -180,7 +181,7 @@ module _ {text : List ℕ} {ns : List Node} {vs : List ShownNode} (held : Named 
         → Walked text ns left i (i + member_nodes m) vals (member_process m vals e)
     member_walked (leaf n) around zero b d i l more deep sized few after pos vals long kept e = let z : ⊥ = omega arith in absurd z
     member_walked (leaf n) around (suc left) b d i l more deep sized few after pos vals long kept e =
-        leaf_walked text ns left i e n vals (here held.nodes i _ _ pos) (held.name_here i _ _ pos refl) (omega (arith, leb-true (length around) 3 kept))
+        leaf_walked text ns left i held.few e n vals (here held.nodes i _ _ pos) (held.name_here i _ _ pos refl) (omega (arith, leb-true (length around) 3 kept))
     member_walked (inner f) around left b d i l more deep sized few after pos vals long kept e = flow_walked f around left b d i l more deep sized few after pos vals long kept e
 
     members_walked : (ms : Members) (around : List Name) (j : Joint) (left i n d at l : ℕ) {kind : Kind} (more : List ShownNode) → Here ns i kind d
@@ -210,7 +211,7 @@ pub listing_walked : (text : List ℕ) (d : Flow) (g : Diagram) → Shows text d
 unfolding walked_listing walked
 listing_walked text d g shows sized kept deep few short s =
     let vs = nodes_by shown d in
-    let held = diagram_named text g vs shows.nodes in
+    let held = diagram_named text g vs shows.nodes (omega (arith, nodes_counted shown d)) in
     let b = put_all (first_line (flow_events d) (flow_copies d)) s in
     let told_all = ap (λ (p : Place). p.so_far.out) ((flow_walked held d [] 12 false 1 0 0 [] deep sized few (omega arith) refl [] refl kept 0).law (told 0 b)) in
     ap₂ (λ (m n : ℕ). walked text g (put_all (first_line m n) s)) shows.events shows.copies

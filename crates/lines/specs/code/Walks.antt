@@ -1,6 +1,6 @@
 -- The walk over the nodes of a diagram that writes the line of each event: "They are numbered from 0 depth first, left to right, values rising, a reset directly
 -- after its loop's body." The nodes inside a replicator are walked over once for each value.
-use Rattle.std.specs.Prelude.{◌≡◌, Bool, true, false, cond, List, Option, Some, None, ℕ, zero, suc, ◌+◌, ◌%◌, leb, length, take}
+use Rattle.std.specs.Prelude.{◌≡◌, Bool, true, false, cond, List, Option, Some, None, ℕ, zero, suc, ◌+◌, ◌%◌, leb, take}
 use Rattle.diagram.specs.declared.Diagram.{Diagram}
 use Rattle.diagram.specs.declared.Node.{Node}
 use Rattle.diagram.specs.TreeNodes.{leafy}
@@ -71,11 +71,12 @@ by_form Loop text part ns i vs t = closed (flow_name ns (i + 1)) text vs (parts 
 by_form (Joined code None) text part ns i vs t = parts (part vs) ns i 255 (place (i + 1) t)
 by_form (Joined code (Some size)) text part ns i vs t = copies part (i + 1) vs 0 size (place (i + 1) t)
 
--- The node that the walk stands at, with those below it, down to as many depths as are given.
+-- The node that the walk stands at, with those below it, down to as many depths as are given. A diagram by value holds 256 nodes: after those that count
+-- the walk reads blank leaves. In a drawing that is read it never comes to one.
 unfoldable pub part : List ℕ → ℕ → List Node → Values → Place → Place
 part text zero ns vs p = p
 part text (suc left) ns vs p =
-    cond (leb (length ns) p.node) p (by_form (form_at ns p.node) text (part text left ns) ns p.node vs p.so_far)
+    cond (leb 256 p.node) p (by_form (form_at ns p.node) text (part text left ns) ns p.node vs p.so_far)
 
 -- The whole drawing: "The root has depth 1", and there are at most 12.
 unfoldable pub walked : List ℕ → Diagram → Buffer → Buffer
