@@ -1,9 +1,8 @@
 #![tactic(auto)]
 // What the Rust tests and the benchmarks call: numbers and lent bytes only.
 
-ghost use Rattle.std.specs.Prelude.{◌≡◌, ◌<◌, length, get_or};
+ghost use Rattle.std.specs.Prelude.{◌≡◌, length};
 ghost use Rattle.base.specs.Fill.{fill};
-ghost use Rattle.diagram.specs.Stored.{blank_node};
 ghost use Rattle.reading.specs.Answers.{read_of};
 ghost use Rattle.reading.specs.Reports.{report as read_report};
 ghost use Rattle.printer.specs.Prints.{print_of, left_by};
@@ -13,19 +12,18 @@ ghost use Rattle.inplace.specs.Updates.{answer_of, left_of};
 ghost use Rattle.events.specs.Listing.{Listed};
 ghost use Rattle.packing.specs.Packed.{packed};
 ghost use Rattle.packing.specs.Nodes.{node_values, place_values};
-ghost use Rattle.harness.specs.Nodes.{unread as unread_found, found_at, report as found_report};
+ghost use Rattle.harness.specs.Nodes.{found_at, report as found_report};
 ghost use Rattle.harness.specs.Calls.{Translates, WritesEvent, Labels, Names};
 
-use diagram::{Diagram, Node};
-use reading::Answer;
+use base::Refusal;
+use diagram::Node;
 use record::Record;
 
 #[unsafe(no_mangle)]
 pub extern "C" fn adl_test_read(text: &[u8]) -> u64
     ensures { result ≡ packed 10 (read_report (read_of text.now)) }
 {
-    let o = reader::read(text);
-    packing::read_number(o)
+    packing::read_number(reader::read(text))
 }
 
 #[unsafe(no_mangle)]
@@ -33,24 +31,21 @@ pub extern "C" fn adl_test_print(text: &[u8], out: &mut [u8]) -> u64
     ensures value { result ≡ packed 32 (print_report (print_of text.now out.old)) }
     ensures out_after { out.new ≡ left_by text.now out.old (print_of text.now out.old) }
 {
-    let p = printer::print(text, out);
-    packing::print_number(p)
+    packing::written_number(printer::print(text, out))
 }
 
 #[unsafe(no_mangle)]
 pub extern "C" fn adl_test_translate(text: &[u8], out: &mut [u8]) -> u64
     ensures { Translates text.now out.old result out.new }
 {
-    let t = translator::translate(text, out);
-    packing::translate_number(t)
+    packing::written_number(translator::translate(text, out))
 }
 
 #[unsafe(no_mangle)]
 pub extern "C" fn adl_test_eventb(text: &[u8], event: u64, out: &mut [u8]) -> u64
     ensures { WritesEvent text.now event out.old result out.new }
 {
-    let w = machines::eventb::event(text, event, out);
-    packing::written_number(w)
+    packing::written_number(machines::eventb::event(text, event, out))
 }
 
 // Bytes over the front of `out`, as far as it goes; answers how many there are.
@@ -58,12 +53,9 @@ fn copy(bytes: &[u8], out: &mut [u8]) -> u64
     ensures value { result ≡ length bytes.now }
     ensures out_after { out.new ≡ fill out.old bytes.now }
 {
-    let mut n = 0;
-    while n < bytes.len() {
-        base::put_byte(out, n, bytes[n]);
-        n += 1;
-    }
-    n as u64
+    let n = bytes.len().min(out.len());
+    out[..n].copy_from_slice(&bytes[..n]);
+    bytes.len() as u64
 }
 
 #[unsafe(no_mangle)]
@@ -78,57 +70,28 @@ pub extern "C" fn adl_test_list(text: &[u8], out: &mut [u8; 32768]) -> u64
 pub extern "C" fn adl_test_name(text: &[u8], event: u64, out: &mut [u8]) -> u64
     ensures { Names text.entry event out.old result out.new }
 {
-    let name = events::name(text, event);
-    copy(name, out)
+    copy(events::name(text, event), out)
 }
 
 #[unsafe(no_mangle)]
 pub extern "C" fn adl_test_values(text: &[u8], event: u64) -> u64
     ensures { Labels text.now event result }
 {
-    let l = events::values(text, event);
-    packing::label_number(l)
+    packing::label_number(events::values(text, event))
 }
 
-// A node of a text, or the refusal with its number and place.
-#[derive(Clone, Copy)]
-enum Found {
-    At(Node),
-    Refused(u8, usize),
-}
+// An index past the last node.
+const NO_NODE: u64 = 255 * 4294967296;
 
-// The refusal of a text that is not read.
-fn unread(answer: Answer) -> Found
-    ensures { result ≡ unread_found answer }
-{
-    match answer {
-        Answer::Done => Found::Refused(255, 0),
-        Answer::Refused(number, place) => Found::Refused(number, place),
-    }
-}
-
-fn node_at(d: Diagram, i: usize) -> Node
-    requires { i < 256 }
-    ensures { result ≡ get_or d.nodes i blank_node }
-{
-    d.nodes[i]
-}
-
-// The node with an index, in the order of the text; 255 for an index past the last one.
-fn find(text: &[u8], index: u64) -> Found
+// The node with an index, in the order of the text; none past the last one.
+fn find(text: &[u8], index: u64) -> Result<Option<Node>, Refusal>
     ensures { result ≡ found_at (read_of text.now) index }
 {
-    let o = reader::read(text);
-    let answer = o.answer;
-    let Answer::Done = answer else {
-        return unread(answer);
-    };
-    let d = o.diagram;
-    if (d.count as u64) <= index {
-        return Found::Refused(255, 0);
+    let d = reader::read(text)?;
+    if d.count as u64 <= index {
+        return Ok(None);
     }
-    let node = node_at(d, index as usize);
-    Found::At(node)
+    Ok(Some(d.nodes[index as usize]))
 }
 
 // A node of a text, by its index.
@@ -136,10 +99,10 @@ fn find(text: &[u8], index: u64) -> Found
 pub extern "C" fn adl_test_node(text: &[u8], index: u64) -> u64
     ensures { result ≡ packed 6 (found_report node_values (found_at (read_of text.now) index)) }
 {
-    let found = find(text, index);
-    match found {
-        Found::At(node) => packing::node_number(node),
-        Found::Refused(number, place) => packing::refusal(number, place),
+    match find(text, index) {
+        Ok(Some(node)) => packing::node_number(node),
+        Ok(None) => NO_NODE,
+        Err(why) => packing::refusal(why),
     }
 }
 
@@ -148,19 +111,19 @@ pub extern "C" fn adl_test_node(text: &[u8], index: u64) -> u64
 pub extern "C" fn adl_test_place(text: &[u8], index: u64) -> u64
     ensures { result ≡ packed 16 (found_report place_values (found_at (read_of text.now) index)) }
 {
-    let found = find(text, index);
-    match found {
-        Found::At(node) => packing::place_number(node),
-        Found::Refused(number, place) => packing::refusal(number, place),
+    match find(text, index) {
+        Ok(Some(node)) => packing::place_number(node),
+        Ok(None) => NO_NODE,
+        Err(why) => packing::refusal(why),
     }
 }
 
-fn step_number(answer: table::Answer) -> u64
+fn step_number(answer: Result<(), Refusal>) -> u64
     ensures { result ≡ packed 32 (step_report answer) }
 {
     match answer {
-        table::Answer::Done => 0,
-        table::Answer::Refused(number, place) => packing::refusal(number, place),
+        Ok(()) => 0,
+        Err(why) => packing::refusal(why),
     }
 }
 
@@ -170,6 +133,5 @@ pub extern "C" fn adl_test_update(table: &[u8], lent: &mut Record, event: u64) -
     ensures value { result ≡ packed 32 (step_report (answer_of table.now lent.old event)) }
     ensures lent_after { lent.new ≡ left_of table.now lent.old event }
 {
-    let answer = inplace::step(table, lent, event);
-    step_number(answer)
+    step_number(inplace::step(table, lent, event))
 }

@@ -1,26 +1,18 @@
--- `harness::copy` meets its contract. The loop's invariant: the first n bytes are copied. Its measure is the bytes that are left.
-use mathlib.Core.Path.{refl, sym, ◌∙◌}
-use native.Mathlib.Omega.{arith}
-use Rattle.base.proofs.Filled.{fill_none}
-use Rattle.harness.proofs.Copies.{copied_more, copied_all}
+-- What was copied, and after it what stood there, is the buffer with its front written over.
+use Rattle.std.proofs.Common.{◌≡◌, ap, ◌∙◌, ℕ, suc, ◌-◌, List, [], ◌∷◌, ◌++◌, length, take, drop, arith}
+use Rattle.std.specs.Prelude.{min}
+use Rattle.base.specs.Fill.{fill}
 use Rattle.harness.proofs.copy.Goals as goal
 
-pub loop-n-init : goal.loop-n-init
-loop-n-init c = (refl, (omega arith, sym (fill_none c.args.out.now)))
+front_over : (xs vs : List ℕ) (n : ℕ) → n ≡ min (length vs) (length xs) → take n vs ++ drop n xs ≡ fill xs vs
+unfolding fill
+front_over [] vs n e = let z : n ≡ 0 = omega arith in rw z
+front_over (x ∷ xs) [] n e = let z : n ≡ 0 = omega arith in rw z
+front_over (x ∷ xs) (v ∷ vs) n e =
+    let z : n ≡ suc (n - 1) = omega arith in
+    rw z (ap (λ (l : List ℕ). v ∷ l) (front_over xs vs (n - 1) (omega arith)))
 
-pub loop-n-preserved : goal.loop-n-preserved
-loop-n-preserved c =
-    let l = c.loop-n in
-    let a = c.args in
-    let put = c.put_byte in
-    let taken = c.loop-n-test.true in
-    (put.auto.bytes ∙ l.invariant.0, (omega (arith, taken), copied_more a.bytes.now a.out.now l.out put.new.bytes l.n taken l.invariant.1.1 put.ensures))
-
-pub shape_of-out : goal.shape_of-out
-shape_of-out c = c.loop-n.invariant.0
-
-pub returns : goal.returns
-returns c =
-    let l = c.loop-n in
-    let a = c.args in
-    record { value = omega (arith, l.invariant.1.0, c.loop-n-test.false); out_after = copied_all a.bytes.now a.out.now l.out l.n (omega (arith, c.loop-n-test.false)) l.invariant.1.1 }
+pub returns-clause-out_after : goal.returns-clause-out_after
+returns-clause-out_after c =
+    let out = c.args.out.now in
+    ap (λ (l : List ℕ). l ++ drop c.min-n.result out) c.copy_from_slice.ensures.after ∙ front_over out c.args.bytes.now c.min-n.result c.min-n.ensures
