@@ -2,42 +2,33 @@
 // Reads the text of a drawing on standard input and prints its machine, as Rodin's text editors read it: what stands before the first event, each event, and `end`. Of a
 // text that is turned away it prints one line: `refused`, the number and the place.
 use machines::eventb;
-use modelling::Written;
 use std::io::Write;
 
 // No event of a machine has more bytes, and nor has what stands before the first.
 const ROOM: usize = 65536;
 
-fn refuse<W: Write>(to: &mut W, number: u8, place: usize) {
-    let mut line = [0u8; 64];
-    let n = output::refused(&mut line, 0, number, place);
-    streams::write_there(to, &line[..n]);
-}
-
 // The events, one after the other, up to the first number that is none. A machine has at most 32.
 fn events<W: Write>(to: &mut W, text: &[u8]) {
-    let mut e = 0;
-    while e < 32 {
+    for e in 0..32 {
         let mut out = [0u8; ROOM];
-        let w = eventb::event(text, e, &mut out);
-        let Written::Bytes(n) = w else {
+        let Ok(n) = eventb::event(text, e, &mut out) else {
             return;
         };
         streams::write_there(to, &out[..n]);
-        e += 1;
     }
 }
 
 fn machine<W: Write>(to: &mut W, text: &[u8]) {
     let mut out = [0u8; ROOM];
-    let w = eventb::opening(text, &mut out);
-    match w {
-        Written::Bytes(n) => {
+    match eventb::opening(text, &mut out) {
+        Ok(n) => {
             streams::write_there(to, &out[..n]);
             events(to, text);
             streams::write_there(to, b"end\n");
         }
-        Written::Refused(number, place) => refuse(to, number, place),
+        Err(why) => {
+            streams::write_refused(to, why);
+        }
     }
 }
 
