@@ -2,7 +2,6 @@
 use Rattle.std.specs.Prelude.{Bool, false, cond, List, [], ◌∷◌, ◌++◌, ℕ, suc, ◌+◌, ◌-◌, eqb, length, drop, get_or, set}
 use Rattle.base.specs.declared.Reason.{Reason}
 use Rattle.diagram.specs.Tree.{Name}
-use Rattle.diagram.specs.Stored.{blank_node}
 use Rattle.diagram.specs.TreeNodes.{group_kind, replicator_kind}
 use Rattle.diagram.specs.declared.Kind.{Kind}
 use Rattle.diagram.specs.declared.Kind.TheVariants.{Flow, Leaf, And, Or, Xor, All, Some as SomeOf, One, Loop}
@@ -23,9 +22,9 @@ pub record State : Type 0 where
 abbrev pub state : List Row → List ℕ → State
 state rows pending = record { rows = rows; pending = pending }
 
--- A row that is not used.
+-- A row that is not used: each byte is 0.
 abbrev pub blank_row : Row
-blank_row = record { node = blank_node; past = 0 }
+blank_row = record { node = record { kind = Flow; solid = false; strong = false; depth = 0; at = 0; name = 0 }; past = 0 }
 
 -- The row i, and the rows with that one changed.
 abbrev pub row_at : List Row → ℕ → Row

@@ -23,12 +23,12 @@ pub struct Position {
 }
 
 impl Row {
-    // A row that is not used.
+    // A row that is not used: each byte is 0.
     pub fn blank() -> Row
         ensures { result ≡ blank_row }
     {
         let node = Node {
-            kind: Kind::Leaf,
+            kind: Kind::Flow,
             solid: false,
             strong: false,
             depth: 0,
