@@ -1,9 +1,10 @@
 -- What is written of an event fits its buffer.
+use Rattle.std.proofs.Common.{refl}
 use Rattle.modelling.proofs.Bounds.{event_room}
 use Rattle.eventb.proofs.events.Goals as goal
 
 pub slice_bounds-out-end : goal.slice_bounds-out-end
-slice_bounds-out-end g c = (event_room _ _ _ _ _ c.event-w.ensures _ c.in-Bytes.is).0
+slice_bounds-out-end g c = (event_room _ _ _ _ _ c.in-Ok.ensures _ refl).0
 
 pub slice_bounds-write_there-end : goal.slice_bounds-write_there-end
-slice_bounds-write_there-end g c = (event_room _ _ _ _ _ c.event-w.ensures _ c.in-Bytes.is).1
+slice_bounds-write_there-end g c = (event_room _ _ _ _ _ c.in-Ok.ensures _ refl).1

@@ -1,11 +1,20 @@
--- `play::play` hands on the bytes of its listing: they fit the buffer.
-use Prim.Native.Nat.{ℕ}
-use lib.ListN.{replicate, length-replicate}
+-- The bytes of the listing fit their buffer.
+use Rattle.std.proofs.Common.{ℕ, replicate, ◌≡◌, length}
+use Rattle.std.proofs.lemmas.List.{length-replicate}
 use Rattle.events.proofs.Bounds.{list_room}
 use Rattle.play.proofs.play.Goals as goal
 
-pub slice_bounds-listing-end : goal.slice_bounds-listing-end
-slice_bounds-listing-end g c = (list_room _ (replicate 32768 0) c.list-count.result _ c.list-count.ensures (length-replicate {A = ℕ} 32768 0)).0
+long : length (replicate {A = ℕ} 32768 0) ≡ 32768
+long = length-replicate {A = ℕ} 32768 0
 
-pub slice_bounds-run-end : goal.slice_bounds-run-end
-slice_bounds-run-end g c = (list_room _ (replicate 32768 0) c.list-count.result _ c.list-count.ensures (length-replicate {A = ℕ} 32768 0)).1
+pub slice_bounds-listing-end : goal.slice_bounds-listing-end
+slice_bounds-listing-end g c = (list_room _ (replicate 32768 0) c.list-count.result _ c.list-count.ensures long).0
+
+pub slice_bounds-write_there-end : goal.slice_bounds-write_there-end
+slice_bounds-write_there-end g c = (list_room _ (replicate 32768 0) c.list-count.result _ c.list-count.ensures long).1
+
+pub slice_bounds-listing-end-2 : goal.slice_bounds-listing-end-2
+slice_bounds-listing-end-2 g c = (list_room _ (replicate 32768 0) c.list-count.result _ c.list-count.ensures long).0
+
+pub slice_bounds-game-end : goal.slice_bounds-game-end
+slice_bounds-game-end g c = (list_room _ (replicate 32768 0) c.list-count.result _ c.list-count.ensures long).1
