@@ -68,21 +68,21 @@ fn value(t: Lexeme, least: u8, most: u8) -> Result<u8, Refusal>
     Ok(n)
 }
 
-// What reads a text token by token. A text has at most 16,384 bytes, so each place in it fits 16 bits.
+// What reads a text token by token. Each place in the text fits 16 bits.
 #[derive(Drop)]
 pub struct Parser<'a> {
     pub lexer: Lexer<'a>,
-    ghost short: { length lexer.text.now ≤ 16384 },
+    ghost short: { length lexer.text.now < 65536 },
 }
 
 impl<'a> Parser<'a> {
-    // Number 2 for a longer text.
-    pub fn new(text: &'a [u8]) -> Result<Self, Refusal>
-        ensures ok { IfOk result (λ r. (r.lexer.text.now ≡ text.now) × (length text.now ≤ 16384)) }
-        ensures err { IfErr result (λ r. (r ≡ refusal Text 16384) × (16384 < length text.now)) }
+    // Number 2 for a text of over `most` bytes, at that place.
+    pub fn new(text: &'a [u8], most: u16) -> Result<Self, Refusal>
+        ensures ok { IfOk result (λ r. (r.lexer.text.now ≡ text.now) × (length text.now ≤ most)) }
+        ensures err { IfErr result (λ r. (r ≡ refusal Text most) × (most < length text.now)) }
     {
-        if 16384 < text.len() {
-            return Err(Reason::Text.at(16384));
+        if usize::from(most) < text.len() {
+            return Err(Reason::Text.at(usize::from(most)));
         }
         Ok(Parser {
             lexer: Lexer::new(text),

@@ -59,7 +59,7 @@ fn judge(lexer: &Lexer, rows: &[Row; 257], count: usize) -> Result<Diagram, Refu
 pub fn read(text: &[u8]) -> Result<Diagram, Refusal>
     ensures { result ≡ read_of text.now }
 {
-    let parser = Parser::new(text)?;
+    let parser = Parser::new(text, 16384)?;
     let mut rows = [Row::blank(); 257];
     match walk::parse(&parser, &mut rows) {
         Ok(count) => judge(&parser.lexer, &rows, count),

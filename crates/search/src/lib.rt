@@ -1,6 +1,6 @@
 #![tactic(auto)]
 
-ghost use Rattle.std.specs.Prelude.{◌≡◌, ◌<◌, map, take, length};
+ghost use Rattle.std.specs.Prelude.{◌≡◌, ◌<◌, ◌≤◌, ℕ, [], map, take, length, get_or};
 ghost use Rattle.nodes.specs.Nodes.{form_of};
 ghost use Rattle.labels.specs.SearchNodes.{search_node};
 ghost use Rattle.labels.specs.Weights.{parts as parts_of, resets as resets_of, weight_by, weight as weight_of, weigh as weigh_nodes, with_weight};
@@ -76,7 +76,8 @@ fn weighed(node: Node, rest: &[SearchNode]) -> SearchNode
 
 // The nodes of a diagram that count with how many events one copy of each of them has, worked out from the last to the first.
 pub fn weigh(d: &Diagram) -> [SearchNode; 256]
-    ensures { take d.now.count result ≡ weigh_nodes (map search_node (take d.now.count d.now.nodes)) }
+    ensures counted { take d.now.count result ≡ weigh_nodes (map search_node (take d.now.count d.now.nodes)) }
+    ensures others { (i : ℕ) → d.now.count ≤ i → get_or result i (next []) ≡ next [] }
 {
     let nodes = nodes::counted(d);
     let mut weighed_nodes = [NONE; 256];
