@@ -34,7 +34,7 @@ use Rattle.labels.specs.Stands.{Stands}
 use Rattle.labels.specs.Seeks.{spot_of}
 use Rattle.labels.specs.declared.Spot.{Spot}
 use Rattle.labels.proofs.SearchByTree.{Labels, nothing}
-use Rattle.labels.proofs.SearchByText.{labelled, unlabelled}
+use Rattle.labels.proofs.SearchByText.{spot_labelled, unlabelled}
 use Rattle.reading.specs.Reading.{Reading, drawing, no_drawing}
 use Rattle.events.specs.Labels.{label, label_of, Valued}
 use Rattle.events.specs.Names.{name_of, Placed, Named}
@@ -59,7 +59,7 @@ pub record Drawn (text : List ℕ) (g : Diagram) : Type 0 where
 pub drawn : (text : List ℕ) (g : Diagram) → read_of text ≡ Ok g → Drawn text g
 drawn text g q =
     let (d, a) = (accepted_exactly text).0 (g, q) in
-    record { tree = d; its_limits = a; shown = accepted_shown text d a q; its_spot = labelled text d a q; no_spot = unlabelled text d a q }
+    record { tree = d; its_limits = a; shown = accepted_shown text d a q; its_spot = spot_labelled text d a q; no_spot = unlabelled text d a q }
 
 -- An event that stands at a spot is below E, and the other way round.
 module _ (text : List ℕ) (g : Diagram) (k : Drawn text g) (e : ℕ) where

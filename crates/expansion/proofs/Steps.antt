@@ -18,11 +18,7 @@ use Rattle.nodes.specs.Nodes.{form_of, kind_at, depth_at}
 use Rattle.expansion.specs.Walks.{Place, place, at_node, add, more, again_at, further, looped, by_form, part}
 use Rattle.expansion.specs.declared.Walk.{Walk}
 
--- A code is left out where there is no room, and added where there is.
-pub add_full : (code : Code) (p : Place) → 1024 ≤ p.walk.count → p ≡ add code p
-unfolding add
-add_full code p h = rw (le-ltb p.walk.count 1024 h)
-
+-- A code is added where there is room.
 pub add_room : (code : Code) (s : Walk) (cs : List Code) {ds : List Code} → s.count < 1024 → ds ≡ set cs s.count code → place s.node (s.count + 1) ds ≡ add code (record { walk = s; codes = cs })
 unfolding add
 add_room code s cs h q = rw (lt-ltb s.count 1024 h, q)

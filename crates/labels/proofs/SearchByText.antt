@@ -12,7 +12,7 @@ use Rattle.diagram.specs.TreeNodes.{TextNode, own, nodes_by}
 use Rattle.reading.specs.Nodes.{name_place, node_of, stored}
 use Rattle.reading.specs.Answers.{read_of}
 use Rattle.reading.specs.Accepted.{Accepted}
-use Rattle.reading.proofs.Exact.{its_diagram}
+use Rattle.reading.proofs.Exact.{held, accepted_read, its_diagram}
 use Rattle.std.specs.Prelude.{Ok, None}
 use Rattle.diagram.specs.declared.Diagram.{Diagram}
 use Rattle.process.specs.Process.{event_of}
@@ -41,14 +41,21 @@ stored_spot text hs x y e =
     (ap (map search_node) (take_at (map (node_of text) hs) (replicate (256 - length hs) blank_node) (length hs) (length-map hs (node_of text)))
     ∙ stored_nodes text hs)
 
-pub labelled : (text : List ℕ) (d : Flow) {g : Diagram} → Accepted text d → read_of text ≡ Ok g → (e : ℕ) → e < flow_events d
+pub spot_labelled : (text : List ℕ) (d : Flow) {g : Diagram} → Accepted text d → read_of text ≡ Ok g → (e : ℕ) → e < flow_events d
     → Finds (Stands text) (event_of (expand d) e) (spot_of g e)
-labelled text d a q e l =
+spot_labelled text d a q e l =
     let keeps = a.keeps in
     let few = a.events in
     let found = event_found (name_place text) (Stands text) d keeps.sizes keeps.parameters (omega arith) (text_known text d a.derived) e l in
     let same = ap (λ (g : Diagram). spot_of g e) (its_diagram text d a q) ∙ stored_spot text (nodes_by own d) (flow_copies d) (flow_events d) e in
     rw (same, event_in_order d keeps.sizes e nothing l) found
+
+-- An accepted text is read, and each event of its diagram has its spot there.
+pub labelled : (text : List ℕ) (d : Flow) → Accepted text d → (e : ℕ) → e < flow_events d
+    → (g : Diagram) × (read_of text ≡ Ok g) × Finds (Stands text) (event_of (expand d) e) (spot_of g e)
+labelled text d a e l =
+    let q = accepted_read text d a in
+    (held text d, q, spot_labelled text d a q e l)
 
 -- Past the last event there is none.
 pub unlabelled : (text : List ℕ) (d : Flow) {g : Diagram} → Accepted text d → read_of text ≡ Ok g → (e : ℕ) → flow_events d ≤ e → spot_of g e ≡ None

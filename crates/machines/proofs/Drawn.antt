@@ -16,7 +16,7 @@ use Rattle.diagram.specs.declared.Diagram.{Diagram}
 use Rattle.diagram.specs.declared.Node.{Node}
 use Rattle.reading.specs.Shows.{shown_node, shown_nodes, Shows}
 use Rattle.reading.proofs.Shown.{accepted_shown}
-use Rattle.labels.proofs.SearchByText.{labelled}
+use Rattle.labels.proofs.SearchByText.{spot_labelled}
 use Rattle.translator.specs.Translates.{Read}
 use Rattle.variables.specs.code.Spelled.{spelled}
 use Rattle.variables.specs.declared.Variable.{Variable}
@@ -70,5 +70,5 @@ module _ (text : List ℕ) (g : Diagram) (k : Drawn text g) where
   pub spelled_names : (v : List Variable) → Names g v → (n : ℕ) → n < flow_events k.tree → spelled text v n ≡ naming k.tree n
   unfolding spelled
   spelled_names v w n h =
-      let (s, is, l) = labelled text k.tree k.accepted k.its_diagram n h in
+      let (s, is, l) = spot_labelled text k.tree k.accepted k.its_diagram n h in
       rw (w n (omega (arith, few)), is, l.mark, l.named.its_name)

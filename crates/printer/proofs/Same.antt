@@ -16,7 +16,7 @@ use Rattle.grammar.specs.Printed.{printed}
 use Rattle.reading.specs.Nodes.{node_of, stored}
 use Rattle.reading.specs.Answers.{read_of}
 use Rattle.reading.specs.Accepted.{Accepted}
-use Rattle.reading.proofs.Exact.{its_diagram, accepted_exactly}
+use Rattle.reading.proofs.Exact.{held, accepted_read, its_diagram, accepted_exactly}
 use Rattle.reading.proofs.Shown.{accepted_shown}
 use Rattle.printer.specs.Prints.{left_by}
 use Rattle.printer.specs.Reports.{report}
@@ -108,5 +108,9 @@ left_alike s lent d t owed e h k a b =
     let trees : wrote s lent ≡ wrote t owed → d ≡ e = λ q. i.0 (sym w ∙ (q ∙ v)) in
     record {
       exactly = (trees, λ q. w ∙ (i.1 q ∙ sym v));
-      same = λ q g h x y. same_diagram s t d a (subst (Accepted t) (sym (trees q)) b) x y;
+      same = λ q.
+          let b' = subst (Accepted t) (sym (trees q)) b in
+          let x = accepted_read s d a in
+          let y = accepted_read t d b' in
+          (held s d, held t d, x, y, same_diagram s t d a b' x y);
     }

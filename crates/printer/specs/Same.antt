@@ -47,4 +47,4 @@ pub record Again (text lent : List ℕ) (d : Flow) : Type 0 where
 -- "two accepted texts print alike exactly if their diagrams are equal", over any two buffers; and then the diagrams that were read are the same.
 pub record Alike (s lent : List ℕ) (d : Flow) (t owed : List ℕ) (e : Flow) : Type 0 where
   pub exactly : (wrote s lent ≡ wrote t owed) ↔ (d ≡ e)
-  pub same : wrote s lent ≡ wrote t owed → (g h : Diagram) → read_of s ≡ Ok g → read_of t ≡ Ok h → Same s g t h
+  pub same : wrote s lent ≡ wrote t owed → (g : Diagram) × (h : Diagram) × (read_of s ≡ Ok g) × (read_of t ≡ Ok h) × Same s g t h

@@ -15,7 +15,7 @@ use Rattle.reading.specs.Blanked.{blanked}
 use Rattle.reading.proofs.Exact as exact
 use Rattle.reading.proofs.Alike.{remarks_as_blanks}
 use Rattle.reading.proofs.Shown.{accepted_shows_only, shows_only}
-use Rattle.reading.proofs.Placed.{accepted_placed}
+use Rattle.reading.proofs.Placed.{read_placed}
 use Rattle.printer.specs.Same.{Same, unplaced, wrote, written}
 use Rattle.printer.proofs.Same.{same_diagram, print_then_read, left_alike}
 use Rattle.properties.specs.Calls.{Reads}
@@ -67,7 +67,7 @@ property_2 = record {
   refused_exactly = λ text o m number place. rw (reads_met text o m) (exact.refused_exactly text number place);
   the_one_derived = λ text o m d a.
       let (g, q, k) = accepted_shows_only text d a in
-      (g, reads_met text o m ∙ q, k, accepted_placed text d a q);
+      (g, reads_met text o m ∙ q, k, read_placed text d a q);
   read_again = again;
   print_alike = λ s t d e p q left other k l.
       rw (wrote_is s d p left k, wrote_is t e q other l) (left_alike s k.lent d t l.lent e k.enough l.enough k.accepted l.accepted).exactly;

@@ -27,7 +27,7 @@ use Rattle.reading.specs.Refused.{Derived, Breaks, RefusedAt, by_size, by_byte, 
 use Rattle.reading.specs.Bounds.{Bounded, result, refusal}
 use Rattle.reading.proofs.Exact.{held, accepted_read, turned_away_exactly, Fate, taken, refused_at, fate}
 use Rattle.reading.proofs.Shown.{accepted_shown}
-use Rattle.reading.proofs.Placed.{accepted_placed, one_diagram}
+use Rattle.reading.proofs.Placed.{read_placed, one_diagram}
 
 -- Inside a list it does not matter what stands for what is past its end.
 same_inside : (ps : List ℕ) (k none : ℕ) → k < length ps → get_or ps k 0 ≡ get_or ps k none
@@ -99,7 +99,7 @@ read_bounded text = go (fate text)
           diagram = held text d;
           done = e;
           shown = s;
-          placed = accepted_placed text d a e;
+          placed = read_placed text d a e;
         }
     go (refused_at c at t) =
         let n = refused_at_near text (number c) at t in
@@ -113,6 +113,6 @@ one_answer text o (result r) =
     let a = r.limits in
     let e = accepted_read text d a in
     r.done
-    ∙ ap (λ (g : Diagram). Ok g) (one_diagram text d r.diagram (held text d) r.shown r.placed (accepted_shown text d a e) (accepted_placed text d a e))
+    ∙ ap (λ (g : Diagram). Ok g) (one_diagram text d r.diagram (held text d) r.shown r.placed (accepted_shown text d a e) (read_placed text d a e))
     ∙ sym e
 one_answer text o (refusal r) = r.is ∙ sym ((turned_away_exactly text r.reason r.place).1 r.why)

@@ -19,7 +19,7 @@ use Rattle.reading.specs.Answers.{read_of}
 use Rattle.reading.specs.Accepted.{Accepted}
 use Rattle.reading.specs.Shows.{Shows, shown_node, shown_nodes}
 use Rattle.reading.specs.Places.{Placed}
-use Rattle.reading.proofs.Exact.{held, its_diagram}
+use Rattle.reading.proofs.Exact.{held, accepted_read, its_diagram}
 use Rattle.reading.proofs.Shown.{nodes_kept}
 
 abbrev ats : List Node → List ℕ
@@ -40,8 +40,12 @@ held_placed text d =
       blank = drop_at (map (node_of text) hs) (replicate (256 - length hs) blank_node) (length hs) (length-map hs (node_of text));
     }
 
-pub accepted_placed : (text : List ℕ) (d : Flow) → Accepted text d → {g : Diagram} → read_of text ≡ Ok g → Placed text d g
-accepted_placed text d a e = rw (its_diagram text d a e) (held_placed text d)
+pub read_placed : (text : List ℕ) (d : Flow) → Accepted text d → {g : Diagram} → read_of text ≡ Ok g → Placed text d g
+read_placed text d a e = rw (its_diagram text d a e) (held_placed text d)
+
+-- An accepted text is read, and its diagram has the places.
+pub accepted_placed : (text : List ℕ) (d : Flow) → Accepted text d → (g : Diagram) × (read_of text ≡ Ok g) × Placed text d g
+accepted_placed text d a = (held text d, accepted_read text d a, held_placed text d)
 
 -- Nodes that are shown alike and have the same places are the same.
 same_node : (text : List ℕ) (m n : Node) → shown_node text m ≡ shown_node text n → m.at ≡ n.at → m.name ≡ n.name → m ≡ n
