@@ -130,12 +130,7 @@ impl<W: Write> Game<'_, W> {
 }
 
 // Plays the run of a drawing by its listing and its table.
-fn run<'a, R: Read, W: Write>(
-    input: &mut R,
-    to: &'a mut W,
-    listing: &'a [u8],
-    table: &'a [u8],
-) {
+fn run<'a, R: Read, W: Write>(input: &mut R, to: &'a mut W, listing: &'a [u8], table: &'a [u8]) {
     let mut room = [0u8; SHOWN];
     let out = Writer::new(&mut room);
     let mut game = Game {

@@ -20,7 +20,7 @@ const NONE: SearchNode = SearchNode {
 };
 
 // The events of the parts of a node, those of the nodes at the front that are one deeper than it.
-fn parts(depth: u16, rest: &[SearchNode]) -> usize
+fn parts(depth: usize, rest: &[SearchNode]) -> usize
     ensures value { result ≡ parts_of depth 0 rest.now }
     ensures upper_bound { result < 1024 }
 {
@@ -30,7 +30,7 @@ fn parts(depth: u16, rest: &[SearchNode]) -> usize
             return n;
         }
         if node.depth - depth == 1 {
-            n = (n + usize::from(node.weight) % 1024) % 1024;
+            n = (n + node.weight % 1024) % 1024;
         }
     }
     n
@@ -47,7 +47,7 @@ fn resets(rest: &[SearchNode]) -> bool
 }
 
 // How many events one copy of a node has, by its form and the nodes after it.
-fn weight(form: Form, depth: u16, rest: &[SearchNode]) -> usize
+fn weight(form: Form, depth: usize, rest: &[SearchNode]) -> usize
     ensures value { result ≡ weight_by form (parts_of depth 0 rest.now) (resets_of rest.now) }
     ensures upper_bound { result < 1024 }
 {
@@ -66,11 +66,12 @@ fn weighed(node: Node, rest: &[SearchNode]) -> SearchNode
     ensures { result ≡ with_weight (search_node node) (weight_of (search_node node) rest.now) }
 {
     let form = Form::from(node.kind);
+    let depth = usize::from(node.depth);
     SearchNode {
         form,
-        depth: node.depth,
-        place: node.name,
-        weight: weight(form, node.depth, rest) as u16,
+        depth,
+        place: usize::from(node.name),
+        weight: weight(form, depth, rest),
     }
 }
 
@@ -89,10 +90,9 @@ pub fn weigh(d: &Diagram) -> [SearchNode; 256]
 
 // Into a copy of a replicator's member, which has these events.
 #[tactic(auto, unfolding(labels::specs::Seeks::into_copy))]
-fn into_copy(depth: u16, inner: u16, s: Search) -> Search
+fn into_copy(depth: usize, inner: usize, s: Search) -> Search
     ensures { result ≡ into_copy_of depth inner s }
 {
-    let inner = usize::from(inner);
     if inner == 0 {
         return Search { above: depth, ..s };
     }
@@ -112,12 +112,12 @@ fn inside(r: SearchNode, q: SearchNode, s: Search) -> ControlFlow<Spot, Search>
     match r.form {
         Form::Leaf => ControlFlow::Break(Spot {
             reset: false,
-            place: usize::from(r.place),
+            place: r.place,
             values,
         }),
-        Form::Loop if usize::from(q.weight) <= s.rest => ControlFlow::Break(Spot {
+        Form::Loop if q.weight <= s.rest => ControlFlow::Break(Spot {
             reset: true,
-            place: usize::from(q.place),
+            place: q.place,
             values,
         }),
         Form::Loop | Form::Joined(_, None) => ControlFlow::Continue(Search {
@@ -135,10 +135,9 @@ fn turn(r: SearchNode, q: SearchNode, s: Search) -> ControlFlow<Spot, Search>
     if r.depth <= s.above || r.depth - s.above != 1 {
         return ControlFlow::Continue(s);
     }
-    let weight = usize::from(r.weight);
-    if weight <= s.rest {
+    if r.weight <= s.rest {
         return ControlFlow::Continue(Search {
-            rest: s.rest - weight,
+            rest: s.rest - r.weight,
             ..s
         });
     }

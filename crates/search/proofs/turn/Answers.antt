@@ -12,14 +12,13 @@ returns-then-r-s c =
       | then-r-s-via-else-r-s+then-r-s-ne1 w ↦ turn_other a.r a.q a.s (λ e. w.if-r-s-ne1.true (omega (arith, e)))
     ])
 
-pub returns-then-weight-s : goal.returns-then-weight-s
-returns-then-weight-s c =
+pub returns-then-r-s-2 : goal.returns-then-r-s-2
+returns-then-r-s-2 c =
     let a = c.args in
-    let w = c.from-weight.ensures in
-    rw w (sym (turn_past a.r a.q a.s (omega (arith, c.if-r-s-ne1.false, c.if-r-s.false)) (omega (arith, w, c.if-weight-s.true))))
+    sym (turn_past a.r a.q a.s (omega (arith, c.if-r-s-ne1.false, c.if-r-s.false)) c.if-r-s-2.true)
 
 pub returns : goal.returns
 returns c =
     let a = c.args in
     c.inside.ensures
-    ∙ sym (turn_inside a.r a.q a.s (omega (arith, c.if-r-s-ne1.false, c.if-r-s.false)) (omega (arith, c.from-weight.ensures, c.if-weight-s.false)))
+    ∙ sym (turn_inside a.r a.q a.s (omega (arith, c.if-r-s-ne1.false, c.if-r-s.false)) (omega (arith, c.if-r-s-2.false)))
