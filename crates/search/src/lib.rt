@@ -1,6 +1,6 @@
 #![tactic(auto)]
 
-ghost use Rattle.std.specs.Prelude.{◌≡◌, ◌<◌, ◌≤◌, ℕ, [], map, take, length, get_or};
+ghost use Rattle.std.specs.Prelude.{◌≡◌, ◌<◌, ◌≤◌, ℕ, suc, [], eqb, map, take, length, get_or};
 ghost use Rattle.nodes.specs.Nodes.{form_of};
 ghost use Rattle.labels.specs.SearchNodes.{search_node};
 ghost use Rattle.labels.specs.Weights.{parts as parts_of, resets as resets_of, weight_by, weight as weight_of, weigh as weigh_nodes, with_weight};
@@ -128,11 +128,18 @@ fn inside(r: SearchNode, q: SearchNode, s: Search) -> ControlFlow<Spot, Search>
     }
 }
 
+// Whether a node at this depth is a part of the node searched in.
+fn is_part(depth: usize, above: usize) -> bool
+    ensures { result ≡ eqb depth (suc above) }
+{
+    above < depth && depth - above == 1
+}
+
 // One node further: node r, and q is the node after it.
 fn turn(r: SearchNode, q: SearchNode, s: Search) -> ControlFlow<Spot, Search>
     ensures { result ≡ turn_of r q s }
 {
-    if r.depth <= s.above || r.depth - s.above != 1 {
+    if !is_part(r.depth, s.above) {
         return ControlFlow::Continue(s);
     }
     if r.weight <= s.rest {
@@ -154,10 +161,12 @@ pub fn seek(nodes: &[SearchNode], event: usize) -> Option<Spot>
         values: Values::none(),
     };
     for (i, r) in nodes.iter().enumerate() {
-        let q = base::at(nodes, i + 1, NONE);
-        match turn(*r, q, s) {
-            ControlFlow::Break(spot) => return Some(spot),
-            ControlFlow::Continue(further) => s = further,
+        if is_part(r.depth, s.above) {
+            let q = base::at(nodes, i + 1, NONE);
+            match turn(*r, q, s) {
+                ControlFlow::Break(spot) => return Some(spot),
+                ControlFlow::Continue(further) => s = further,
+            }
         }
     }
     None
