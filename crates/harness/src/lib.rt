@@ -48,13 +48,14 @@ pub extern "C" fn adl_test_eventb(text: &[u8], event: u64, out: &mut [u8]) -> u6
     packing::written_number(machines::eventb::event(text, event, out))
 }
 
-// Bytes over the front of `out`, as far as it goes; answers how many there are.
+// Bytes over the front of `out`, as far as it goes; answers how many there are. One by one, so that the archive wants no copying from outside.
 fn copy(bytes: &[u8], out: &mut [u8]) -> u64
     ensures value { result ≡ length bytes.now }
     ensures out_after { out.new ≡ fill out.old bytes.now }
 {
-    let n = bytes.len().min(out.len());
-    out[..n].copy_from_slice(&bytes[..n]);
+    for (i, b) in bytes.iter().enumerate() {
+        base::put(out, i, *b);
+    }
     bytes.len() as u64
 }
 
@@ -80,10 +81,7 @@ pub extern "C" fn adl_test_values(text: &[u8], event: u64) -> u64
     packing::label_number(events::values(text, event))
 }
 
-// An index past the last node.
-const NO_NODE: u64 = 255 * 4294967296;
-
-// The node with an index, in the order of the text; none past the last one.
+// The node with an index, in the order of the text; none past the last one, which is told as number 255.
 fn find(text: &[u8], index: u64) -> Result<Option<Node>, Refusal>
     ensures { result ≡ found_at (read_of text.now) index }
 {
@@ -101,7 +99,7 @@ pub extern "C" fn adl_test_node(text: &[u8], index: u64) -> u64
 {
     match find(text, index) {
         Ok(Some(node)) => packing::node_number(node),
-        Ok(None) => NO_NODE,
+        Ok(None) => packing::refused(255, 0),
         Err(why) => packing::refusal(why),
     }
 }
@@ -113,7 +111,7 @@ pub extern "C" fn adl_test_place(text: &[u8], index: u64) -> u64
 {
     match find(text, index) {
         Ok(Some(node)) => packing::place_number(node),
-        Ok(None) => NO_NODE,
+        Ok(None) => packing::refused(255, 0),
         Err(why) => packing::refusal(why),
     }
 }

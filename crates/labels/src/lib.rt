@@ -67,15 +67,15 @@ pub struct Spot {
 #[derive(Clone, Copy, Debug, PartialEq, Eq)]
 pub struct SearchNode {
     pub form: Form,
-    pub depth: u16,
-    pub place: u16,
-    pub weight: u16,
+    pub depth: usize,
+    pub place: usize,
+    pub weight: usize,
 }
 
 // A search for an event below a node: the depth of that node, how many of its events come before the one looked for, and the values so far.
 #[derive(Clone, Copy, Debug, PartialEq, Eq)]
 pub struct Search {
-    pub above: u16,
+    pub above: usize,
     pub rest: usize,
     pub values: Values,
 }

@@ -249,9 +249,29 @@ pub fn word(text: &[u8], at: usize) -> &[u8]
     &text[at..end]
 }
 
-// Whether the words that start at two places are the same.
+// The first byte of the word that starts at `at`; 0, which no word has, where none starts.
+#[tactic(auto, using(tokens::proofs::WordAt::letter_none, tokens::proofs::WordAt::letter_some))]
+fn letter(text: &[u8], at: usize) -> u8
+    ensures { result ≡ get_or (word_at text.now at) 0 0 }
+{
+    let b = base::at(text, at, 0);
+    if worded(b) { b } else { 0 }
+}
+
+// Whether the words that start at two places are the same, byte by byte up to the first that differs: most names differ early, and none is looked at whole.
 pub fn same(text: &[u8], a: usize, b: usize) -> bool
     ensures { result ≡ alike (word_at text.now a) (word_at text.now b) }
 {
-    word(text, a) == word(text, b)
+    let mut q = b;
+    for p in a..text.len() {
+        let x = letter(text, p);
+        if x != letter(text, q) {
+            return false;
+        }
+        if x == 0 {
+            return true;
+        }
+        q += 1;
+    }
+    letter(text, q) == 0
 }

@@ -1,4 +1,4 @@
--- A text that was read and has a machine: the code's test of the profile, and what the columns of its names spell.
+-- A text that was read and has a machine: the code's test of the profile, and how the names of its events are spelled.
 use mathlib.Core.Path.{◌≡◌, refl, sym, ap, ◌∙◌}
 use mathlib.Core.Bool.{Bool, true, false, ◌||◌}
 use mathlib.Core.List.{List, [], ◌∷◌, map}
@@ -66,7 +66,7 @@ module _ (text : List ℕ) (g : Diagram) (k : Drawn text g) where
   few : flow_events k.tree ≤ 32
   few = few_events k.tree k.profile
 
-  -- The columns spell the variables of the diagram.
+  -- They spell the variables of the diagram.
   pub spelled_names : (v : List Variable) → Names g v → (n : ℕ) → n < flow_events k.tree → spelled text v n ≡ naming k.tree n
   unfolding spelled
   spelled_names v w n h =

@@ -45,7 +45,7 @@ module _ (text : List ℕ) (g : Diagram) (k : Drawn text g) (v : List Variable) 
       ≡ bytes "event " ++ (spelled text v e ++ (bytes "\nwhere\n" ++ (guards ++ (bytes "then\n" ++ (acts ++ bytes "end\n")))))
   all_lines e guards acts = simp append_assoc
 
-  -- The text by the columns of names is the text of the diagram.
+  -- The text by where the names stand is the text of the diagram.
   its_text : (e : ℕ) → e < flow_events k.tree
       → event_lines (spelled text v) e (conditions (expand k.tree) e) (actions (expand k.tree) (flow_events k.tree) e) ≡ event_text k.tree e
   unfolding event_text guards_of actions_of

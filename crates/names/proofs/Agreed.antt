@@ -1,6 +1,6 @@
 -- Two words of a text, one of which ends at a known place, byte by byte. Assumes nothing.
 use mathlib.Core.Path.{◌≡◌, refl, sym, ap, ◌∙◌}
-use mathlib.Core.Bool.{true, false, cond, false≢true}
+use mathlib.Core.Bool.{Bool, true, false, cond, false≢true}
 use mathlib.Core.List.{List, []}
 use Prim.Native.Nat.{ℕ, ◌+◌, ◌-◌, ◌≤◌, ◌<◌}
 use native.Mathlib.Nat.{add-zero}
@@ -15,16 +15,16 @@ use Rattle.tokens.specs.Words.{word_at, every}
 use Rattle.tokens.proofs.Front.{front_every}
 use Rattle.tokens.proofs.WordAt.{letter_none, letter_some, zero_none, some_on, words_on}
 use Rattle.walked.specs.Rows.{past_word}
+use Rattle.std.specs.Prelude.{Option, Some, None}
+use Rattle.std.proofs.lemmas.Option.{none-some, same_Some}
+use Rattle.names.specs.code.Pars.{again}
 use Rattle.names.proofs.Marked.{empty, word_byte, word_ends}
 
-abbrev answer : List ℕ → ℕ → ℕ → ℕ
-answer text a b = cond (same (word_at text a) (word_at text b)) (past_word text a) 0
-
 module _ (text : List ℕ) (a b : ℕ) where
-  others : (word_at text a ≡ word_at text b → ⊥) → 0 ≡ answer text a b
+  others : (word_at text a ≡ word_at text b → ⊥) → ◌≡◌ {A = Option ℕ} None (again text a b)
   others f = rw (is_false (same (word_at text a) (word_at text b)) (λ e. f ((same_decides (word_at text a) (word_at text b)).0 e)))
 
-  pub too_long : {end : ℕ} → end ≡ past_word text b → a ≤ length text → length text - a < end - b → 0 ≡ answer text a b
+  pub too_long : {end : ℕ} → end ≡ past_word text b → a ≤ length text → length text - a < end - b → ◌≡◌ {A = Option ℕ} None (again text a b)
   too_long e h l = others (λ q. omega (arith, ap length q, word_ends text a h))
 
 -- Up to p and q they are the same.
@@ -41,7 +41,7 @@ unfolding class_of
 zero_unworded e = false≢true e
 
 module _ {text : List ℕ} {a b p q end : ℕ} (s : Agreed text a b p q) (E : end ≡ past_word text b) where
-  from_here : same (word_at text p) (word_at text q) ≡ false → 0 ≡ answer text a b
+  from_here : same (word_at text p) (word_at text q) ≡ false → ◌≡◌ {A = Option ℕ} None (again text a b)
   from_here e = rw (s.decides, e)
 
   module _ (h : q < end) {x y : ℕ} (X : x ≡ get_or text p 0) (Y : y ≡ get_or text q 0) where
@@ -51,7 +51,7 @@ module _ {text : List ℕ} {a b p q end : ℕ} (s : Agreed text a b p q) (E : en
     first : y ≡ get_or (word_at text q) 0 0
     first = Y ∙ ap (λ (k : ℕ). get_or text k 0) (sym (add-zero q)) ∙ word_byte text q 0 some
 
-    pub agreed_other : (x ≡ y → ⊥) → 0 ≡ answer text a b
+    pub agreed_other : (x ≡ y → ⊥) → ◌≡◌ {A = Option ℕ} None (again text a b)
     agreed_other n =
         from_here
         (is_false (same (word_at text p) (word_at text q)) (λ e.
@@ -77,14 +77,30 @@ module _ {text : List ℕ} {a b p q end : ℕ} (s : Agreed text a b p q) (E : en
     ended : word_at text q ≡ []
     ended = empty (word_at text q) (omega (arith, s.right))
 
-    pub agreed_end : worded x ≡ false → p ≡ answer text a b
+    pub agreed_end : worded x ≡ false → ◌≡◌ {A = Option ℕ} (Some p) (again text a b)
     agreed_end e =
         let none = zero_none text p (sym (letter_none text p X e)) in
-        rw (s.decides, s.left, ended, none) (sym (add-zero p))
+        rw (s.decides, s.left, ended, none) (ap (λ (k : ℕ). Some k) (sym (add-zero p)))
 
-    pub agreed_longer : worded x ≡ true → 0 ≡ answer text a b
+    pub agreed_longer : worded x ≡ true → ◌≡◌ {A = Option ℕ} None (again text a b)
     agreed_longer e =
         from_here
         (is_false (same (word_at text p) (word_at text q)) (λ d.
         let w = (same_decides (word_at text p) (word_at text q)).0 d ∙ ended in
         zero_unworded (rw (letter_some text p X e ∙ ap (λ (v : Name). get_or v 0 0) w) at e)))
+
+-- What the answer tells of the words.
+pub again_none : (text : List ℕ) (a b : ℕ) → ◌≡◌ {A = Option ℕ} None (again text a b) → same (word_at text a) (word_at text b) ≡ false
+again_none text a b = go (same (word_at text a) (word_at text b))
+  where
+    go : (t : Bool) → ◌≡◌ {A = Option ℕ} None (cond t (Some (past_word text a)) None) → t ≡ false
+    go true e = absurd (none-some _ e)
+    go false e = refl
+
+pub again_some : (text : List ℕ) (a b e : ℕ) → ◌≡◌ {A = Option ℕ} (Some e) (again text a b)
+    → (same (word_at text a) (word_at text b) ≡ true) × (e ≡ past_word text a)
+again_some text a b e = go (same (word_at text a) (word_at text b))
+  where
+    go : (t : Bool) → ◌≡◌ {A = Option ℕ} (Some e) (cond t (Some (past_word text a)) None) → (t ≡ true) × (e ≡ past_word text a)
+    go true q = (refl, same_Some _ _ q)
+    go false q = absurd (none-some _ (sym q))

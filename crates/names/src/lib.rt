@@ -8,7 +8,7 @@ ghost use Rattle.rules.specs.Kept.{fault, names_kept, around as around_node, par
 ghost use Rattle.walked.specs.Rows.{row_of, past_word, Listed};
 ghost use Rattle.names.specs.code.Told.{node, earlier, Told};
 ghost use Rattle.names.specs.code.Marks.{mark_of, titled_at, unused_at, latest, Linked, Falling};
-ghost use Rattle.names.specs.code.Pars.{pars_at, Around, ParNext};
+ghost use Rattle.names.specs.code.Pars.{pars_at, Around, ParNext, Again};
 
 use lexer::Lexer;
 use walked::Row;
@@ -110,21 +110,48 @@ impl<'a> Nodes<'a> {
         }
     }
 
+    // The end of the word that starts at `at`, if it is the par of the node k: byte by byte, up to the par's end, which its row has.
+    fn par_again(&self, at: usize, k: usize) -> Option<usize>
+        requires { at ≤ length self.now.lexer.now.text.now }
+        ensures { Again self.now.lexer.now.text.now (row_of self.now.rows.now k) at result }
+    {
+        let text = self.lexer.text;
+        let row = self.row(k);
+        let start = row.name();
+        let end = row.end();
+        if text.len() < end || end < start || text.len() - at < end - start {
+            return None;
+        }
+        let mut p = at;
+        for q in start..end {
+            if text[p] != text[q] {
+                return None;
+            }
+            p += 1;
+        }
+        let class = self.lexer.class(base::at(text, p, 0));
+        if class < lexer::LETTER {
+            return Some(p);
+        }
+        if lexer::UNDERSCORE < class {
+            return Some(p);
+        }
+        None
+    }
+
     // Whether the flow whose name ends at `past` lists the pars around, outermost first.
     fn is_listed(&self, around: &[usize], past: usize) -> bool
         ensures { (at : ℕ) (ps ns : List Name) → past ≡ past_word self.now.lexer.now.text.now at → Listed self.now.lexer.now.text.now at ps → Around self.now.lexer.now.text.now self.now.rows.now around.now (length around.now) ns → result ≡ equal same (reverse ps) ns }
     {
-        let text = self.lexer.text;
         let mut at = past;
         for k in around {
             let Some(par) = self.next_par(at) else {
                 return false;
             };
-            let word = lexer::word(text, par);
-            if word != lexer::word(text, self.row(*k).name()) {
+            let Some(end) = self.par_again(par, *k) else {
                 return false;
-            }
-            at = par + word.len();
+            };
+            at = end;
         }
         self.next_par(at).is_none()
     }

@@ -94,12 +94,18 @@ impl<'a> Writer<'a> {
         &self.out[..n]
     }
 
-    // The line of a refusal.
+    // `refused`, a number and a place.
     #[tactic(auto, unfolding(crate::specs::Lines::refused_line))]
+    pub fn refused_as(&mut self, number: u8, place: usize)
+        ensures { Writes self.old self.new (refused_line number place) }
+    {
+        self.numbers(b"refused ", usize::from(number), b" ", place);
+    }
+
+    // The line of a refusal.
     pub fn refused(&mut self, why: Refusal)
         ensures { Writes self.old self.new (refused_line (number_of why.reason) why.place) }
     {
-        let number = usize::from(why.reason.number());
-        self.numbers(b"refused ", number, b" ", why.place);
+        self.refused_as(why.reason.number(), why.place);
     }
 }

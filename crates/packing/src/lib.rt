@@ -15,11 +15,18 @@ use diagram::{Diagram, Node};
 use events::Label;
 use labels::Values;
 
+// A number and a place, as every refusal is told.
+pub fn refused(number: u8, place: usize) -> u64
+    ensures { result ≡ number * 2 ^ 32 + place % 2 ^ 32 }
+{
+    u64::from(number) * 4294967296 + (place as u64) % 4294967296
+}
+
 // Every refusal is told so.
 pub fn refusal(why: Refusal) -> u64
     ensures { result ≡ number why.reason * 2 ^ 32 + why.place % 2 ^ 32 }
 {
-    u64::from(why.reason.number()) * 4294967296 + (why.place as u64) % 4294967296
+    refused(why.reason.number(), why.place)
 }
 
 // Values side by side, each cut to W bits, the last one lowest.

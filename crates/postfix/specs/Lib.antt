@@ -1,2 +1,3 @@
 pub mod Postfix
 pub mod Fold
+pub mod Numbers

@@ -1,6 +1,6 @@
 #![tactic(auto)]
 
-ghost use Rattle.std.specs.Prelude.{◌≡◌, ◌<◌, ◌≤◌, ℕ, [], map, take, length, get_or};
+ghost use Rattle.std.specs.Prelude.{◌≡◌, ◌<◌, ◌≤◌, ℕ, suc, [], eqb, map, take, length, get_or};
 ghost use Rattle.nodes.specs.Nodes.{form_of};
 ghost use Rattle.labels.specs.SearchNodes.{search_node};
 ghost use Rattle.labels.specs.Weights.{parts as parts_of, resets as resets_of, weight_by, weight as weight_of, weigh as weigh_nodes, with_weight};
@@ -20,7 +20,7 @@ const NONE: SearchNode = SearchNode {
 };
 
 // The events of the parts of a node, those of the nodes at the front that are one deeper than it.
-fn parts(depth: u16, rest: &[SearchNode]) -> usize
+fn parts(depth: usize, rest: &[SearchNode]) -> usize
     ensures value { result ≡ parts_of depth 0 rest.now }
     ensures upper_bound { result < 1024 }
 {
@@ -30,7 +30,7 @@ fn parts(depth: u16, rest: &[SearchNode]) -> usize
             return n;
         }
         if node.depth - depth == 1 {
-            n = (n + usize::from(node.weight) % 1024) % 1024;
+            n = (n + node.weight % 1024) % 1024;
         }
     }
     n
@@ -47,7 +47,7 @@ fn resets(rest: &[SearchNode]) -> bool
 }
 
 // How many events one copy of a node has, by its form and the nodes after it.
-fn weight(form: Form, depth: u16, rest: &[SearchNode]) -> usize
+fn weight(form: Form, depth: usize, rest: &[SearchNode]) -> usize
     ensures value { result ≡ weight_by form (parts_of depth 0 rest.now) (resets_of rest.now) }
     ensures upper_bound { result < 1024 }
 {
@@ -66,11 +66,12 @@ fn weighed(node: Node, rest: &[SearchNode]) -> SearchNode
     ensures { result ≡ with_weight (search_node node) (weight_of (search_node node) rest.now) }
 {
     let form = Form::from(node.kind);
+    let depth = usize::from(node.depth);
     SearchNode {
         form,
-        depth: node.depth,
-        place: node.name,
-        weight: weight(form, node.depth, rest) as u16,
+        depth,
+        place: usize::from(node.name),
+        weight: weight(form, depth, rest),
     }
 }
 
@@ -89,10 +90,9 @@ pub fn weigh(d: &Diagram) -> [SearchNode; 256]
 
 // Into a copy of a replicator's member, which has these events.
 #[tactic(auto, unfolding(labels::specs::Seeks::into_copy))]
-fn into_copy(depth: u16, inner: u16, s: Search) -> Search
+fn into_copy(depth: usize, inner: usize, s: Search) -> Search
     ensures { result ≡ into_copy_of depth inner s }
 {
-    let inner = usize::from(inner);
     if inner == 0 {
         return Search { above: depth, ..s };
     }
@@ -112,12 +112,12 @@ fn inside(r: SearchNode, q: SearchNode, s: Search) -> ControlFlow<Spot, Search>
     match r.form {
         Form::Leaf => ControlFlow::Break(Spot {
             reset: false,
-            place: usize::from(r.place),
+            place: r.place,
             values,
         }),
-        Form::Loop if usize::from(q.weight) <= s.rest => ControlFlow::Break(Spot {
+        Form::Loop if q.weight <= s.rest => ControlFlow::Break(Spot {
             reset: true,
-            place: usize::from(q.place),
+            place: q.place,
             values,
         }),
         Form::Loop | Form::Joined(_, None) => ControlFlow::Continue(Search {
@@ -128,17 +128,23 @@ fn inside(r: SearchNode, q: SearchNode, s: Search) -> ControlFlow<Spot, Search>
     }
 }
 
+// Whether a node at this depth is a part of the node searched in.
+fn is_part(depth: usize, above: usize) -> bool
+    ensures { result ≡ eqb depth (suc above) }
+{
+    above < depth && depth - above == 1
+}
+
 // One node further: node r, and q is the node after it.
 fn turn(r: SearchNode, q: SearchNode, s: Search) -> ControlFlow<Spot, Search>
     ensures { result ≡ turn_of r q s }
 {
-    if r.depth <= s.above || r.depth - s.above != 1 {
+    if !is_part(r.depth, s.above) {
         return ControlFlow::Continue(s);
     }
-    let weight = usize::from(r.weight);
-    if weight <= s.rest {
+    if r.weight <= s.rest {
         return ControlFlow::Continue(Search {
-            rest: s.rest - weight,
+            rest: s.rest - r.weight,
             ..s
         });
     }
@@ -155,10 +161,12 @@ pub fn seek(nodes: &[SearchNode], event: usize) -> Option<Spot>
         values: Values::none(),
     };
     for (i, r) in nodes.iter().enumerate() {
-        let q = base::at(nodes, i + 1, NONE);
-        match turn(*r, q, s) {
-            ControlFlow::Break(spot) => return Some(spot),
-            ControlFlow::Continue(further) => s = further,
+        if is_part(r.depth, s.above) {
+            let q = base::at(nodes, i + 1, NONE);
+            match turn(*r, q, s) {
+                ControlFlow::Break(spot) => return Some(spot),
+                ControlFlow::Continue(further) => s = further,
+            }
         }
     }
     None

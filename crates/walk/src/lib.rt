@@ -65,7 +65,8 @@ fn read_member(
     of_keyword(parser, p, keyword, depth - 1, rows)
 }
 
-// What follows the keyword of a node. Figure 5.2, constructor: and, or, xor over members; all, some, one with a par over a member; loop over a member.
+// Figure 5.2, constructor: and, or, xor over members; all, some, one with a par over a member; loop over a member. Leaf stands before it and flow after it, in the
+// order of the line child; of cons-child they are all.
 #[cycle(figure)]
 fn of_keyword(
     parser: &Parser,
@@ -77,7 +78,6 @@ fn of_keyword(
     ensures { Fills parser.now.lexer.text.now (parts (shown_key keyword) depth) p.nodes p.at rows.old result rows.new }
 {
     match keyword {
-        Keyword::Flow => flow(parser, p, depth, rows),
         Keyword::Leaf => parser.leaf(p, rows),
         Keyword::And | Keyword::Or | Keyword::Xor => group(parser, p, depth, rows),
         Keyword::All | Keyword::Some | Keyword::One => {
@@ -85,6 +85,7 @@ fn of_keyword(
             body(parser, p, depth, rows)
         }
         Keyword::Loop => body(parser, p, depth, rows),
+        Keyword::Flow => flow(parser, p, depth, rows),
     }
 }
 

@@ -2,6 +2,7 @@ pub mod Laws
 pub mod Rebuilt
 pub mod Located
 pub mod Deep
+pub mod Sized
 pub mod Filled
 pub mod Past
 pub mod Track

@@ -1,7 +1,7 @@
 -- The rows that tell the nodes of a text: what the walk leaves, and what the sweeps are asked of.
 use Rattle.std.specs.Prelude.{◌≡◌, Bool, true, false, cond, List, [], ◌∷◌, map, ℕ, zero, suc, ◌+◌, ◌≤◌, ◌<◌, length}
 use Rattle.diagram.specs.Tree.{Name}
-use Rattle.diagram.specs.TreeNodes.{TextNode, flowing, has_name}
+use Rattle.diagram.specs.TreeNodes.{TextNode, flowing, has_name, size_of}
 use Rattle.walked.specs.declared.Row.{Row}
 use Rattle.walked.specs.Walk.{row_at}
 use Rattle.tokens.specs.Words.{keywords, word_at}
@@ -53,6 +53,11 @@ Rowed text rows i (h ∷ hs) = Tells text rows i h × Rowed text rows (suc i) hs
 abbrev pub Nested : ℕ → List TextNode → Type 0
 Nested d [] = Unit {0}
 Nested d (h ∷ hs) = (0 < h.depth) × (h.depth ≤ suc d) × (h.depth ≤ 12) × Nested h.depth hs
+
+-- No size is over 16.
+abbrev pub Sized : List TextNode → Type 0
+Sized [] = Unit {0}
+Sized (h ∷ hs) = (size_of h.kind ≤ 16) × Sized hs
 
 -- The other way: the nodes that rows tell. The pars of a flow are the names after its own, each after a comma.
 abbrev pub one_more : Token → List Name → List Name

@@ -1,18 +1,25 @@
--- What was copied, and after it what stood there, is the buffer with its front written over.
-use Rattle.std.proofs.Common.{◌≡◌, ap, ◌∙◌, ℕ, suc, ◌-◌, List, [], ◌∷◌, ◌++◌, length, take, drop, arith}
-use Rattle.std.specs.Prelude.{min}
+-- The first bytes are copied, as far as there is room.
+use mathlib.Core.Path.{◌≡◌, sym, ap, ◌∙◌}
+use native.Mathlib.Numerals.{add-one}
+use lib.ListN.{get_or, set, take}
+use lib.Seq.{take_all}
 use Rattle.base.specs.Fill.{fill}
+use Rattle.base.proofs.Filled.{fill_none, fill_more}
 use Rattle.harness.proofs.copy.Goals as goal
 
-front_over : (xs vs : List ℕ) (n : ℕ) → n ≡ min (length vs) (length xs) → take n vs ++ drop n xs ≡ fill xs vs
-unfolding fill
-front_over [] vs n e = let z : n ≡ 0 = omega arith in rw z
-front_over (x ∷ xs) [] n e = let z : n ≡ 0 = omega arith in rw z
-front_over (x ∷ xs) (v ∷ vs) n e =
-    let z : n ≡ suc (n - 1) = omega arith in
-    rw z (ap (λ (l : List ℕ). v ∷ l) (front_over xs vs (n - 1) (omega arith)))
+pub loop-i-init : goal.loop-i-init
+loop-i-init c = sym (fill_none c.args.out.now)
+
+pub loop-i-preserved : goal.loop-i-preserved
+loop-i-preserved c =
+    let l = c.loop-i in
+    let bytes = c.args.bytes.now in
+    let out = c.args.out.now in
+    c.put.ensures
+    ∙ (ap (λ o. set o l.i (get_or bytes l.i 0)) l.invariant
+    ∙ (fill_more out bytes l.i c.loop-i-test.true ∙ ap (λ k. fill out (take k bytes)) (sym (add-one l.i))))
 
 pub returns-clause-out_after : goal.returns-clause-out_after
 returns-clause-out_after c =
-    let out = c.args.out.now in
-    ap (λ (l : List ℕ). l ++ drop c.min-n.result out) c.copy_from_slice.ensures.after ∙ front_over out c.args.bytes.now c.min-n.result c.min-n.ensures
+    let l = c.loop-i in
+    l.invariant ∙ ap (fill c.args.out.now) (take_all l.i c.args.bytes.now c.loop-i-test.false)

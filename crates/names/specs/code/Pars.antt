@@ -1,6 +1,7 @@
 -- The pars of the replicators around a node, by the numbers of these, outermost first.
-use Rattle.std.specs.Prelude.{◌≡◌, List, [], ◌∷◌, ℕ, zero, suc, ◌+◌, ◌≤◌, ◌<◌, length, get_or, drop, Option, MatchOption}
+use Rattle.std.specs.Prelude.{◌≡◌, cond, List, [], ◌∷◌, ℕ, zero, suc, ◌+◌, ◌≤◌, ◌<◌, length, get_or, drop, Option, Some, None, MatchOption}
 use Rattle.diagram.specs.Tree.{Name}
+use Rattle.diagram.specs.Names.{same}
 use Rattle.tokens.specs.Classes.{class_of}
 use Rattle.tokens.specs.Remarks.{blanks}
 use Rattle.tokens.specs.Words.{word_at}
@@ -23,6 +24,14 @@ pars_at text rows pars (suc n) = word_at text (par_start rows pars n) ∷ pars_a
 pub record Around (text : List ℕ) (rows : List Row) (pars : List ℕ) (n : ℕ) (names : List Name) : Type 0 where
   pub is : names ≡ pars_at text rows pars n
   pub ended : (k : ℕ) → k < n → (par_end rows pars k ≡ past_word text (par_start rows pars k)) × (par_end rows pars k ≤ length text)
+
+-- The end of the word that starts at a, if it is the one that starts at b.
+abbrev pub again : List ℕ → ℕ → ℕ → Option ℕ
+again text a b = cond (same (word_at text a) (word_at text b)) (Some (past_word text a)) None
+
+-- That, where the one that starts at b is the name of a row which has its end.
+abbrev pub Again : List ℕ → Row → ℕ → Option ℕ → Type 0
+Again text r at v = r.past ≡ past_word text r.node.name → r.past ≤ length text → v ≡ again text at r.node.name
 
 -- Where the comma is to stand that comes next, and what comes after it.
 abbrev pub comma_at : List ℕ → ℕ → ℕ

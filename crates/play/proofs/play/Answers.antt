@@ -10,11 +10,11 @@ long = length-replicate {A = ℕ} 32768 0
 pub slice_bounds-listing-end : goal.slice_bounds-listing-end
 slice_bounds-listing-end g c = (list_room _ (replicate 32768 0) c.list-count.result _ c.list-count.ensures long).0
 
+pub slice_bounds-run-end : goal.slice_bounds-run-end
+slice_bounds-run-end g c = (list_room _ (replicate 32768 0) c.list-count.result _ c.list-count.ensures long).1
+
+pub slice_bounds-listing-end-in-Err : goal.slice_bounds-listing-end-in-Err
+slice_bounds-listing-end-in-Err g c = (list_room _ (replicate 32768 0) c.list-count.result _ c.list-count.ensures long).0
+
 pub slice_bounds-write_there-end : goal.slice_bounds-write_there-end
 slice_bounds-write_there-end g c = (list_room _ (replicate 32768 0) c.list-count.result _ c.list-count.ensures long).1
-
-pub slice_bounds-listing-end-2 : goal.slice_bounds-listing-end-2
-slice_bounds-listing-end-2 g c = (list_room _ (replicate 32768 0) c.list-count.result _ c.list-count.ensures long).0
-
-pub slice_bounds-game-end : goal.slice_bounds-game-end
-slice_bounds-game-end g c = (list_room _ (replicate 32768 0) c.list-count.result _ c.list-count.ensures long).1

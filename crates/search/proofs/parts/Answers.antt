@@ -1,5 +1,5 @@
 -- `search::parts` meets its contract, by the depth of a node. Assumes nothing.
-use Rattle.std.proofs.Common.{sym, ◌∙◌, arith}
+use Rattle.std.proofs.Common.{refl, sym, ◌∙◌, arith}
 use Rattle.search.proofs.Searched.{parts_stop, parts_done, parts_add, parts_skip}
 use Rattle.search.proofs.parts.Goals as goal
 use Rattle.search.proofs.parts.Goals.{then-node-depth-eq1, else-node-depth-eq1}
@@ -16,7 +16,7 @@ loop-node-preserved c =
     elim c.if-node-depth-eq1.branch [
       | then-node-depth-eq1 w ↦ (
         rw w.n-is (omega arith),
-        rw w.n-is (parts_add c.args.depth l.n l.node-index rs _ c.loop-node-test.true _ c.if-node-depth.false w.if-node-depth-eq1.true w.from.ensures ∙ l.invariant.1),
+        rw w.n-is (parts_add c.args.depth l.n l.node-index rs _ c.loop-node-test.true _ c.if-node-depth.false w.if-node-depth-eq1.true refl ∙ l.invariant.1),
       )
       | else-node-depth-eq1 w ↦ (
         rw w.n-is l.invariant.0,
