@@ -1,30 +1,22 @@
--- The place of a word among the keywords, found by comparing slices. Assumes nothing.
-use Rattle.std.proofs.Common.{◌≡◌, ℕ, suc, ◌+◌, ◌<◌, Bool, not, Option, List, [], ◌∷◌, map, length, position, Some, None, cond, eqb, ltb, refl, ap, ◌∙◌, arith, tests}
-use Rattle.std.specs.Cmp.Lexicographic.{pointwise}
+-- The place of a word among the keywords, found by comparing words. Assumes nothing.
+use Rattle.std.proofs.Common.{◌≡◌, ℕ, suc, ◌+◌, ◌<◌, not, Option, List, [], ◌∷◌, map, length, position, Some, None, cond, ltb, refl, ap, ◌∙◌, arith, tests}
 use Rattle.std.specs.List.{position_or_len}
-use Rattle.std.proofs.lemmas.Bool.Decides.{same_from_decides}
-use Rattle.std.proofs.lemmas.Slice.Eq.{bytes_eq-Decides}
-use Rattle.base.proofs.Decided.{same_decides}
 use Rattle.base.proofs.Truth.{by_cases}
 use Rattle.diagram.specs.Tree.{Name}
 use Rattle.diagram.specs.Names.{same}
 use Rattle.tokens.specs.Words.{place_in}
 
--- Slices are compared as names are.
-pub pointwise_same : (v w : Name) → pointwise eqb v w ≡ same v w
-pointwise_same v w = same_from_decides (pointwise eqb v w) (same v w) (bytes_eq-Decides v w) (same_decides v w)
+-- The place of the first that is a word, by what each is.
+module _ {A : Type 0} (f : A → Name) (w : Name) where
+  first_same : (xs : List A)
+      → (position_or_len (λ x. same w (f x)) xs ≡ position_or_len (same w) (map f xs)) × (length xs ≡ length (map f xs))
+  first_same [] = (refl, refl)
+  first_same (x ∷ xs) =
+      let h = first_same xs in
+      (ap (λ (n : ℕ). cond (not (same w (f x))) (1 + n) 0) h.0, ap suc h.1)
 
--- The place of the first that passes, by what each is.
-first_same : {A : Type 0} (f : A → Name) (t : A → Bool) (w : Name) → ((x : A) → t x ≡ same w (f x)) → (xs : List A)
-    → (position_or_len t xs ≡ position_or_len (same w) (map f xs)) × (length xs ≡ length (map f xs))
-first_same f t w e [] = (refl, refl)
-first_same f t w e (x ∷ xs) =
-    let h = first_same f t w e xs in
-    (rw (e x) (ap (λ (n : ℕ). cond (not (same w (f x))) (1 + n) 0) h.0), ap suc h.1)
-
-pub first_alike : {A : Type 0} (f : A → Name) (t : A → Bool) (w : Name) → ((x : A) → t x ≡ same w (f x)) → {r xs : List A} → r ≡ xs → (ns : List Name) → map f xs ≡ ns
-    → position t xs ≡ position (same w) ns
-first_alike f t w e {xs = xs} s ns q = let h = first_same f t w e xs in rw (← q, h.0, h.1) refl
+  pub first_alike : {r xs : List A} → r ≡ xs → (ns : List Name) → map f xs ≡ ns → position (λ x. same w (f x)) xs ≡ position (same w) ns
+  first_alike {xs = xs} s ns q = let h = first_same xs in rw (← q, h.0, h.1) refl
 
 module _ (w : Name) where
   abbrev place : List Name → ℕ

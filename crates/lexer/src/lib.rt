@@ -176,11 +176,26 @@ const KEYWORDS: [&[u8]; 9] = [
     b"flow", b"leaf", b"and", b"or", b"xor", b"all", b"some", b"one", b"loop",
 ];
 
+// Whether two words are the same, byte by byte: for some keywords `==` on slices is a call, for which the reading of every token would put registers aside.
+fn equal(v: &[u8], w: &[u8]) -> bool
+    ensures { result ≡ alike v.now w.now }
+{
+    if v.len() != w.len() {
+        return false;
+    }
+    for i in 0..w.len() {
+        if v[i] != w[i] {
+            return false;
+        }
+    }
+    true
+}
+
 // The place of a word among the keywords.
 fn place(word: &[u8]) -> Option<usize>
     ensures { result ≡ position (alike word.now) keywords }
 {
-    KEYWORDS.iter().position(|k| word == *k)
+    KEYWORDS.iter().position(|k| equal(word, k))
 }
 
 // The keyword that a word is.
@@ -258,17 +273,17 @@ fn letter(text: &[u8], at: usize) -> u8
     if worded(b) { b } else { 0 }
 }
 
-// Whether the words that start at two places are the same, byte by byte up to the first that differs: most names differ early, and none is looked at whole.
+// Whether the words that start at two places are the same, byte by byte up to the first that differs or stands in no word.
 pub fn same(text: &[u8], a: usize, b: usize) -> bool
     ensures { result ≡ alike (word_at text.now a) (word_at text.now b) }
 {
     let mut q = b;
     for p in a..text.len() {
-        let x = letter(text, p);
-        if x != letter(text, q) {
-            return false;
+        let x = text[p];
+        if x != base::at(text, q, 0) {
+            return letter(text, p) == letter(text, q);
         }
-        if x == 0 {
+        if !worded(x) {
             return true;
         }
         q += 1;

@@ -2,10 +2,11 @@
 use mathlib.Core.Path.{◌≡◌, refl, sym, ap, ◌∙◌}
 use mathlib.Core.Bool.{Bool, true, false, cond, false≢true}
 use mathlib.Core.List.{List, []}
-use Prim.Native.Nat.{ℕ, ◌+◌, ◌-◌, ◌≤◌, ◌<◌}
+use Prim.Native.Nat.{ℕ, zero, suc, ◌+◌, ◌-◌, ◌≤◌, ◌<◌}
 use native.Mathlib.Nat.{add-zero}
 use native.Mathlib.Omega.{arith}
-use lib.ListN.{length, get_or, drop}
+use lib.ListN.{length, get_or, take, drop}
+use lib.Seq.{get_or-take, get_or-drop}
 use Rattle.base.proofs.Decided.{same_decides}
 use Rattle.base.proofs.Truth.{and_l, is_false}
 use Rattle.diagram.specs.Tree.{Name}
@@ -18,14 +19,7 @@ use Rattle.walked.specs.Rows.{past_word}
 use Rattle.std.specs.Prelude.{Option, Some, None}
 use Rattle.std.proofs.lemmas.Option.{none-some, same_Some}
 use Rattle.names.specs.code.Pars.{again}
-use Rattle.names.proofs.Marked.{empty, word_byte, word_ends}
-
-module _ (text : List ℕ) (a b : ℕ) where
-  others : (word_at text a ≡ word_at text b → ⊥) → ◌≡◌ {A = Option ℕ} None (again text a b)
-  others f = rw (is_false (same (word_at text a) (word_at text b)) (λ e. f ((same_decides (word_at text a) (word_at text b)).0 e)))
-
-  pub too_long : {end : ℕ} → end ≡ past_word text b → a ≤ length text → length text - a < end - b → ◌≡◌ {A = Option ℕ} None (again text a b)
-  too_long e h l = others (λ q. omega (arith, ap length q, word_ends text a h))
+use Rattle.names.proofs.Marked.{empty, word_byte}
 
 -- Up to p and q they are the same.
 pub record Agreed (text : List ℕ) (a b p q : ℕ) : Type 0 where
@@ -50,13 +44,6 @@ module _ {text : List ℕ} {a b p q end : ℕ} (s : Agreed text a b p q) (E : en
 
     first : y ≡ get_or (word_at text q) 0 0
     first = Y ∙ ap (λ (k : ℕ). get_or text k 0) (sym (add-zero q)) ∙ word_byte text q 0 some
-
-    pub agreed_other : (x ≡ y → ⊥) → ◌≡◌ {A = Option ℕ} None (again text a b)
-    agreed_other n =
-        from_here
-        (is_false (same (word_at text p) (word_at text q)) (λ e.
-        let w = (same_decides (word_at text p) (word_at text q)).0 e in
-        n (X ∙ ap (λ (k : ℕ). get_or text k 0) (sym (add-zero p)) ∙ word_byte text p 0 (rw w some) ∙ ap (λ (v : Name). get_or v 0 0) w ∙ sym first)))
 
     pub agreed_next : x ≡ y → Agreed text a b (p + 1) (q + 1)
     agreed_next e =
@@ -88,6 +75,31 @@ module _ {text : List ℕ} {a b p q end : ℕ} (s : Agreed text a b p q) (E : en
         (is_false (same (word_at text p) (word_at text q)) (λ d.
         let w = (same_decides (word_at text p) (word_at text q)).0 d ∙ ended in
         zero_unworded (rw (letter_some text p X e ∙ ap (λ (v : Name). get_or v 0 0) w) at e)))
+
+-- As many bytes as the one word has, cut from where each starts: where they are the same, the two agree up to there.
+module _ (text : List ℕ) (a b n : ℕ) {end : ℕ} (E : end ≡ past_word text b) (N : n ≡ end - b) where
+  its_length : n ≡ length (word_at text b)
+  its_length = omega arith
+
+  cut_byte : (c k : ℕ) → k < n → get_or (take n (drop c text)) k 0 ≡ get_or text (c + k) 0
+  cut_byte c k h = get_or-take n (drop c text) k 0 h ∙ get_or-drop c text k 0
+
+  module _ (s : take n (drop a text) ≡ take n (drop b text)) where
+    cut_agrees : (k : ℕ) → k ≤ n → Agreed text a b (a + k) (b + k)
+    cut_agrees zero h = rw (add-zero a, add-zero b) (agreed_start text a b)
+    cut_agrees (suc k) h =
+        let l : k < n = omega arith in
+        let e = sym (cut_byte a k l) ∙ (ap (λ (v : List ℕ). get_or v k 0) s ∙ cut_byte b k l) in
+        let i : a + suc k ≡ a + k + 1 = omega arith in
+        let j : b + suc k ≡ b + k + 1 = omega arith in
+        rw (i, j) (agreed_next (cut_agrees k (omega arith)) E (omega (arith, its_length)) refl refl e)
+
+    module _ {x : ℕ} (X : x ≡ get_or text (a + n) 0) where
+      pub cut_end : worded x ≡ false → ◌≡◌ {A = Option ℕ} (Some (a + n)) (again text a b)
+      cut_end f = agreed_end (cut_agrees n (omega arith)) E (omega arith) X f
+
+      pub cut_longer : worded x ≡ true → ◌≡◌ {A = Option ℕ} None (again text a b)
+      cut_longer t = agreed_longer (cut_agrees n (omega arith)) E (omega arith) X t
 
 -- What the answer tells of the words.
 pub again_none : (text : List ℕ) (a b : ℕ) → ◌≡◌ {A = Option ℕ} None (again text a b) → same (word_at text a) (word_at text b) ≡ false

@@ -110,7 +110,7 @@ impl<'a> Nodes<'a> {
         }
     }
 
-    // The end of the word that starts at `at`, if it is the par of the node k: byte by byte, up to the par's end, which its row has.
+    // The end of the word that starts at `at`, if it is the par of the node k: the bytes of that par, whose end its row has, and then no byte of a word.
     fn par_again(&self, at: usize, k: usize) -> Option<usize>
         requires { at ≤ length self.now.lexer.now.text.now }
         ensures { Again self.now.lexer.now.text.now (row_of self.now.rows.now k) at result }
@@ -122,21 +122,16 @@ impl<'a> Nodes<'a> {
         if text.len() < end || end < start || text.len() - at < end - start {
             return None;
         }
-        let mut p = at;
-        for q in start..end {
-            if text[p] != text[q] {
-                return None;
-            }
-            p += 1;
+        let past = at + (end - start);
+        if text[at..past] != text[start..end] {
+            return None;
         }
-        let class = self.lexer.class(base::at(text, p, 0));
-        if class < lexer::LETTER {
-            return Some(p);
+        let class = self.lexer.class(base::at(text, past, 0));
+        if class < lexer::LETTER || lexer::UNDERSCORE < class {
+            Some(past)
+        } else {
+            None
         }
-        if lexer::UNDERSCORE < class {
-            return Some(p);
-        }
-        None
     }
 
     // Whether the flow whose name ends at `past` lists the pars around, outermost first.

@@ -66,8 +66,9 @@ fn read_member(
 }
 
 // Figure 5.2, constructor: and, or, xor over members; all, some, one with a par over a member; loop over a member. Leaf stands before it and flow after it, in the
-// order of the line child; of cons-child they are all.
+// order of the line child; of cons-child they are all. It is made part of who calls it, so that its answer is not copied on the way.
 #[cycle(figure)]
+#[inline(always)]
 fn of_keyword(
     parser: &Parser,
     p: Position,

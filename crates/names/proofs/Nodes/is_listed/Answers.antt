@@ -1,10 +1,9 @@
 -- The pars read are the first of those around.
-use Rattle.std.proofs.Common.{◌≡◌, ℕ, ◌≤◌, Bool, not, List, eqb, length, get_or, refl, sym, ap, ◌∙◌, arith, rules}
+use Rattle.std.proofs.Common.{◌≡◌, ℕ, ◌≤◌, List, length, get_or, refl, sym, ◌∙◌, arith}
 use borrow.Author.Tests.{ne_eqb}
 use Rattle.std.proofs.Common.{⊎_elim}
 use Rattle.std.proofs.lemmas.Bool.{cases_lt}
 use Rattle.std.proofs.lemmas.List.{get_or_past}
-use Rattle.diagram.specs.Tree.{Name}
 use Rattle.tokens.specs.Classes.{class_of}
 use Rattle.names.specs.code.Pars.{par_start}
 use Rattle.names.proofs.Agreed.{again_none, again_some}
