@@ -1,25 +1,24 @@
 -- Two words of a text, one of which ends at a known place, byte by byte. Assumes nothing.
 use mathlib.Core.Path.{◌≡◌, refl, sym, ap, ◌∙◌}
-use mathlib.Core.Bool.{Bool, true, false, cond, false≢true}
+use mathlib.Core.Bool.{Bool, true, false, cond}
 use mathlib.Core.List.{List, []}
 use Prim.Native.Nat.{ℕ, zero, suc, ◌+◌, ◌-◌, ◌≤◌, ◌<◌}
 use native.Mathlib.Nat.{add-zero}
 use native.Mathlib.Omega.{arith}
 use lib.ListN.{length, get_or, take, drop}
-use lib.Seq.{get_or-take, get_or-drop}
 use Rattle.base.proofs.Decided.{same_decides}
 use Rattle.base.proofs.Truth.{and_l, is_false}
 use Rattle.diagram.specs.Tree.{Name}
 use Rattle.diagram.specs.Names.{same}
-use Rattle.tokens.specs.Classes.{class_of, worded}
+use Rattle.tokens.specs.Classes.{worded}
 use Rattle.tokens.specs.Words.{word_at, every}
 use Rattle.tokens.proofs.Front.{front_every}
-use Rattle.tokens.proofs.WordAt.{letter_none, letter_some, zero_none, some_on, words_on}
+use Rattle.tokens.proofs.WordAt.{zero_no_word, letter_none, letter_some, zero_none, some_on, words_on}
 use Rattle.walked.specs.Rows.{past_word}
 use Rattle.std.specs.Prelude.{Option, Some, None}
 use Rattle.std.proofs.lemmas.Option.{none-some, same_Some}
 use Rattle.names.specs.code.Pars.{again}
-use Rattle.names.proofs.Marked.{empty, word_byte}
+use Rattle.names.proofs.Marked.{empty, cut_byte, word_byte}
 
 -- Up to p and q they are the same.
 pub record Agreed (text : List ℕ) (a b p q : ℕ) : Type 0 where
@@ -29,10 +28,6 @@ pub record Agreed (text : List ℕ) (a b p q : ℕ) : Type 0 where
 
 pub agreed_start : (text : List ℕ) (a b : ℕ) → Agreed text a b a b
 agreed_start text a b = record { decides = refl; left = refl; right = refl }
-
-zero_unworded : worded 0 ≡ true → ⊥
-unfolding class_of
-zero_unworded e = false≢true e
 
 module _ {text : List ℕ} {a b p q end : ℕ} (s : Agreed text a b p q) (E : end ≡ past_word text b) where
   from_here : same (word_at text p) (word_at text q) ≡ false → ◌≡◌ {A = Option ℕ} None (again text a b)
@@ -74,22 +69,19 @@ module _ {text : List ℕ} {a b p q end : ℕ} (s : Agreed text a b p q) (E : en
         from_here
         (is_false (same (word_at text p) (word_at text q)) (λ d.
         let w = (same_decides (word_at text p) (word_at text q)).0 d ∙ ended in
-        zero_unworded (rw (letter_some text p X e ∙ ap (λ (v : Name). get_or v 0 0) w) at e)))
+        zero_no_word (rw (letter_some text p X e ∙ ap (λ (v : Name). get_or v 0 0) w) at e)))
 
 -- As many bytes as the one word has, cut from where each starts: where they are the same, the two agree up to there.
 module _ (text : List ℕ) (a b n : ℕ) {end : ℕ} (E : end ≡ past_word text b) (N : n ≡ end - b) where
   its_length : n ≡ length (word_at text b)
   its_length = omega arith
 
-  cut_byte : (c k : ℕ) → k < n → get_or (take n (drop c text)) k 0 ≡ get_or text (c + k) 0
-  cut_byte c k h = get_or-take n (drop c text) k 0 h ∙ get_or-drop c text k 0
-
   module _ (s : take n (drop a text) ≡ take n (drop b text)) where
     cut_agrees : (k : ℕ) → k ≤ n → Agreed text a b (a + k) (b + k)
     cut_agrees zero h = rw (add-zero a, add-zero b) (agreed_start text a b)
     cut_agrees (suc k) h =
         let l : k < n = omega arith in
-        let e = sym (cut_byte a k l) ∙ (ap (λ (v : List ℕ). get_or v k 0) s ∙ cut_byte b k l) in
+        let e = sym (cut_byte text a n k l) ∙ (ap (λ (v : List ℕ). get_or v k 0) s ∙ cut_byte text b n k l) in
         let i : a + suc k ≡ a + k + 1 = omega arith in
         let j : b + suc k ≡ b + k + 1 = omega arith in
         rw (i, j) (agreed_next (cut_agrees k (omega arith)) E (omega (arith, its_length)) refl refl e)

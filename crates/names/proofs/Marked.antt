@@ -5,7 +5,7 @@ use Prim.Native.Nat.{ℕ, ◌+◌, ◌-◌, ◌*◌, ◌/◌, ◌%◌, ◌≤◌
 use native.Mathlib.Nat.{add-zero}
 use native.Mathlib.Omega.{arith}
 use lib.Dec.{leb}
-use lib.ListN.{length, get_or, drop, length-drop}
+use lib.ListN.{length, get_or, take, drop, length-drop}
 use lib.Seq.{get_or-take, get_or-drop, length-take-le}
 use borrow.Author.Tests.{leb-true, leb-false}
 use Rattle.base.proofs.Truth.{by_cases}
@@ -29,8 +29,12 @@ module _ (text : List ℕ) (at : ℕ) where
   word_length : length (word_at text at) ≡ front worded (drop at text)
   word_length = length-take-le (front worded (drop at text)) (drop at text) (front_le worded (drop at text))
 
+  -- A byte of as many as are cut out from here on.
+  pub cut_byte : (n j : ℕ) → j < n → get_or (take n (drop at text)) j 0 ≡ get_or text (at + j) 0
+  cut_byte n j h = get_or-take n (drop at text) j 0 h ∙ get_or-drop at text j 0
+
   pub word_byte : (j : ℕ) → j < length (word_at text at) → get_or text (at + j) 0 ≡ get_or (word_at text at) j 0
-  word_byte j h = sym (get_or-take (front worded (drop at text)) (drop at text) j 0 (rw word_length at h) ∙ get_or-drop at text j 0)
+  word_byte j h = sym (cut_byte (front worded (drop at text)) j (rw word_length at h))
 
   pub word_ends : at ≤ length text → past_word text at ≤ length text
   word_ends h = omega (arith, word_length, front_le worded (drop at text), length-drop at text)

@@ -31,7 +31,8 @@ run_none : (b : ℕ) (bs : List ℕ) → worded b ≡ false → run_of (b ∷ bs
 unfolding front
 run_none b bs e = rw e
 
-zero_no_word : worded 0 ≡ true → ⊥
+-- The byte 0 stands in no word.
+pub zero_no_word : worded 0 ≡ true → ⊥
 unfolding class_of
 zero_no_word e = false≢true e
 
